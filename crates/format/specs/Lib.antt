@@ -1,0 +1,15 @@
+pub mod Bytes
+pub mod Texts
+pub mod Numbers
+pub mod Dates
+pub mod Quality
+pub mod Cut
+pub mod Records
+pub mod Answers
+pub mod Order
+pub mod Faults
+pub mod File
+pub mod Day
+pub mod Total
+pub mod Block
+pub mod Settled

@@ -1,0 +1,169 @@
+-- 01, Records, the table: for each kind of record its fields in their order, and with them how many they are; and what 01 reads off single fields.
+use Prim.Native.Nat.{ℕ, suc, _+_}
+use mathlib.Core.List.{List, [], _∷_, _++_, map}
+use mathlib.Core.Bool.{Bool, true, cond, not, _||_}
+use lib.ListN.{length, getD, take, drop, replicate}
+use lib.Dec.{eqb}
+use Rattle.format.specs.Texts.{isNmi, isSuffix, isStream, isParty, isConfiguration, isRegister, isSerial, isUnit, isServiceOrder, isDescription, isDirection, isTransCode, versionOf}
+use Rattle.format.specs.Numbers.{isNumber, numberIn, that, numberOf, intervalOf, lengthOf, intervalsOf, reasonOf, decimals, valueOf, isRead, isIndexRead}
+use Rattle.format.specs.Dates.{dateOf, timeOf, createdOf, nextReadOf, loadOf, readTimeOf}
+use Rattle.format.specs.Quality.{qualityOf, isGraded, flagIn, methodIn, across, Mark}
+use Rattle.format.specs.Cut.{field}
+use Rattle.format.specs.declared.Number.{Number}
+use Rattle.format.specs.declared.Rule.{Rule}
+use Rattle.format.specs.declared.Rule.the-variants.{Indicator, Version, Created, Party, Nmi, Configuration, Register, Suffix, Stream, Serial, Unit, Length, NextRead, Date, Value, Quality, Reason, Description, Time, Load, Interval, TransCode, ServiceOrder, ReadTime, IndexRead, Direction, RegisterRead}
+
+-- ---- kinds
+
+unfoldable pub isKind : ℕ → Bool
+isKind k = eqb k 100 || eqb k 200 || eqb k 300 || eqb k 400 || eqb k 500 || eqb k 250 || eqb k 550 || eqb k 900
+
+-- the indicator that a field is
+unfoldable pub indicatorOf : List ℕ → Number
+indicatorOf s = that isKind (numberOf 3 3 s)
+
+-- the kind that the first field says, 0 where it is no indicator
+unfoldable pub kindIn : List (List ℕ) → ℕ
+kindIn fs = numberIn (indicatorOf (field 0 fs))
+
+-- ---- the table
+
+abbrev pub row100 : List Rule
+row100 = Indicator ∷ Version ∷ Created ∷ Party ∷ Party ∷ []
+
+abbrev pub row200 : List Rule
+row200 = Indicator ∷ Nmi ∷ Configuration ∷ Register ∷ Suffix ∷ Stream ∷ Serial ∷ Unit ∷ Length ∷ NextRead ∷ []
+
+abbrev pub row300 : ℕ → List Rule
+row300 n = Indicator ∷ Date ∷ (replicate n Value ++ (Quality ∷ Reason ∷ Description ∷ Time ∷ Load ∷ []))
+
+abbrev pub row400 : List Rule
+row400 = Indicator ∷ Interval ∷ Interval ∷ Quality ∷ Reason ∷ Description ∷ []
+
+abbrev pub row500 : List Rule
+row500 = Indicator ∷ TransCode ∷ ServiceOrder ∷ ReadTime ∷ IndexRead ∷ []
+
+-- read, time, quality, reason, description
+abbrev pub reading : List Rule
+reading = RegisterRead ∷ Time ∷ Quality ∷ Reason ∷ Description ∷ []
+
+abbrev pub row250 : List Rule
+row250 =
+    Indicator ∷ Nmi ∷ Configuration ∷ Register ∷ Suffix ∷ Stream ∷ Serial ∷ Direction
+    ∷ (reading ++ (reading ++ (Value ∷ Unit ∷ NextRead ∷ Time ∷ Load ∷ [])))
+
+abbrev pub row550 : List Rule
+row550 = Indicator ∷ TransCode ∷ ServiceOrder ∷ TransCode ∷ ServiceOrder ∷ []
+
+abbrev pub row900 : List Rule
+row900 = Indicator ∷ []
+
+-- the fields of a record of the kind k; n is the number of intervals of a 300
+unfoldable pub rowOf : ℕ → ℕ → List Rule
+rowOf k n =
+    cond (eqb k 100) row100
+    (cond (eqb k 200) row200
+    (cond (eqb k 300) (row300 n)
+    (cond (eqb k 400) row400
+    (cond (eqb k 500) row500
+    (cond (eqb k 250) row250
+    (cond (eqb k 550) row550 row900))))))
+
+unfoldable pub countOf : ℕ → ℕ → ℕ
+countOf k n = length (rowOf k n)
+
+-- the rule of the field of a number from 0
+unfoldable pub ruleOf : ℕ → ℕ → ℕ → Rule
+ruleOf k n i = getD (rowOf k n) i Indicator
+
+-- a field of a record of the kind k meets its rule
+unfoldable pub obeys : ℕ → Rule → List ℕ → Bool
+obeys k Indicator s = true
+obeys k Version s = isNumber (versionOf s)
+obeys k Created s = isNumber (createdOf s)
+obeys k Party s = isParty s
+obeys k Nmi s = isNmi s
+obeys k Configuration s = isConfiguration s
+obeys k Register s = isRegister s
+obeys k Suffix s = isSuffix s
+obeys k Stream s = isStream s
+obeys k Serial s = isSerial s
+obeys k Unit s = isUnit s
+obeys k Length s = isNumber (lengthOf s)
+obeys k NextRead s = isNumber (nextReadOf s)
+obeys k Date s = isNumber (dateOf s)
+obeys k Value s = isNumber (valueOf decimals s)
+obeys k Quality s = isGraded (qualityOf k s)
+obeys k Reason s = isNumber (reasonOf s)
+obeys k Description s = isDescription s
+obeys k Time s = isNumber (timeOf s)
+obeys k Load s = isNumber (loadOf s)
+obeys k Interval s = isNumber (intervalOf s)
+obeys k TransCode s = isTransCode s
+obeys k ServiceOrder s = isServiceOrder s
+obeys k ReadTime s = isNumber (readTimeOf s)
+obeys k IndexRead s = isIndexRead s
+obeys k Direction s = isDirection s
+obeys k RegisterRead s = isRead s
+
+-- ---- what single fields say, by the field's number from 0
+
+-- a 100's version
+unfoldable pub versionIn : List (List ℕ) → ℕ
+versionIn fs = numberIn (versionOf (field 1 fs))
+
+-- a 200's n
+unfoldable pub intervalsIn : List (List ℕ) → ℕ
+intervalsIn fs = intervalsOf (numberIn (lengthOf (field 8 fs)))
+
+-- a 300's date and values
+unfoldable pub dateIn : List (List ℕ) → ℕ
+dateIn fs = numberIn (dateOf (field 1 fs))
+
+unfoldable pub millionths : List ℕ → ℕ
+millionths s = numberIn (valueOf decimals s)
+
+unfoldable pub valuesIn : ℕ → List (List ℕ) → List ℕ
+valuesIn n fs = map millionths (take n (drop 2 fs))
+
+-- a 400's first and last interval
+unfoldable pub firstIn : List (List ℕ) → ℕ
+firstIn fs = numberIn (intervalOf (field 1 fs))
+
+unfoldable pub lastIn : List (List ℕ) → ℕ
+lastIn fs = numberIn (intervalOf (field 2 fs))
+
+-- a 500's read time, 0 if it has none
+unfoldable pub readTimeIn : List (List ℕ) → ℕ
+readTimeIn fs = numberIn (readTimeOf (field 3 fs))
+
+-- a 250's quantity
+unfoldable pub quantityIn : List (List ℕ) → ℕ
+quantityIn fs = millionths (field 18 fs)
+
+-- the numbers from 0 of the quality fields; a reason and a description stand behind each
+unfoldable pub qualitiesOf : ℕ → ℕ → List ℕ
+qualitiesOf k n = cond (eqb k 300) ((n + 2) ∷ []) (cond (eqb k 400) (3 ∷ []) (cond (eqb k 250) (10 ∷ 15 ∷ []) []))
+
+-- quality, reason and description of a record of the kind k, where the quality is field i
+unfoldable pub markAt : ℕ → ℕ → List (List ℕ) → Mark
+markAt k i fs =
+    record {
+      flag = flagIn (qualityOf k (field i fs));
+      method = methodIn (qualityOf k (field i fs));
+      reason = numberIn (reasonOf (field (i + 1) fs));
+      text = field (i + 2) fs;
+    }
+
+-- the mark of a 400
+abbrev pub markIn : List (List ℕ) → Mark
+markIn fs = markAt 400 3 fs
+
+-- a mark keeps the rules across fields
+unfoldable pub agrees : Mark → Bool
+agrees m = across (m .flag) (m .reason) (length (m .text))
+
+-- of the quality fields with the numbers from 0 that are listed, the number from 1 of the first that breaks a rule across fields, 0 if none does
+unfoldable pub firstBroken : ℕ → List (List ℕ) → List ℕ → ℕ
+firstBroken k fs [] = 0
+firstBroken k fs (i ∷ is) = cond (agrees (markAt k i fs)) (firstBroken k fs is) (i + 1)

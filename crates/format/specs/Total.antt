@@ -1,0 +1,38 @@
+-- 01, A day: "A 200's total is the sum of its days' values; a 250's is its quantity." And, in Refusal numbers: "17: a channel's exact total is 2^64 or more";
+-- "Reading calls give the file's own refusal first, then 14, then 15 or 17."
+use Prim.Native.Nat.{ℕ, _+_, _^_}
+use mathlib.Core.List.{List, [], _∷_}
+use mathlib.Core.Bool.{cond, _||_}
+use lib.ListN.{drop}
+use lib.Dec.{ltb, eqb}
+use Rattle.ground.specs.Lists.{sum}
+use Rattle.format.specs.Cut.{Lines, line, rest, lines, fields}
+use Rattle.format.specs.Records.{kindIn, intervalsIn, valuesIn, quantityIn}
+use Rattle.format.specs.Answers.{Answer, accepted, refused, refusal}
+use Rattle.format.specs.File.{checkOf}
+
+-- the values of the days that stand before the next channel, each of n intervals
+unfoldable pub sumFrom : ℕ → Lines → ℕ
+sumFrom n (rest t) = 0
+sumFrom n (line r ls) =
+    cond (eqb (kindIn (fields r)) 200) 0
+    (cond (eqb (kindIn (fields r)) 300) (sum (valuesIn n (fields r)) + sumFrom n ls) (sumFrom n ls))
+
+-- the totals of the channels in file order
+unfoldable pub totalsFrom : Lines → List ℕ
+totalsFrom (rest t) = []
+totalsFrom (line r ls) =
+    cond (eqb (kindIn (fields r)) 200) (sumFrom (intervalsIn (fields r)) ls ∷ totalsFrom ls)
+    (cond (eqb (kindIn (fields r)) 250) (quantityIn (fields r) ∷ totalsFrom ls) (totalsFrom ls))
+
+-- of the totals from the channel that is asked for: none is 14
+abbrev pub totalFirst : List ℕ → Answer
+totalFirst [] = refusal 14
+totalFirst (v ∷ vs) = cond (ltb v (2 ^ 64)) (accepted (v ∷ [])) (refusal 17)
+
+abbrev pub totalAfter : Answer → Answer → Answer
+totalAfter (accepted xs) a = a
+totalAfter (refused x p k i) a = refused x p k i
+
+unfoldable pub totalOf : List ℕ → ℕ → Answer
+totalOf file channel = totalAfter (checkOf file) (totalFirst (drop channel (totalsFrom (lines file))))

@@ -1,0 +1,108 @@
+// The types that contracts name: what a call answers, and what is read of one field. What they mean is stated in specs/.
+
+// A refusal of document 01's table.
+pub struct Refusal {
+    pub number: u64,
+    pub place: usize,
+    pub record: usize,
+    pub field: usize,
+}
+
+// What a check of a file answers. The version is 12 or 13.
+pub enum Checked {
+    Accepted {
+        version: u64,
+        channels: usize,
+        days: usize,
+    },
+    Refused(Refusal),
+}
+
+// What a reading of a day answers, beside the lists that it fills. A load time of 0 says that there is none.
+pub enum DayRead {
+    Read {
+        date: u32,
+        n: usize,
+        update: u64,
+        load: u64,
+    },
+    Refused(Refusal),
+}
+
+// What a channel adds up to, in millionths.
+pub enum Totalled {
+    Total(u64),
+    Refused(Refusal),
+}
+
+// A day to be written, beside its lists: date, interval length in minutes, update time, load time or 0.
+pub struct DayHead {
+    pub date: u32,
+    pub length: u32,
+    pub update: u64,
+    pub load: u64,
+}
+
+// What a writing of a day answers: the block's bytes and records.
+pub enum Written {
+    Block { bytes: usize, records: usize },
+    Refused(Refusal),
+}
+
+// The number that a field holds, if it meets its rule.
+pub enum Number {
+    Is(u64),
+    Bad,
+}
+
+// A quality's flag and method, if the field meets its rule.
+pub enum Graded {
+    Of(u8, u8),
+    Bad,
+}
+
+// The rule of a field.
+pub enum Rule {
+    Indicator,
+    Version,
+    Created,
+    Party,
+    Nmi,
+    Configuration,
+    Register,
+    Suffix,
+    Stream,
+    Serial,
+    Unit,
+    Length,
+    NextRead,
+    Date,
+    Value,
+    Quality,
+    Reason,
+    Description,
+    Time,
+    Load,
+    Interval,
+    TransCode,
+    ServiceOrder,
+    ReadTime,
+    IndexRead,
+    Direction,
+    RegisterRead,
+}
+
+// The first fault of a record, its place counted from the record's start: number, place, field.
+pub enum Fault {
+    Fine,
+    Stop(u64, usize, usize),
+}
+
+// The mark of an interval: quality, reason, and where its description stands in the file.
+pub struct Tag {
+    pub flag: u8,
+    pub method: u8,
+    pub reason: u16,
+    pub start: usize,
+    pub length: usize,
+}
