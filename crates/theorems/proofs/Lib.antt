@@ -1,0 +1,5 @@
+pub mod Tests
+pub mod Bytes
+pub mod Ends
+pub mod Across
+pub mod Rows
