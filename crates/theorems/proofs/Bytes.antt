@@ -42,14 +42,22 @@ span-all p (b ∷ bs) h =
     (λ e. and-both (p b) (all p bs) e (span-all p bs (let j : suc (spanOf p bs) ≡ suc (length bs) = (rw e at h) in omega arith)))
     (λ e. absurd (let j : 0 ≡ suc (length bs) = (rw e at h) in let z : ⊥ = omega arith in z))
 
+pub span-le : (p : ℕ → Bool) (l : List ℕ) → spanOf p l ≤ length l
+unfolding spanOf
+span-le p [] = omega arith
+span-le p (b ∷ bs) = let i = span-le p bs in by (p b) (λ e. rw e (omega arith)) (λ e. rw e (omega arith))
+
 -- ---- fields
 
-fields-some : (l : List ℕ) → (f : List ℕ) × (fs : List (List ℕ)) × (fields l ≡ f ∷ fs)
+fields-first : (l : List ℕ) → (f : List ℕ) × (fs : List (List ℕ)) × (fields l ≡ f ∷ fs)
 unfolding fields
-fields-some [] = ([], [], refl)
-fields-some (b ∷ bs) =
-    let w = fields-some bs in
+fields-first [] = ([], [], refl)
+fields-first (b ∷ bs) =
+    let w = fields-first bs in
     by (other 44 b) (λ e. (b ∷ w .0, w .1, rw (e, w .2))) (λ e. ([], fields bs, rw e))
+
+pub fields-some : (l : List ℕ) → 1 ≤ length (fields l)
+fields-some l = let w = fields-first l in rw (w .2) (omega arith)
 
 comma : (b : ℕ) → other 44 b ≡ false → b ≡ 44
 comma b e = by (eqb b 44) (λ t. eqb-true b 44 t) (λ t. absurd (let z : true ≡ false = (rw t at e) in true≢false z))
@@ -58,7 +66,7 @@ comma b e = by (eqb b 44) (λ t. eqb-true b 44 t) (λ t. absurd (let z : true �
 pub join-fields : (l : List ℕ) → join (fields l) ≡ l
 unfolding fields join
 join-fields [] = refl
-join-fields (b ∷ bs) = go (fields-some bs) (join-fields bs)
+join-fields (b ∷ bs) = go (fields-first bs) (join-fields bs)
   where
     on : (f : List ℕ) (fs : List (List ℕ)) → join ((b ∷ f) ∷ fs) ≡ b ∷ join (f ∷ fs)
     on f [] = refl
@@ -117,7 +125,7 @@ unfolding fields fieldByte
 fields-bytes [] h = (refl, tt)
 fields-bytes (b ∷ bs) h =
     let w = and-true (plain b) (all plain bs) h in
-    go (w .0) (fields-some bs) (fields-bytes bs (w .1))
+    go (w .0) (fields-first bs) (fields-bytes bs (w .1))
   where
     go : plain b ≡ true → (w : (f : List ℕ) × (fs : List (List ℕ)) × (fields bs ≡ f ∷ fs)) → Bytes (fields bs) → Bytes (fields (b ∷ bs))
     go p w ih =

@@ -93,7 +93,7 @@ text-tidy : (a b : ℕ) (s : List ℕ) → isText a b s ≡ true → endSpace s 
 unfolding isText
 text-tidy a b s h = not-true _ (and-true (leb a (length s) && leb (length s) b) (not (endSpace s)) h .1)
 
-same-true : (s w : List ℕ) → same s w ≡ true → s ≡ w
+pub same-true : (s w : List ℕ) → same s w ≡ true → s ≡ w
 unfolding same
 same-true [] [] h = refl
 same-true [] (y ∷ w) h = absurd (false≢true h)
