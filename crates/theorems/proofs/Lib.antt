@@ -6,3 +6,4 @@ pub mod Rows
 pub mod Says
 pub mod Fit
 pub mod Told
+pub mod Takes
