@@ -7,3 +7,4 @@ pub mod Says
 pub mod Fit
 pub mod Told
 pub mod Takes
+pub mod Format
