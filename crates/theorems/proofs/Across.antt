@@ -15,7 +15,7 @@ use Rattle.theorems.specs.Grammar.{Each, Record, Together}
 use Rattle.theorems.proofs.Tests.{by, and-true, and-both, or-true}
 
 module _ (m : Mark) where
-  agrees-together : agrees m ≡ true → Together m
+  pub agrees-together : agrees m ≡ true → Together m
   unfolding agrees across needsReason
   agrees-together h =
       let described : ℕ = length (m .text) in
@@ -34,7 +34,7 @@ module _ (m : Mark) where
           (eqb-true _ _ (w .0), eqb-true _ _ (w .1)));
       }
 
-  together-agrees : Together m → agrees m ≡ true
+  pub together-agrees : Together m → agrees m ≡ true
   unfolding agrees across needsReason
   together-agrees h =
       let described : ℕ = length (m .text) in

@@ -29,7 +29,7 @@ use Rattle.theorems.proofs.Bytes.{all-map}
 
 -- ---- lists without a space
 
-all-at : (p : ℕ → Bool) (s : List ℕ) (i : ℕ) → all p s ≡ true → i < length s → p (getD s i 0) ≡ true
+pub all-at : (p : ℕ → Bool) (s : List ℕ) (i : ℕ) → all p s ≡ true → i < length s → p (getD s i 0) ≡ true
 all-at p [] i h l = absurd (let z : ⊥ = omega arith in z)
 all-at p (b ∷ s) zero h l = and-true (p b) (all p s) h .0
 all-at p (b ∷ s) (suc i) h l = all-at p s i (and-true (p b) (all p s) h .1) (omega arith)

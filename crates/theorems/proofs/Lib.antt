@@ -8,3 +8,6 @@ pub mod Fit
 pub mod Told
 pub mod Takes
 pub mod Format
+pub mod Cuts
+pub mod Links
+pub mod Reach

@@ -1,1 +1,3 @@
 pub mod Grammar
+pub mod Places
+pub mod First
