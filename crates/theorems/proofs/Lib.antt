@@ -11,3 +11,4 @@ pub mod Format
 pub mod Cuts
 pub mod Links
 pub mod Reach
+pub mod First

@@ -16,24 +16,26 @@ use Rattle.format.specs.Answers.{Answer, accepted, refused, refusal}
 use Rattle.format.specs.File.{after, orGoOn, walkOf, checkOf}
 use Rattle.format.specs.declared.Fault.{Fault}
 use Rattle.format.specs.declared.Fault.the-variants.{Fine, Stop}
+use Rattle.theorems.specs.First.{Clear}
 use Rattle.theorems.specs.Places.{placeIn, placeOf, past, stateIn, stateAt}
 use Rattle.theorems.proofs.Tests.{by}
 use Rattle.theorems.proofs.Bytes.{bytesOf}
 use Rattle.theorems.proofs.Cuts.{Has, keep, lines-cut, has-next, keep-next}
 use Rattle.theorems.proofs.Format.{walk-of, of-walk}
-use Rattle.theorems.proofs.Links.{fault-number}
+use Rattle.theorems.proofs.Links.{fine-none, fault-number}
 
 -- why a record is refused with x at q and field i, where it would start at p in the state st, and ls are the lines from there on
 pub data Why (st : Due) (p : ℕ) (ls : Lines) (x q i : ℕ) : Type 0 where
-  no-end : (t : List ℕ) → ls ≡ rest t → (st .expect ≡ 9 → ⊥) → x ≡ 2 → q ≡ p → i ≡ 0 → Why st p ls x q i
-  at-fault : (r : List ℕ) (more : Lines) (o : ℕ) → ls ≡ line r more → (st .expect ≡ 9 → ⊥) → faultOf st r ≡ Stop x o i → q ≡ p + o → Why st p ls x q i
-  behind-end : st .expect ≡ 9 → 1 ≤ length (bytesOf ls) → x ≡ 13 → q ≡ p → i ≡ 0 → Why st p ls x q i
+  unfinished : (t : List ℕ) → ls ≡ rest t → (st .expect ≡ 9 → ⊥) → x ≡ 2 → q ≡ p → i ≡ 0 → Why st p ls x q i
+  faulty : (r : List ℕ) (more : Lines) (o : ℕ) → ls ≡ line r more → (st .expect ≡ 9 → ⊥) → faultOf st r ≡ Stop x o i → q ≡ p + o → Why st p ls x q i
+  trailing : st .expect ≡ 9 → 1 ≤ length (bytesOf ls) → x ≡ 13 → q ≡ p → i ≡ 0 → Why st p ls x q i
 
 -- record k, the j-th from here, is reached, and the answer comes from there, whatever its lines are
 record Reached (st : Due) (p a : ℕ) (ls : Lines) (x q k i : ℕ) : Type 0 where
   j : ℕ
   number : k ≡ a + j
   has : Has j ls
+  clear : Clear j st ls
   same : (m : Lines) → walkOf st p a (keep j ls m) ≡ walkOf (stateIn j st ls) (p + placeIn j ls) k m
   why : Why (stateIn j st ls) (p + placeIn j ls) (past j ls) x q i
 
@@ -45,6 +47,7 @@ here ls st p a x q k i e w =
       j = 0;
       number = omega arith;
       has = tt;
+      clear = tt;
       same = λ m. rw (← z, e);
       why = subst (λ (y : ℕ). Why st y ls x q i) z w;
     }
@@ -59,6 +62,7 @@ further r ls st p a x q k i o e w =
       j = suc (w .j);
       number = omega (arith, w .number);
       has = w .has;
+      clear = (o, fine-none st r e, w .clear);
       same = λ m. rw (ne-eqb _ _ o, e, ← z) (w .same m);
       why = subst (λ (y : ℕ). Why (stateIn (w .j) (after st r) ls) y (past (w .j) ls) x q i) z (w .why);
     }
@@ -72,16 +76,16 @@ reached (rest t) st p a x q k i e =
     (λ b.
     let y : refused 13 p a 0 ≡ refused x q k i = rw (s, b) at e in
     let n : length t ≡ 0 → ⊥ = eqb-false _ _ b in
-    here (rest t) st p a x q k i (let z : k ≡ a = cc in z) (behind-end (eqb-true _ _ s) (omega arith) (let z : x ≡ 13 = cc in z) (let z : q ≡ p = cc in z) (let z : i ≡ 0 = cc in z))))
+    here (rest t) st p a x q k i (let z : k ≡ a = cc in z) (trailing (eqb-true _ _ s) (omega arith) (let z : x ≡ 13 = cc in z) (let z : q ≡ p = cc in z) (let z : i ≡ 0 = cc in z))))
     (λ s.
     let y : refused 2 p a 0 ≡ refused x q k i = rw s at e in
-    here (rest t) st p a x q k i (let z : k ≡ a = cc in z) (no-end t refl (eqb-false _ _ s) (let z : x ≡ 2 = cc in z) (let z : q ≡ p = cc in z) (let z : i ≡ 0 = cc in z)))
+    here (rest t) st p a x q k i (let z : k ≡ a = cc in z) (unfinished t refl (eqb-false _ _ s) (let z : x ≡ 2 = cc in z) (let z : q ≡ p = cc in z) (let z : i ≡ 0 = cc in z)))
 reached (line r ls) st p a x q k i e =
     by (eqb (st .expect) 9)
     (λ s.
     let y : refused 13 p a 0 ≡ refused x q k i = rw s at e in
     here (line r ls) st p a x q k i (let z : k ≡ a = cc in z)
-    (behind-end (eqb-true _ _ s) (omega (arith, length-append r (13 ∷ 10 ∷ bytesOf ls))) (let z : x ≡ 13 = cc in z) (let z : q ≡ p = cc in z) (let z : i ≡ 0 = cc in z)))
+    (trailing (eqb-true _ _ s) (omega (arith, length-append r (13 ∷ 10 ∷ bytesOf ls))) (let z : x ≡ 13 = cc in z) (let z : q ≡ p = cc in z) (let z : i ≡ 0 = cc in z)))
     (λ s. go s (faultOf st r) refl (rw s at e) (λ h. reached ls (after st r) (p + length r + 2) (a + 1) x q k i h))
   where
     go : eqb (st .expect) 9 ≡ false → (g : Fault) → faultOf st r ≡ g
@@ -94,33 +98,39 @@ reached (line r ls) st p a x q k i e =
         let ex : y ≡ x = cc in
         let ef : f ≡ i = cc in
         here (line r ls) st p a x q k i (let u : k ≡ a = cc in u)
-        (at-fault r ls o refl (eqb-false _ _ s) (w ∙ rw (ex, ef)) (let u : q ≡ p + o = cc in u))
+        (faulty r ls o refl (eqb-false _ _ s) (w ∙ rw (ex, ef)) (let u : q ≡ p + o = cc in u))
 
 -- ---- the same of a whole file, by the record's number
 
 pub record Refusal (file : List ℕ) (x q k i : ℕ) : Type 0 where
   pub has : Has k (lines file)
+  pub clear : Clear k begun (lines file)
   pub same : (m : Lines) → walkOf begun 0 0 (keep k (lines file) m) ≡ walkOf (stateAt k file) (placeOf k file) k m
   pub why : Why (stateAt k file) (placeOf k file) (past k (lines file)) x q i
 
-of-number : (file : List ℕ) (x q k i j : ℕ) → j ≡ k → Has j (lines file)
+of-number : (file : List ℕ) (x q k i j : ℕ) → j ≡ k → Has j (lines file) → Clear j begun (lines file)
     → ((m : Lines) → walkOf begun 0 0 (keep j (lines file) m) ≡ walkOf (stateIn j begun (lines file)) (0 + placeIn j (lines file)) k m)
     → Why (stateIn j begun (lines file)) (0 + placeIn j (lines file)) (past j (lines file)) x q i → Refusal file x q k i
 unfolding placeOf stateAt
-of-number file x q k i j e h s w =
+of-number file x q k i j e h c s w =
     let z : 0 + placeIn k (lines file) ≡ placeIn k (lines file) = omega arith in
     record {
       has = subst (λ (y : ℕ). Has y (lines file)) e h;
+      clear = subst (λ (y : ℕ). Clear y begun (lines file)) e c;
       same = λ m. (let t : walkOf begun 0 0 (keep k (lines file) m) ≡ walkOf (stateIn k begun (lines file)) (0 + placeIn k (lines file)) k m = (rw e at (s m)) in rw z at t);
       why = (let t : Why (stateIn k begun (lines file)) (0 + placeIn k (lines file)) (past k (lines file)) x q i = (rw e at w) in rw z at t);
     }
 
+pub refusal-in : (file : List ℕ) (x q k i : ℕ) → walkOf begun 0 0 (lines file) ≡ refused x q k i → Refusal file x q k i
+refusal-in file x q k i e =
+    let w = reached (lines file) begun 0 0 x q k i e in
+    of-number file x q k i (w .j) (let z : w .j ≡ k = omega (arith, w .number) in z) (w .has) (w .clear) (w .same) (w .why)
+
 -- what a refusal of the check other than 1 says
-pub refusal-of : (file : List ℕ) (x q k i : ℕ) → checkOf file ≡ refused x q k i → (x ≡ 1 → ⊥) → (length file ≤ 1048576) × Refusal file x q k i
+refusal-of : (file : List ℕ) (x q k i : ℕ) → checkOf file ≡ refused x q k i → (x ≡ 1 → ⊥) → (length file ≤ 1048576) × Refusal file x q k i
 refusal-of file x q k i e n =
     let c = walk-of file (refused x q k i) e (λ z. n (let y : x ≡ 1 = cc in y)) in
-    let w = reached (lines file) begun 0 0 x q k i (c .1) in
-    (c .0, of-number file x q k i (w .j) (let z : w .j ≡ k = omega (arith, w .number) in z) (w .has) (w .same) (w .why))
+    (c .0, refusal-in file x q k i (c .1))
 
 -- ---- prefix
 
@@ -147,9 +157,9 @@ module _ (file : List ℕ) (x q k i : ℕ) (e : checkOf file ≡ refused x q k i
       w = c .1
 
       go : Why (stateAt k file) (placeOf k file) (past k (lines file)) x q i → walkOf (stateAt k file) (placeOf k file) k (rest []) ≡ refused 2 (placeOf k file) k 0
-      go (no-end t a o b d f) = rw (ne-eqb _ _ o)
-      go (at-fault r more o a n b d) = rw (ne-eqb _ _ n)
-      go (behind-end a b d f g) = absurd (let y : ⊥ = omega arith in y)
+      go (unfinished t a o b d f) = rw (ne-eqb _ _ o)
+      go (faulty r more o a n b d) = rw (ne-eqb _ _ n)
+      go (trailing a b d f g) = absurd (let y : ⊥ = omega arith in y)
 
   -- and for 13 they are accepted
   pub prefix-13 : x ≡ 13 → (v c d : ℕ) × (checkOf (take (placeOf k file) file) ≡ accepted (v ∷ c ∷ d ∷ []))
@@ -166,9 +176,9 @@ module _ (file : List ℕ) (x q k i : ℕ) (e : checkOf file ≡ refused x q k i
 
       go : Why (stateAt k file) (placeOf k file) (past k (lines file)) x q i
           → walkOf (stateAt k file) (placeOf k file) k (rest []) ≡ accepted (stateAt k file .version ∷ stateAt k file .channels ∷ stateAt k file .days ∷ [])
-      go (no-end t a o b d f) = absurd (let z : ⊥ = omega arith in z)
-      go (at-fault r more o a n b d) = absurd (let z : ⊥ = omega (arith, fault-number (stateAt k file) r x o i b) in z)
-      go (behind-end a b d f g) = rw (eq-eqb _ _ a)
+      go (unfinished t a o b d f) = absurd (let z : ⊥ = omega arith in z)
+      go (faulty r more o a n b d) = absurd (let z : ⊥ = omega (arith, fault-number (stateAt k file) r x o i b) in z)
+      go (trailing a b d f g) = rw (eq-eqb _ _ a)
 
   -- ---- locality
 
@@ -181,8 +191,8 @@ module _ (file : List ℕ) (x q k i : ℕ) (e : checkOf file ≡ refused x q k i
       w = refusal-of file x q k i e (λ z. omega arith) .1
 
       go : Why (stateAt k file) (placeOf k file) (past k (lines file)) x q i → walkOf begun 0 0 (lines (take (placeOf (k + 1) file) file ++ t)) ≡ refused x q k i
-      go (no-end y a o b d f) = absurd (let z : ⊥ = omega arith in z)
-      go (at-fault r more o a n b d) =
+      go (unfinished y a o b d f) = absurd (let z : ⊥ = omega arith in z)
+      go (faulty r more o a n b d) =
           rw (
             add-one k,
             lines-cut (suc k) file t (has-next r more k (lines file) (w .has) a),
@@ -192,7 +202,7 @@ module _ (file : List ℕ) (x q k i : ℕ) (e : checkOf file ≡ refused x q k i
             b,
             d,
           )
-      go (behind-end a b d f g) = absurd (let y : ⊥ = omega arith in y)
+      go (trailing a b d f g) = absurd (let y : ⊥ = omega arith in y)
 
   -- and so every file that agrees with this one up to there is refused alike
   pub locality-of : 3 ≤ x → x ≤ 12 → (other : List ℕ) → length other ≤ 1048576 → take (placeOf (k + 1) file) other ≡ take (placeOf (k + 1) file) file → checkOf other ≡ refused x q k i

@@ -127,5 +127,5 @@ pub data Given (file : List ℕ) (x q k i : ℕ) : Type 0 where
   at-fault : length file ≤ 1048576 → Clear k begun (lines file) → (r : List ℕ) (more : Lines) → past k (lines file) ≡ line r more → stateAt k file .expect ≢ 9
       → (o : ℕ) → First x o i (inOrder (stateAt k file) r) → q ≡ placeOf k file + o → Given file x q k i
   -- "bytes after the 900 record": first of them
-  behind-end : length file ≤ 1048576 → Clear k begun (lines file) → (past k (lines file) ≡ rest [] → ⊥) → stateAt k file .expect ≡ 9
+  behind-end : length file ≤ 1048576 → Clear k begun (lines file) → placeOf k file < length file → stateAt k file .expect ≡ 9
       → x ≡ 13 → q ≡ placeOf k file → i ≡ 0 → Given file x q k i
