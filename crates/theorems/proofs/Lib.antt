@@ -12,3 +12,4 @@ pub mod Cuts
 pub mod Links
 pub mod Reach
 pub mod First
+pub mod Days
