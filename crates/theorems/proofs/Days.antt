@@ -96,15 +96,14 @@ runs-of p [] rows h s = s p
 runs-of p (r ∷ rs) rows h s =
     run-on r (rs ++ rows) p 400 0 (h .0) refl ∙ ap (λ (x : List Row). record { place = p; cells = r } ∷ x) (runs-of (p + length (join r) + 2) rs rows (h .1) s)
 
-skip-runs : (p n : ℕ) (rs rows : List Record) → Each (IsRecord 400 0) rs → Days p n (rs ++ rows) ≡ Days (behind p rs) n rows
-skip-runs p n [] rows h = refl
-skip-runs p n (r ∷ rs) rows h =
-    day-skip r (rs ++ rows) p 400 0 (h .0) n (λ z. omega arith) (λ z. omega arith) ∙ skip-runs (p + length (join r) + 2) n rs rows (h .1)
+-- records of a kind that says nothing of days
+skip-days : (p n k : ℕ) (rs rows : List Record) → (k ≡ 300 → ⊥) → (k ≡ 200 → ⊥) → Each (IsRecord k 0) rs → Days p n (rs ++ rows) ≡ Days (behind p rs) n rows
+skip-days p n k [] rows y z h = refl
+skip-days p n k (r ∷ rs) rows y z h = day-skip r (rs ++ rows) p k 0 (h .0) n y z ∙ skip-days (p + length (join r) + 2) n k rs rows y z (h .1)
 
-skip-extras : (p n t : ℕ) (xs rows : List Record) → Each (Extra t) xs → Days p n (xs ++ rows) ≡ Days (behind p xs) n rows
-skip-extras p n t [] rows h = refl
-skip-extras p n t (x ∷ xs) rows h =
-    day-skip x (xs ++ rows) p 500 0 (h .0 .0) n (λ z. omega arith) (λ z. omega arith) ∙ skip-extras (p + length (join x) + 2) n t xs rows (h .1)
+extras-500 : (t : ℕ) (xs : List Record) → Each (Extra t) xs → Each (IsRecord 500 0) xs
+extras-500 t [] h = tt
+extras-500 t (x ∷ xs) h = (h .0 .0, extras-500 t xs (h .1))
 
 -- no 400 comes first
 stop-extras : (t : ℕ) (xs rows : List Record) → Each (Extra t) xs → ((q : ℕ) → Runs q rows ≡ []) → (q : ℕ) → Runs q (xs ++ rows) ≡ []
@@ -129,7 +128,8 @@ days-blocks p n (b ∷ bs) rows h s =
     let r : Runs q (b .runs ++ (b .extra ++ more)) ≡ rowsAt q (b .runs) =
     runs-of q (b .runs) (b .extra ++ more) (g .runs) (stop-extras (dateIn (b .top)) (b .extra) more (g .extra) (stop-blocks n bs rows (h .1) s)) in
     let d : Days q n (b .runs ++ (b .extra ++ more)) ≡ blockDays (behind q (b .runs ++ b .extra)) n bs ++ Days (behindBlocks (behind q (b .runs ++ b .extra)) bs) n rows =
-    skip-runs q n (b .runs) (b .extra ++ more) (g .runs) ∙ skip-extras (behind q (b .runs)) n (dateIn (b .top)) (b .extra) more (g .extra)
+    skip-days q n 400 (b .runs) (b .extra ++ more) (λ z. omega arith) (λ z. omega arith) (g .runs)
+    ∙ skip-days (behind q (b .runs)) n 500 (b .extra) more (λ z. omega arith) (λ z. omega arith) (extras-500 (dateIn (b .top)) (b .extra) (g .extra))
     ∙ rw (← behind-append q (b .runs) (b .extra)) (days-blocks (behind q (b .runs ++ b .extra)) n bs rows (h .1) s) in
     day-on (b .top) (b .runs ++ (b .extra ++ more)) p 300 n (g .top) n refl ∙ rw (r, d)
 
@@ -144,16 +144,12 @@ days-channels p n (c ∷ cs) rows h s z =
     ∙ days-blocks q m (c .blocks) (channelsThen cs rows) (g .blocks) (stop-channels cs rows (h .1) s)
     ∙ ap (λ (x : List DayRows). blockDays q m (c .blocks) ++ x) (days-channels (behindBlocks q (c .blocks)) m cs rows (h .1) s z)
 
-none-codes : (p n : ℕ) (es rows : List Record) → Each (IsRecord 550 0) es → ((q : ℕ) → Days q n rows ≡ []) → Days p n (es ++ rows) ≡ []
-none-codes p n [] rows h z = z p
-none-codes p n (e ∷ es) rows h z =
-    day-skip e (es ++ rows) p 550 0 (h .0) n (λ y. omega arith) (λ y. omega arith) ∙ none-codes (p + length (join e) + 2) n es rows (h .1) z
-
 none-readings : (n : ℕ) (rs : List Reading) (rows : List Record) → Each IsReading rs → ((q : ℕ) → Days q n rows ≡ []) → (q : ℕ) → Days q n (readingsThen rs rows) ≡ []
 none-readings n [] rows h z q = z q
 none-readings n (r ∷ rs) rows h z q =
     day-skip (r .head) (r .codes ++ readingsThen rs rows) q 250 0 (h .0 .head) n (λ y. omega arith) (λ y. omega arith)
-    ∙ none-codes (q + length (join (r .head)) + 2) n (r .codes) (readingsThen rs rows) (h .0 .codes) (none-readings n rs rows (h .1) z)
+    ∙ skip-days (q + length (join (r .head)) + 2) n 550 (r .codes) (readingsThen rs rows) (λ y. omega arith) (λ y. omega arith) (h .0 .codes)
+    ∙ none-readings n rs rows (h .1) z (behind (q + length (join (r .head)) + 2) (r .codes))
 
 -- ---- the days
 
@@ -176,13 +172,13 @@ days file v c d h =
 
 -- ---- totals
 
-sum-runs : (m : ℕ) (rs rows : List Record) → Each (IsRecord 400 0) rs → Sum m (rs ++ rows) ≡ Sum m rows
-sum-runs m [] rows h = refl
-sum-runs m (r ∷ rs) rows h = sum-skip r (rs ++ rows) 0 400 0 (h .0) m (λ z. omega arith) (λ z. omega arith) ∙ sum-runs m rs rows (h .1)
+skip-sum : (m k : ℕ) (rs rows : List Record) → (k ≡ 300 → ⊥) → (k ≡ 200 → ⊥) → Each (IsRecord k 0) rs → Sum m (rs ++ rows) ≡ Sum m rows
+skip-sum m k [] rows y z h = refl
+skip-sum m k (r ∷ rs) rows y z h = sum-skip r (rs ++ rows) 0 k 0 (h .0) m y z ∙ skip-sum m k rs rows y z (h .1)
 
-sum-extras : (m t : ℕ) (xs rows : List Record) → Each (Extra t) xs → Sum m (xs ++ rows) ≡ Sum m rows
-sum-extras m t [] rows h = refl
-sum-extras m t (x ∷ xs) rows h = sum-skip x (xs ++ rows) 0 500 0 (h .0 .0) m (λ z. omega arith) (λ z. omega arith) ∙ sum-extras m t xs rows (h .1)
+skip-totals : (k : ℕ) (rs rows : List Record) → (k ≡ 200 → ⊥) → (k ≡ 250 → ⊥) → Each (IsRecord k 0) rs → Totals (rs ++ rows) ≡ Totals rows
+skip-totals k [] rows y z h = refl
+skip-totals k (r ∷ rs) rows y z h = total-skip r (rs ++ rows) 0 k 0 (h .0) y z ∙ skip-totals k rs rows y z (h .1)
 
 sum-blocks : (m : ℕ) (bs : List Block) (rows : List Record) → Each (IsBlock m) bs → Sum m rows ≡ 0 → Sum m (blocksThen bs rows) ≡ blocksTotal m bs
 sum-blocks m [] rows h z = z
@@ -190,15 +186,9 @@ sum-blocks m (b ∷ bs) rows h z =
     let more : List Record = blocksThen bs rows in
     let g = h .0 in
     sum-on (b .top) (b .runs ++ (b .extra ++ more)) 0 300 m (g .top) m refl
-    ∙ ap (λ (x : ℕ). sum (valuesIn m (b .top)) + x) (sum-runs m (b .runs) (b .extra ++ more) (g .runs) ∙ sum-extras m (dateIn (b .top)) (b .extra) more (g .extra) ∙ sum-blocks m bs rows (h .1) z)
-
-skip-400s : (rs rows : List Record) → Each (IsRecord 400 0) rs → Totals (rs ++ rows) ≡ Totals rows
-skip-400s [] rows h = refl
-skip-400s (r ∷ rs) rows h = total-skip r (rs ++ rows) 0 400 0 (h .0) (λ z. omega arith) (λ z. omega arith) ∙ skip-400s rs rows (h .1)
-
-skip-500s : (t : ℕ) (xs rows : List Record) → Each (Extra t) xs → Totals (xs ++ rows) ≡ Totals rows
-skip-500s t [] rows h = refl
-skip-500s t (x ∷ xs) rows h = total-skip x (xs ++ rows) 0 500 0 (h .0 .0) (λ z. omega arith) (λ z. omega arith) ∙ skip-500s t xs rows (h .1)
+    ∙ ap (λ (x : ℕ). sum (valuesIn m (b .top)) + x)
+    (skip-sum m 400 (b .runs) (b .extra ++ more) (λ y. omega arith) (λ y. omega arith) (g .runs)
+    ∙ skip-sum m 500 (b .extra) more (λ y. omega arith) (λ y. omega arith) (extras-500 (dateIn (b .top)) (b .extra) (g .extra)) ∙ sum-blocks m bs rows (h .1) z)
 
 skip-blocks : (m : ℕ) (bs : List Block) (rows : List Record) → Each (IsBlock m) bs → Totals (blocksThen bs rows) ≡ Totals rows
 skip-blocks m [] rows h = refl
@@ -206,7 +196,8 @@ skip-blocks m (b ∷ bs) rows h =
     let more : List Record = blocksThen bs rows in
     let g = h .0 in
     total-skip (b .top) (b .runs ++ (b .extra ++ more)) 0 300 m (g .top) (λ z. omega arith) (λ z. omega arith)
-    ∙ skip-400s (b .runs) (b .extra ++ more) (g .runs) ∙ skip-500s (dateIn (b .top)) (b .extra) more (g .extra) ∙ skip-blocks m bs rows (h .1)
+    ∙ skip-totals 400 (b .runs) (b .extra ++ more) (λ z. omega arith) (λ z. omega arith) (g .runs)
+    ∙ skip-totals 500 (b .extra) more (λ z. omega arith) (λ z. omega arith) (extras-500 (dateIn (b .top)) (b .extra) (g .extra)) ∙ skip-blocks m bs rows (h .1)
 
 sum-channels : (m : ℕ) (cs : List Channel) (rows : List Record) → Each IsChannel cs → Sum m rows ≡ 0 → Sum m (channelsThen cs rows) ≡ 0
 sum-channels m [] rows h z = z
@@ -225,15 +216,11 @@ total-channels (c ∷ cs) rows h s z =
       total-channels cs rows (h .1) s z,
     )
 
-skip-codes : (es rows : List Record) → Each (IsRecord 550 0) es → Totals (es ++ rows) ≡ Totals rows
-skip-codes [] rows h = refl
-skip-codes (e ∷ es) rows h = total-skip e (es ++ rows) 0 550 0 (h .0) (λ z. omega arith) (λ z. omega arith) ∙ skip-codes es rows (h .1)
-
 total-readings : (rs : List Reading) (rows : List Record) → Each IsReading rs → Totals rows ≡ [] → Totals (readingsThen rs rows) ≡ readingTotals rs
 total-readings [] rows h z = z
 total-readings (r ∷ rs) rows h z =
     total-250 (r .head) (r .codes ++ readingsThen rs rows) 0 250 0 (h .0 .head) refl
-    ∙ ap (λ (x : List ℕ). quantityIn (r .head) ∷ x) (skip-codes (r .codes) (readingsThen rs rows) (h .0 .codes) ∙ total-readings rs rows (h .1) z)
+    ∙ ap (λ (x : List ℕ). quantityIn (r .head) ∷ x) (skip-totals 550 (r .codes) (readingsThen rs rows) (λ y. omega arith) (λ y. omega arith) (h .0 .codes) ∙ total-readings rs rows (h .1) z)
 
 end-sum : (l : Record) → IsRecord 900 0 l → (m : ℕ) → Sum m (l ∷ []) ≡ 0
 unfolding sumFrom lines text
