@@ -101,7 +101,7 @@ skip-days : (p n k : ℕ) (rs rows : List Record) → (k ≡ 300 → ⊥) → (k
 skip-days p n k [] rows y z h = refl
 skip-days p n k (r ∷ rs) rows y z h = day-skip r (rs ++ rows) p k 0 (h .0) n y z ∙ skip-days (p + length (join r) + 2) n k rs rows y z (h .1)
 
-extras-500 : (t : ℕ) (xs : List Record) → Each (Extra t) xs → Each (IsRecord 500 0) xs
+pub extras-500 : (t : ℕ) (xs : List Record) → Each (Extra t) xs → Each (IsRecord 500 0) xs
 extras-500 t [] h = tt
 extras-500 t (x ∷ xs) h = (h .0 .0, extras-500 t xs (h .1))
 

@@ -13,3 +13,4 @@ pub mod Links
 pub mod Reach
 pub mod First
 pub mod Days
+pub mod Once

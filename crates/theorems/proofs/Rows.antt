@@ -63,7 +63,7 @@ meets-fine k n o i (u ∷ us) (f ∷ fs) e h =
 
 -- ---- the count, the bytes, the ends
 
-meets-length : (k : ℕ) (us : List Rule) (fs : Record) → Meets k us fs → length fs ≡ length us
+pub meets-length : (k : ℕ) (us : List Rule) (fs : Record) → Meets k us fs → length fs ≡ length us
 meets-length k [] [] h = refl
 meets-length k [] (f ∷ fs) h = absurd h
 meets-length k (u ∷ us) [] h = absurd h
