@@ -14,3 +14,4 @@ pub mod Reach
 pub mod First
 pub mod Days
 pub mod Once
+pub mod Meaning

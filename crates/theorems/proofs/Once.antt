@@ -213,7 +213,7 @@ one-structure file v c d v′ c′ d′ h g =
 
 -- ---- a block
 
-row-length : (n : ℕ) → length (rowOf 300 n) ≡ n + 7
+pub row-length : (n : ℕ) → length (rowOf 300 n) ≡ n + 7
 unfolding rowOf
 row-length n =
     omega (arith, length-append (replicate n Value) (Quality ∷ Reason ∷ Description ∷ Time ∷ Load ∷ []), length-replicate {A = Rule} n Value)
