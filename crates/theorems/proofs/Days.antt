@@ -87,7 +87,7 @@ module _ (fs : Record) (rows : List Record) (p k n : ℕ) (h : IsRecord k n fs) 
 
 -- ---- lists
 
-behind-append : (p : ℕ) (rs xs : List Record) → behind p (rs ++ xs) ≡ behind (behind p rs) xs
+pub behind-append : (p : ℕ) (rs xs : List Record) → behind p (rs ++ xs) ≡ behind (behind p rs) xs
 behind-append p [] xs = refl
 behind-append p (r ∷ rs) xs = behind-append (p + length (join r) + 2) rs xs
 

@@ -15,3 +15,4 @@ pub mod First
 pub mod Days
 pub mod Once
 pub mod Meaning
+pub mod OneDay

@@ -31,7 +31,7 @@ cover-anywhere p q [] = refl
 cover-anywhere p q (r ∷ rs) =
     ap (λ (ms : List Mark). replicate (lastIn r + 1 - firstIn r) (markIn r) ++ ms) (cover-anywhere (p + length (join r) + 2) (q + length (join r) + 2) rs)
 
-day-anywhere : (p n : ℕ) (b : Block) → dayOf (dayAt p n b) ≡ dayIn n b
+pub day-anywhere : (p n : ℕ) (b : Block) → dayOf (dayAt p n b) ≡ dayIn n b
 unfolding dayIn dayOf marksOf eachOf valuesOf
 day-anywhere p n b = rw (cover-anywhere (p + length (join (b .top)) + 2) (0 + length (join (b .top)) + 2) (b .runs))
 

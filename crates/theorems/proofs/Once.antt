@@ -219,15 +219,17 @@ row-length n =
     omega (arith, length-append (replicate n Value) (Quality ∷ Reason ∷ Description ∷ Time ∷ Load ∷ []), length-replicate {A = Rule} n Value)
 
 -- bytes are a block in one way, of one number of intervals, and so they are one day
-pub one-block : (s : List ℕ) (d e : Day) → ReadsAs s d → ReadsAs s e → d ≡ e
-one-block s d e h g =
-    let b = h .block in
-    let c = g .block in
-    let f : text (b .top ∷ (b .runs ++ (b .extra ++ []))) ≡ text (c .top ∷ (c .runs ++ (c .extra ++ []))) =
-    rw (append-nil (b .extra), append-nil (c .extra)) (sym (h .bytes) ∙ g .bytes) in
-    let w = block-once (h .n) (g .n) b c [] [] (h .good) (g .good) tt tt
-    (text-once (b .top ∷ (b .runs ++ (b .extra ++ []))) (c .top ∷ (c .runs ++ (c .extra ++ []))) (block-all (h .n) b [] (h .good) tt) (block-all (g .n) c [] (g .good) tt) f) in
-    let l : length (b .top) ≡ length (c .top) = ap (λ (x : Block). length (x .top)) (w .0) in
-    let n : h .n ≡ g .n =
-    omega (arith, l, meets-length 300 (rowOf 300 (h .n)) (b .top) (h .good .top .meets), meets-length 300 (rowOf 300 (g .n)) (c .top) (g .good .top .meets), row-length (h .n), row-length (g .n)) in
+pub one-block : (a b : Record) (s : List ℕ) (d e : Day) → ReadsAs a s d → ReadsAs b s e → d ≡ e
+one-block a b s d e h g =
+    let x = h .block in
+    let y = g .block in
+    let k : ℕ = intervalsIn a in
+    let m : ℕ = intervalsIn b in
+    let f : text (x .top ∷ (x .runs ++ (x .extra ++ []))) ≡ text (y .top ∷ (y .runs ++ (y .extra ++ []))) =
+    rw (append-nil (x .extra), append-nil (y .extra)) (sym (h .bytes) ∙ g .bytes) in
+    let w = block-once k m x y [] [] (h .good) (g .good) tt tt
+    (text-once (x .top ∷ (x .runs ++ (x .extra ++ []))) (y .top ∷ (y .runs ++ (y .extra ++ []))) (block-all k x [] (h .good) tt) (block-all m y [] (g .good) tt) f) in
+    let l : length (x .top) ≡ length (y .top) = ap (λ (z : Block). length (z .top)) (w .0) in
+    let n : k ≡ m =
+    omega (arith, meets-length 300 (rowOf 300 k) (x .top) (h .good .top .meets), meets-length 300 (rowOf 300 m) (y .top) (g .good .top .meets), row-length k, row-length m) in
     h .is ∙ rw (n, w .0) (sym (g .is))

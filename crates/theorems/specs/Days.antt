@@ -1,12 +1,13 @@
--- What the grammar's blocks and channels say: the days of a file with the places of their records, each day's meaning, the channels' totals, and the days that bytes are as a block.
+-- What the grammar's blocks and channels say: the days of a file with the places of their records, what each means, the day that bytes are as a block, and the
+-- channels' totals.
 use Prim.Native.Nat.{ℕ, _+_}
 use mathlib.Core.Path.{_≡_}
 use mathlib.Core.List.{List, [], _∷_, _++_}
-use lib.ListN.{length}
+use lib.ListN.{length, drop}
 use Rattle.ground.specs.Lists.{sum}
 use Rattle.format.specs.Records.{intervalsIn, valuesIn, quantityIn}
-use Rattle.format.specs.Day.{Row, DayRows, Day, dayOf}
-use Rattle.theorems.specs.Grammar.{Record, join, text, Block, IsBlock, Channel, Reading, Content, nem12, nem13}
+use Rattle.format.specs.Day.{Row, DayRows, daysOf, Day, dayOf}
+use Rattle.theorems.specs.Grammar.{Record, join, text, IsRecord, Block, IsBlock, Channel, Reading, Content, nem12, nem13, InFormat}
 
 -- ---- places
 
@@ -66,13 +67,41 @@ abbrev pub meanings : Content → List Day
 meanings (nem12 cs) = channelMeanings cs
 meanings (nem13 rs) = []
 
--- the bytes s are, as a block behind a 200, the day d
-pub record ReadsAs (s : List ℕ) (d : Day) : Type 0 where
-  pub n : ℕ
+-- in some way in which the file is in the format, its day k is this one
+pub record Means (file : List ℕ) (k : ℕ) (day : Day) : Type 0 where
+  pub v : ℕ
+  pub c : ℕ
+  pub d : ℕ
+  pub how : InFormat file v c d
+  pub more : List Day
+  pub is : drop k (meanings (how .content)) ≡ day ∷ more
+
+-- the bytes s are, as a block behind this 200, the day
+pub record ReadsAs (head : Record) (s : List ℕ) (day : Day) : Type 0 where
+  pub is-head : IsRecord 200 0 head
   pub block : Block
-  pub good : IsBlock n block
+  pub good : IsBlock (intervalsIn head) block
   pub bytes : s ≡ text (rowsOf block)
-  pub is : d ≡ dayIn n block
+  pub is : day ≡ dayIn (intervalsIn head) block
+
+-- at p in the file stands a block that is this day
+pub record StandsAt (file : List ℕ) (p : ℕ) (day : Day) : Type 0 where
+  pub before : List ℕ
+  pub block : List ℕ
+  pub after : List ℕ
+  pub is : file ≡ before ++ (block ++ after)
+  pub place : length before ≡ p
+  pub head : Record
+  pub reads : ReadsAs head block day
+
+-- the file's day k has one meaning: it is what a reading finds, it stands in the file at its place, and no other day is day k
+pub record OneDay (file : List ℕ) (k : ℕ) : Type 0 where
+  pub rows : DayRows
+  pub more : List DayRows
+  pub found : drop k (daysOf file) ≡ rows ∷ more
+  pub means : Means file k (dayOf rows)
+  pub only : (other : Day) → Means file k other → other ≡ dayOf rows
+  pub stands : StandsAt file (rows .top .place) (dayOf rows)
 
 -- ---- totals: "A 200's total is the sum of its days' values; a 250's is its quantity."
 
