@@ -133,6 +133,25 @@ head x k h =
     (λ u. let w = in-range 7 8 x (or-true (between 3 5 x) (between 7 8 x) t u) in basic900 (eqb-true k 900 e) (w .0) (w .1)))
     λ e₈. absurd (false≢true (rw (e₁, e₂, e₃, e₄, e₅, e₆, e₇, e₈) at h))
 
+-- where one kind only may come
+pub record Only (x k : ℕ) : Type 0 where
+  pub at-0 : x ≡ 0 → k ≡ 100
+  pub at-1 : x ≡ 1 → k ≡ 200
+  pub at-2 : x ≡ 2 → k ≡ 300
+  pub at-6 : x ≡ 6 → k ≡ 250
+
+pub only : (x k : ℕ) → Head x k → Only x k
+only x k (h100 q z) = record { at-0 = λ e. omega arith; at-1 = λ e. omega arith; at-2 = λ e. omega arith; at-6 = λ e. omega arith }
+only x k (h200 q z) = record { at-0 = λ e. omega arith; at-1 = λ e. omega arith; at-2 = λ e. omega arith; at-6 = λ e. omega arith }
+only x k (more200 q z w) = record { at-0 = λ e. omega arith; at-1 = λ e. omega arith; at-2 = λ e. omega arith; at-6 = λ e. omega arith }
+only x k (h300 q z w) = record { at-0 = λ e. omega arith; at-1 = λ e. omega arith; at-2 = λ e. omega arith; at-6 = λ e. omega arith }
+only x k (h400 q z) = record { at-0 = λ e. omega arith; at-1 = λ e. omega arith; at-2 = λ e. omega arith; at-6 = λ e. omega arith }
+only x k (h500 q z w) = record { at-0 = λ e. omega arith; at-1 = λ e. omega arith; at-2 = λ e. omega arith; at-6 = λ e. omega arith }
+only x k (h250 q z w) = record { at-0 = λ e. omega arith; at-1 = λ e. omega arith; at-2 = λ e. omega arith; at-6 = λ e. omega arith }
+only x k (h550 q z) = record { at-0 = λ e. omega arith; at-1 = λ e. omega arith; at-2 = λ e. omega arith; at-6 = λ e. omega arith }
+only x k (h900 q z w) = record { at-0 = λ e. omega arith; at-1 = λ e. omega arith; at-2 = λ e. omega arith; at-6 = λ e. omega arith }
+only x k (basic900 q z w) = record { at-0 = λ e. omega arith; at-1 = λ e. omega arith; at-2 = λ e. omega arith; at-6 = λ e. omega arith }
+
 -- ---- single tests, both ways
 
 pub free-of : (st : Due) (k : ℕ) → isOpen st k ≡ false → (k ≡ 400 → ⊥) → st .expect ≡ 4 → st .n < st .next

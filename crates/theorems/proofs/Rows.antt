@@ -22,7 +22,7 @@ use Rattle.theorems.proofs.Ends.{Tidy, tidied, indicator-tidy}
 use Rattle.theorems.proofs.Across.{unbroken-together, together-unbroken}
 
 -- rules, met one for one
-abbrev Obeyed : ℕ → List Rule → Record → Type 0
+abbrev pub Obeyed : ℕ → List Rule → Record → Type 0
 Obeyed k [] [] = Unit {0}
 Obeyed k [] (f ∷ fs) = ⊥
 Obeyed k (u ∷ us) [] = ⊥
@@ -84,11 +84,17 @@ meets-at k (u ∷ us) (f ∷ fs) zero h l = h .1
 meets-at k (u ∷ us) (f ∷ fs) (suc i) h l = meets-at k us fs i (h .2) (omega arith)
 
 -- fields that obey rules which leave no space at an end
-obeyed-meets : (k : ℕ) (us : List Rule) (fs : Record) → Each Tidy us → Obeyed k us fs → Bytes fs → Meets k us fs
-obeyed-meets k [] [] t h b = tt
-obeyed-meets k [] (f ∷ fs) t h b = h
-obeyed-meets k (u ∷ us) [] t h b = h
-obeyed-meets k (u ∷ us) (f ∷ fs) t h b = ((b .0, t .0 k f (h .0)), h .0, obeyed-meets k us fs (t .1) (h .1) (b .1))
+obeyed-tidy : (k : ℕ) (us : List Rule) (fs : Record) → Each Tidy us → Obeyed k us fs → Each (λ f. endSpace f ≡ false) fs
+obeyed-tidy k [] [] t h = tt
+obeyed-tidy k [] (f ∷ fs) t h = absurd h
+obeyed-tidy k (u ∷ us) [] t h = absurd h
+obeyed-tidy k (u ∷ us) (f ∷ fs) t h = (t .0 k f (h .0), obeyed-tidy k us fs (t .1) (h .1))
+
+obeyed-meets : (k : ℕ) (us : List Rule) (fs : Record) → Obeyed k us fs → Bytes fs → Each (λ f. endSpace f ≡ false) fs → Meets k us fs
+obeyed-meets k [] [] h b s = tt
+obeyed-meets k [] (f ∷ fs) h b s = h
+obeyed-meets k (u ∷ us) [] h b s = h
+obeyed-meets k (u ∷ us) (f ∷ fs) h b s = ((b .0, s .0), h .0, obeyed-meets k us fs (h .1) (b .1) (s .1))
 
 -- ---- a record
 
@@ -100,16 +106,23 @@ Fields fs = (1 ≤ length fs) × Bytes fs
 abbrev pub Ok : ℕ → ℕ → Record → Type 0
 Ok k n fs = (length fs ≡ countOf k n) × (faultIn k n 0 0 fs ≡ Fine) × (brokenIn k n fs ≡ 0)
 
+-- the rules imply that no field of a record begins or ends with a space
+pub no-end-space : (k n : ℕ) (fs : Record) → (kindIn fs ≡ 0 → ⊥) → Obeyed k (rowOf k n) fs → Each (λ f. endSpace f ≡ false) fs
+no-end-space k n [] z h = tt
+no-end-space k n (f ∷ fs) z h =
+    let w = tidied k n in
+    let d : Obeyed k (Indicator ∷ w .tail) (f ∷ fs) = rw (w .is) at h in
+    (indicator-tidy f fs z, obeyed-tidy k (w .tail) fs (w .tidy) (d .1))
+
 pub is-record : (k n : ℕ) (fs : Record) → (k ≡ 0 → ⊥) → Fields fs → kindIn fs ≡ k → Ok k n fs → IsRecord k n fs
 unfolding countOf
-is-record k n [] z h e o = absurd (let x : 1 ≤ 0 = h .0 in let y : ⊥ = omega arith in y)
-is-record k n (f ∷ fs) z h e o =
-    let w = tidied k n in
-    let d : Obeyed k (rowOf k n) (f ∷ fs) = fine-obeyed k n 0 0 (rowOf k n) (f ∷ fs) refl (o .0) (o .1) in
-    let d₁ : Obeyed k (Indicator ∷ w .tail) (f ∷ fs) = rw (w .is) at d in
-    let m : Meets k (Indicator ∷ w .tail) (f ∷ fs) =
-    ((h .1 .0, indicator-tidy f fs (λ x. z (sym e ∙ x))), d₁ .0, obeyed-meets k (w .tail) fs (w .tidy) (d₁ .1) (h .1 .1)) in
-    record { indicator = e; meets = rw (w .is) m; together = unbroken-together k (f ∷ fs) n (o .2) }
+is-record k n fs z h e o =
+    let d : Obeyed k (rowOf k n) fs = fine-obeyed k n 0 0 (rowOf k n) fs refl (o .0) (o .1) in
+    record {
+      indicator = e;
+      meets = obeyed-meets k (rowOf k n) fs d (h .1) (no-end-space k n fs (λ x. z (sym e ∙ x)) d);
+      together = unbroken-together k fs n (o .2);
+    }
 
 pub record-fields : (k n : ℕ) (fs : Record) → IsRecord k n fs → Fields fs
 record-fields k n [] r =
