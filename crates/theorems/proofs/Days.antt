@@ -1,21 +1,19 @@
 -- The days that the lines of a file in the format show are those of its grammar, in order and with their places; and so are the channels' totals. Assumes nothing.
-use Prim.Native.Nat.{ℕ, zero, suc, _+_, _≤_, _<_}
-use mathlib.Core.Path.{_≡_, refl, sym, ap, _∙_, subst}
-use mathlib.Core.Bool.{Bool, true, false, cond}
+use Prim.Native.Nat.{ℕ, _+_}
+use mathlib.Core.Path.{_≡_, refl, ap, _∙_}
 use mathlib.Core.List.{List, [], _∷_, _++_}
 use native.Mathlib.Omega.{arith}
 use lib.ListN.{length}
-use lib.Dec.{eqb}
 use borrow.Author.Tests.{eq-eqb, ne-eqb}
 use Rattle.ground.specs.Lists.{sum}
-use Rattle.format.specs.Cut.{Lines, line, rest, lines, fields}
-use Rattle.format.specs.Records.{kindIn, intervalsIn, dateIn, valuesIn, quantityIn}
+use Rattle.format.specs.Cut.{line, lines, fields}
+use Rattle.format.specs.Records.{intervalsIn, dateIn, valuesIn, quantityIn}
 use Rattle.format.specs.Day.{Row, DayRows, runsFrom, daysFrom, daysOf}
 use Rattle.format.specs.Total.{sumFrom, totalsFrom}
 use Rattle.theorems.specs.Grammar.{Each, Record, join, text, IsRecord, Block, Extra, IsBlock, Channel, IsChannel, Reading, IsReading, Content, nem12, nem13, IsContent, blocksThen, channelsThen, readingsThen, contentThen, InFormat}
-use Rattle.theorems.specs.Days.{behind, rowsAt, rowsOf, dayAt, blockDays, behindBlocks, channelDays, contentDays, blocksTotal, channelTotals, readingTotals, totals}
+use Rattle.theorems.specs.Days.{behind, rowsAt, blockDays, behindBlocks, channelDays, contentDays, blocksTotal, channelTotals, readingTotals, totals}
 use Rattle.theorems.proofs.Bytes.{lines-row}
-use Rattle.theorems.proofs.Rows.{Fields, record-fields}
+use Rattle.theorems.proofs.Rows.{record-fields}
 use Rattle.theorems.proofs.Takes.{fields-of}
 
 -- ---- one record

@@ -1,17 +1,17 @@
 -- A record has no fault exactly when each test passes; the kinds by what may come; the marks of a cover. Assumes nothing.
-use Prim.Native.Nat.{ℕ, zero, suc, _+_, _-_, _≤_, _<_}
-use mathlib.Core.Path.{_≡_, refl, sym, ap, _∙_, subst}
-use mathlib.Core.Bool.{Bool, true, false, true≢false, false≢true, cond, not, _&&_, _||_}
+use Prim.Native.Nat.{ℕ, _≤_, _<_}
+use mathlib.Core.Path.{_≡_, refl, sym}
+use mathlib.Core.Bool.{Bool, true, false, true≢false, false≢true, not, _&&_, _||_}
 use mathlib.Core.List.{List, [], _∷_}
 use native.Mathlib.Omega.{arith}
 use lib.ListN.{length}
-use lib.Dec.{eqb, leb, ltb}
+use lib.Dec.{eqb, leb}
 use borrow.Author.Tests.{eqb-true, eqb-false, eq-eqb, ne-eqb, lt-leb, leb-true, leb-false, le-ltb, ltb-false, not-false}
 use Rattle.ground.specs.Lists.{all, spanOf, same}
 use Rattle.format.specs.Bytes.{plain}
 use Rattle.format.specs.Quality.{Mark, sameMark}
 use Rattle.format.specs.Cut.{fields}
-use Rattle.format.specs.Records.{kindIn, lastIn, markIn}
+use Rattle.format.specs.Records.{kindIn, markIn}
 use Rattle.format.specs.Order.{Due, between, mayCome, alikeWith, on400}
 use Rattle.format.specs.Faults.{_▹_, stop, f3, isOpen, f10, f4, size, f5, f6, f7, isLate, f8, isOff, f9, isAlike, f11, isElsewhere, f12, faultAt, faultOf}
 use Rattle.format.specs.declared.Fault.{Fault}

@@ -1,15 +1,14 @@
 -- The fault of one record is the first entry of the table, in 01's order, that is given of it: link by link. Assumes nothing.
 use Prim.Native.Nat.{ℕ, zero, suc, _+_, _-_, _/_, _≤_, _<_}
-use mathlib.Core.Path.{_≡_, refl, sym, ap, _∙_, subst}
-use mathlib.Core.Logic.{_≢_, _⊎_, inl, inr, _↔_}
-use mathlib.Core.Bool.{Bool, true, false, true≢false, false≢true, cond, not, _&&_, _||_}
+use mathlib.Core.Path.{_≡_, refl, sym, _∙_, subst}
+use mathlib.Core.Logic.{inl, inr}
+use mathlib.Core.Bool.{Bool, true, false, true≢false, not, _&&_, _||_}
 use mathlib.Core.List.{List, [], _∷_}
 use native.Mathlib.Omega.{arith}
-use native.Mathlib.Numerals.{add-one}
 use lib.ListN.{length, getD, take, length-take}
 use lib.Seq.{getD-take}
 use lib.Dec.{eqb, leb, ltb}
-use borrow.Author.Tests.{eqb-true, eqb-false, eq-eqb, ne-eqb, le-leb, leb-true, leb-false, ltb-true, ltb-false, not-true, not-false}
+use borrow.Author.Tests.{eqb-true, eqb-false, eq-eqb, ne-eqb, le-leb, leb-true, ltb-true, ltb-false, not-true, not-false}
 use Rattle.ground.specs.Lists.{all, spanOf}
 use Rattle.format.specs.Bytes.{plain}
 use Rattle.format.specs.Cut.{fields, field, startOf}
@@ -99,10 +98,12 @@ module _ (st : Due) (k n : ℕ) (fs : Record) where
   link-9 =
       test-link (isOff st k fs) (startOf 1 fs) 2 (entry9 st k n fs)
       (λ t.
-      let a = and-true (eqb k 400) (not (covers st fs)) t in
-      (eqb-true _ _ (a .0),
-      λ w. true≢false (let z : covers st fs ≡ false = not-true _ (a .1) in let y : true ≡ false = (rw (eq-eqb _ _ (w .0), le-leb _ _ (w .1), le-leb _ _ (w .2)) at z) in y),
-      refl, refl))
+      let a = and-true (eqb k 400) (not (covers st fs)) t in (
+        eqb-true _ _ (a .0),
+        λ w. true≢false (let z : covers st fs ≡ false = not-true _ (a .1) in let y : true ≡ false = (rw (eq-eqb _ _ (w .0), le-leb _ _ (w .1), le-leb _ _ (w .2)) at z) in y),
+        refl,
+        refl,
+      ))
       (λ t o i g.
       let z : not (covers st fs) ≡ false = rw (eq-eqb _ _ (g .0)) at t in
       let a = and-true (eqb (firstIn fs) (st .next)) (leb (firstIn fs) (lastIn fs) && leb (lastIn fs) (st .n)) (not-false _ z) in
@@ -125,11 +126,13 @@ module _ (st : Due) (k n : ℕ) (fs : Record) where
       test-link (isElsewhere st k fs) (startOf 3 fs) 4 (entry12 st k n fs)
       (λ t.
       let a = and-true (eqb k 500) (not (onDay (st .date) (readTimeIn fs))) t in
-      let b : (eqb (readTimeIn fs) 0 || eqb (readTimeIn fs / 1000000) (st .date)) ≡ false = not-true _ (a .1) in
-      (eqb-true _ _ (a .0),
-      λ e. true≢false (let z : true ≡ false = (rw (eq-eqb _ _ e) at b) in z),
-      λ e. by (eqb (readTimeIn fs) 0) (λ u. true≢false (let z : true ≡ false = (rw u at b) in z)) (λ u. true≢false (let z : true ≡ false = (rw (u, eq-eqb _ _ e) at b) in z)),
-      refl, refl))
+      let b : (eqb (readTimeIn fs) 0 || eqb (readTimeIn fs / 1000000) (st .date)) ≡ false = not-true _ (a .1) in (
+        eqb-true _ _ (a .0),
+        λ e. true≢false (let z : true ≡ false = (rw (eq-eqb _ _ e) at b) in z),
+        λ e. by (eqb (readTimeIn fs) 0) (λ u. true≢false (let z : true ≡ false = (rw u at b) in z)) (λ u. true≢false (let z : true ≡ false = (rw (u, eq-eqb _ _ e) at b) in z)),
+        refl,
+        refl,
+      ))
       (λ t o i g. true≢false (let z : true ≡ false = (rw (eq-eqb _ _ (g .0), ne-eqb _ _ (g .1), ne-eqb _ _ (g .2)) at t) in z))
 
 -- ---- 6
@@ -186,14 +189,14 @@ module _ (k n : ℕ) where
   link-6 st fs =
       record {
         stops = λ x o i e.
-          (let w = fault-breaks 0 0 fs x o i e in
-          let b = w .2 in
-          let z : (l : ℕ) → 0 + l ≡ l = λ l. omega arith in
-          (w .0, (w .1, b .inside, rw (z (w .1)) at (b .broken), λ l h. rw (z l) at (b .before l h), omega (arith, w .3), omega (arith, w .4))));
+            (let w = fault-breaks 0 0 fs x o i e in
+            let b = w .2 in
+            let z : (l : ℕ) → 0 + l ≡ l = λ l. omega arith in
+            (w .0, (w .1, b .inside, rw (z (w .1)) at (b .broken), λ l h. rw (z l) at (b .before l h), omega (arith, w .3), omega (arith, w .4))));
         fine = λ e o i g.
-          (let z : 0 + g .0 ≡ g .0 = omega arith in
-          let t : obeys k (ruleOf k n (g .0)) (field (g .0) fs) ≡ true = rw z at (fine-unbroken 0 0 fs e (g .0) (g .1)) in
-          true≢false (sym t ∙ g .2));
+            (let z : 0 + g .0 ≡ g .0 = omega arith in
+            let t : obeys k (ruleOf k n (g .0)) (field (g .0) fs) ≡ true = rw z at (fine-unbroken 0 0 fs e (g .0) (g .1)) in
+            true≢false (sym t ∙ g .2));
       }
 
 -- ---- 7
@@ -291,11 +294,12 @@ leftmost-place : (a b : ℕ) → (a < b → ⊥) → (b < a → ⊥) → a ≡ b
 leftmost-place a b h k = by (ltb a b) (λ t. absurd (h (ltb-true a b t))) (λ t. by (ltb b a) (λ u. absurd (k (ltb-true b a u))) (λ u. omega (arith, ltb-false a b t, ltb-false b a u)))
 
 single-3 : (r : List ℕ) → Single (entry3 r)
-single-3 r o i p j a b =
-    (leftmost-place o p
-    (λ l. true≢false (sym (plain-before o p (a .0) (b .1) l) ∙ a .2))
-    (λ l. true≢false (sym (plain-before p o (b .0) (a .1) l) ∙ b .2)),
-    a .3 ∙ sym (b .3))
+single-3 r o i p j a b = (
+  leftmost-place o p
+      (λ l. true≢false (sym (plain-before o p (a .0) (b .1) l) ∙ a .2))
+      (λ l. true≢false (sym (plain-before p o (b .0) (a .1) l) ∙ b .2)),
+  a .3 ∙ sym (b .3),
+)
   where
     plain-before : (s t : ℕ) → s < length r → all plain (take t r) ≡ true → s < t → plain (getD r s 0) ≡ true
     plain-before s t h k l =
@@ -324,17 +328,34 @@ singles : (st : Due) (r : List ℕ) → Singles (inOrder st r)
 singles st r =
     let fs : Record = fields r in
     let k : ℕ = kindIn fs in
-    let n : ℕ = size st k in
-    (single-3 r,
-    (λ o i p j a b. (a .3 ∙ sym (b .3), a .4 ∙ sym (b .4)),
-    (λ o i p j a b. (a .1 ∙ sym (b .1), a .2 ∙ sym (b .2)),
-    (λ o i p j a b. (a .1 ∙ sym (b .1), a .2 ∙ sym (b .2)),
-    (single-6 st k n fs,
-    (single-7 st k n fs,
-    (λ o i p j a b. (a .2 ∙ sym (b .2), a .3 ∙ sym (b .3)),
-    (λ o i p j a b. (a .2 ∙ sym (b .2), a .3 ∙ sym (b .3)),
-    (λ o i p j a b. (a .3 ∙ sym (b .3), a .4 ∙ sym (b .4)),
-    (λ o i p j a b. (a .3 ∙ sym (b .3), a .4 ∙ sym (b .4)), tt))))))))))
+    let n : ℕ = size st k in (
+      single-3 r,
+      (
+        λ o i p j a b. (a .3 ∙ sym (b .3), a .4 ∙ sym (b .4)),
+        (
+          λ o i p j a b. (a .1 ∙ sym (b .1), a .2 ∙ sym (b .2)),
+          (
+            λ o i p j a b. (a .1 ∙ sym (b .1), a .2 ∙ sym (b .2)),
+            (
+              single-6 st k n fs,
+              (
+                single-7 st k n fs,
+                (
+                  λ o i p j a b. (a .2 ∙ sym (b .2), a .3 ∙ sym (b .3)),
+                  (
+                    λ o i p j a b. (a .2 ∙ sym (b .2), a .3 ∙ sym (b .3)),
+                    (
+                      λ o i p j a b. (a .3 ∙ sym (b .3), a .4 ∙ sym (b .4)),
+                      (λ o i p j a b. (a .3 ∙ sym (b .3), a .4 ∙ sym (b .4)), tt),
+                    ),
+                  ),
+                ),
+              ),
+            ),
+          ),
+        ),
+      ),
+    )
 
 module _ (st : Due) (r : List ℕ) where
   pub none-fine : None (inOrder st r) → faultOf st r ≡ Fine

@@ -1,8 +1,8 @@
 -- What the days of a file in the format mean, by its grammar: the same at every place, as many days and channels as the check answers, n values and n marks, each
 -- interval with the mark of the record that names it. Assumes nothing.
-use Prim.Native.Nat.{ℕ, zero, suc, _+_, _-_, _≤_, _<_}
+use Prim.Native.Nat.{ℕ, suc, _+_, _-_, _≤_, _<_}
 use mathlib.Core.Path.{_≡_, refl, sym, ap, _∙_}
-use mathlib.Core.Bool.{Bool, true, false, cond}
+use mathlib.Core.Bool.{true, false}
 use mathlib.Core.List.{List, [], _∷_, _++_, map}
 use native.Mathlib.Omega.{arith}
 use lib.ListN.{length, getD, take, drop, replicate, length-append, length-take, length-drop, length-map, length-replicate, getD-replicate, List·getD-append}
@@ -146,9 +146,10 @@ low n a (r ∷ rs) c = let e = c .0 in let l = c .1 in (omega arith, weaken rs (
 -- behind m more marks
 further : (a s : ℕ) (ms ns : List Mark) (rs : List Record) → a + length ms ≡ s → Each (λ r. s ≤ firstIn r) rs → Gives s ns rs → Gives a (ms ++ ns) rs
 further a s ms ns [] e l h = tt
-further a s ms ns (r ∷ rs) e l h =
-    (λ i lo hi. (let x : s ≤ firstIn r = l .0 in let z : i - a ≡ length ms + (i - s) = omega arith in rw z (getD-append-add ms ns (i - s) noMark ∙ h .0 i lo hi)),
-    further a s ms ns rs e (l .1) (h .1))
+further a s ms ns (r ∷ rs) e l h = (
+  λ i lo hi. (let x : s ≤ firstIn r = l .0 in let z : i - a ≡ length ms + (i - s) = omega arith in rw z (getD-append-add ms ns (i - s) noMark ∙ h .0 i lo hi)),
+  further a s ms ns rs e (l .1) (h .1),
+)
 
 cover-gives : (n a p : ℕ) (rs : List Record) → Covers n a rs → Gives a (coverOf marked (rowsAt p rs)) rs
 unfolding coverOf
@@ -159,9 +160,10 @@ cover-gives n a p (r ∷ rs) c =
     let e : firstIn r ≡ a = c .0 in
     let l : firstIn r ≤ lastIn r = c .1 in
     let ms : List Mark = replicate m (markIn r) in
-    let k : length ms ≡ m = length-replicate m (markIn r) in
-    (λ i lo hi. (let z : i - a < m = omega arith in List·getD-append ms (coverOf marked (rowsAt q rs)) noMark (i - a) (omega arith) ∙ getD-replicate m (i - a) (markIn r) noMark z),
-    further a (lastIn r + 1) ms (coverOf marked (rowsAt q rs)) rs (omega arith) (low n (lastIn r + 1) rs (c .3)) (cover-gives n (lastIn r + 1) q rs (c .3)))
+    let k : length ms ≡ m = length-replicate m (markIn r) in (
+      λ i lo hi. (let z : i - a < m = omega arith in List·getD-append ms (coverOf marked (rowsAt q rs)) noMark (i - a) (omega arith) ∙ getD-replicate m (i - a) (markIn r) noMark z),
+      further a (lastIn r + 1) ms (coverOf marked (rowsAt q rs)) rs (omega arith) (low n (lastIn r + 1) rs (c .3)) (cover-gives n (lastIn r + 1) q rs (c .3)),
+    )
 
 -- on a V day, each 400 gives its mark to the intervals from its first to its last (they count from 1)
 pub interval-marks : (n : ℕ) (b : Block) → IsBlock n b → isVaried n (b .top) ≡ true → Gives 1 (dayIn n b .marks) (b .runs)

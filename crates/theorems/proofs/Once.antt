@@ -1,5 +1,5 @@
 -- A file in the format has one structure, and the bytes of a block are one block: records are told apart by their indicators. Assumes nothing.
-use Prim.Native.Nat.{ℕ, zero, suc, _+_, _≤_, _<_}
+use Prim.Native.Nat.{ℕ, _+_}
 use mathlib.Core.Path.{_≡_, refl, sym, ap, _∙_, subst}
 use mathlib.Core.Logic.{_≢_}
 use mathlib.Core.List.{List, [], _∷_, _++_, append-nil}
@@ -10,8 +10,8 @@ use Rattle.format.specs.Records.{kindIn, versionIn, intervalsIn, dateIn, rowOf}
 use Rattle.format.specs.Day.{Day}
 use Rattle.format.specs.declared.Rule.{Rule}
 use Rattle.format.specs.declared.Rule.the-variants.{Value, Quality, Reason, Description, Time, Load}
-use Rattle.theorems.specs.Grammar.{Each, Record, join, text, IsRecord, Block, Extra, IsBlock, Channel, IsChannel, Reading, IsReading, Content, nem12, nem13, IsContent, blocksThen, channelsThen, readingsThen, contentThen, InFormat}
-use Rattle.theorems.specs.Days.{rowsOf, dayIn, ReadsAs}
+use Rattle.theorems.specs.Grammar.{Each, Record, join, text, IsRecord, Block, IsBlock, Channel, IsChannel, Reading, IsReading, Content, nem12, nem13, IsContent, blocksThen, channelsThen, readingsThen, contentThen, InFormat}
+use Rattle.theorems.specs.Days.{ReadsAs}
 use Rattle.theorems.proofs.Bytes.{lines-row}
 use Rattle.theorems.proofs.Rows.{Fields, record-fields, meets-length}
 use Rattle.theorems.proofs.Takes.{fields-of}
@@ -40,10 +40,11 @@ records-all k n [] h = tt
 records-all k n (r ∷ rs) h = (record-fields k n r (h .0), records-all k n rs (h .1))
 
 block-all : (n : ℕ) (b : Block) (t : List Record) → IsBlock n b → Each Fields t → Each Fields (b .top ∷ (b .runs ++ (b .extra ++ t)))
-block-all n b t h g =
-    (record-fields 300 n (b .top) (h .top),
-    each-append (b .runs) (b .extra ++ t) (records-all 400 0 (b .runs) (h .runs))
-    (each-append (b .extra) t (records-all 500 0 (b .extra) (extras-500 (dateIn (b .top)) (b .extra) (h .extra))) g))
+block-all n b t h g = (
+  record-fields 300 n (b .top) (h .top),
+  each-append (b .runs) (b .extra ++ t) (records-all 400 0 (b .runs) (h .runs))
+      (each-append (b .extra) t (records-all 500 0 (b .extra) (extras-500 (dateIn (b .top)) (b .extra) (h .extra))) g),
+)
 
 blocks-all : (n : ℕ) (bs : List Block) (t : List Record) → Each (IsBlock n) bs → Each Fields t → Each Fields (blocksThen bs t)
 blocks-all n [] t h g = g

@@ -1,17 +1,17 @@
 -- Day k of an accepted file has exactly one meaning, and it is that of the block that stands at its place. Assumes nothing.
 use Prim.Native.Nat.{ℕ, zero, suc, _+_, _≤_, _<_}
-use mathlib.Core.Path.{_≡_, refl, sym, ap, _∙_, subst}
+use mathlib.Core.Path.{_≡_, refl, sym, ap, _∙_}
 use mathlib.Core.List.{List, [], _∷_, _++_, map, append-assoc}
 use native.Mathlib.Omega.{arith}
 use lib.ListN.{length, drop, length-append, drop-of-length-le}
 use Rattle.format.specs.Records.{intervalsIn}
 use Rattle.format.specs.Day.{DayRows, daysOf, Day, dayOf}
-use Rattle.format.specs.Answers.{Answer, accepted}
+use Rattle.format.specs.Answers.{accepted}
 use Rattle.format.specs.File.{checkOf}
-use Rattle.theorems.specs.Grammar.{Each, Record, join, text, IsRecord, Block, IsBlock, Channel, IsChannel, Reading, Content, nem12, nem13, IsContent, blocksThen, channelsThen, contentThen, InFormat}
-use Rattle.theorems.specs.Days.{behind, rowsOf, dayAt, blockDays, behindBlocks, channelDays, contentDays, dayIn, meanings, Means, ReadsAs, StandsAt, OneDay}
+use Rattle.theorems.specs.Grammar.{Each, Record, join, text, IsRecord, Block, IsBlock, Channel, IsChannel, Content, nem12, nem13, IsContent, blocksThen, channelsThen, contentThen}
+use Rattle.theorems.specs.Days.{behind, rowsOf, blockDays, behindBlocks, channelDays, contentDays, meanings, Means, StandsAt, OneDay}
 use Rattle.theorems.proofs.Format.{format}
-use Rattle.theorems.proofs.Days.{days, behind-append}
+use Rattle.theorems.proofs.Days.{days}
 use Rattle.theorems.proofs.Meaning.{day-anywhere, meaning, day-count}
 
 -- ---- bytes and places

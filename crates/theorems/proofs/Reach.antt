@@ -1,8 +1,8 @@
 -- A refusal other than 1 is that of one record, which the walk reaches through the records before it: where it starts, in which state, and why it is refused there.
 -- From that the first-fault theorems follow: what stands before the record is only not finished, and what stands behind it plays no part. Assumes nothing.
-use Prim.Native.Nat.{ℕ, zero, suc, _+_, _≤_, _<_}
+use Prim.Native.Nat.{ℕ, suc, _+_, _≤_}
 use mathlib.Core.Path.{_≡_, refl, sym, ap, _∙_, subst}
-use mathlib.Core.Bool.{Bool, true, false, true≢false, cond}
+use mathlib.Core.Bool.{true, false, true≢false}
 use mathlib.Core.List.{List, [], _∷_, _++_, append-nil}
 use native.Mathlib.Omega.{arith}
 use native.Mathlib.Numerals.{add-one}
@@ -12,7 +12,7 @@ use borrow.Author.Tests.{eqb-true, eqb-false, eq-eqb, ne-eqb}
 use Rattle.format.specs.Cut.{Lines, line, rest, lines}
 use Rattle.format.specs.Order.{Due, begun}
 use Rattle.format.specs.Faults.{faultOf}
-use Rattle.format.specs.Answers.{Answer, accepted, refused, refusal}
+use Rattle.format.specs.Answers.{Answer, accepted, refused}
 use Rattle.format.specs.File.{after, orGoOn, walkOf, checkOf}
 use Rattle.format.specs.declared.Fault.{Fault}
 use Rattle.format.specs.declared.Fault.the-variants.{Fine, Stop}
@@ -164,9 +164,12 @@ module _ (file : List ℕ) (x q k i : ℕ) (e : checkOf file ≡ refused x q k i
   -- and for 13 they are accepted
   pub prefix-13 : x ≡ 13 → (v c d : ℕ) × (checkOf (take (placeOf k file) file) ≡ accepted (v ∷ c ∷ d ∷ []))
   unfolding walkOf
-  prefix-13 y =
-      (stateAt k file .version, stateAt k file .channels, stateAt k file .days,
-      cut-there file k (w .has) (w .same) (c .0) (accepted (stateAt k file .version ∷ stateAt k file .channels ∷ stateAt k file .days ∷ [])) (go (w .why)))
+  prefix-13 y = (
+    stateAt k file .version,
+    stateAt k file .channels,
+    stateAt k file .days,
+    cut-there file k (w .has) (w .same) (c .0) (accepted (stateAt k file .version ∷ stateAt k file .channels ∷ stateAt k file .days ∷ [])) (go (w .why)),
+  )
     where
       c : (length file ≤ 1048576) × Refusal file x q k i
       c = refusal-of file x q k i e (λ z. omega arith)

@@ -1,21 +1,18 @@
 -- The fields of a record meet the rules of its row exactly when they are as many and none is at fault. Assumes nothing.
 use Prim.Native.Nat.{ℕ, zero, suc, _+_, _≤_, _<_}
-use mathlib.Core.Path.{_≡_, refl, sym, ap, _∙_, subst}
-use mathlib.Core.Bool.{Bool, true, false, true≢false, cond}
+use mathlib.Core.Path.{_≡_, refl, sym, ap, _∙_}
+use mathlib.Core.Bool.{true, false, true≢false, cond}
 use mathlib.Core.List.{List, [], _∷_}
 use native.Mathlib.Omega.{arith}
-use native.Mathlib.Numerals.{add-one}
 use lib.ListN.{length, getD, drop}
 use lib.Seq.{getD-drop, drop-drop}
-use Rattle.ground.specs.Lists.{all}
-use Rattle.format.specs.Bytes.{fieldByte, endSpace}
+use Rattle.format.specs.Bytes.{endSpace}
 use Rattle.format.specs.Records.{kindIn, rowOf, countOf, ruleOf, obeys}
 use Rattle.format.specs.Faults.{faultIn, brokenIn}
-use Rattle.format.specs.declared.Fault.{Fault}
 use Rattle.format.specs.declared.Fault.the-variants.{Fine, Stop}
 use Rattle.format.specs.declared.Rule.{Rule}
 use Rattle.format.specs.declared.Rule.the-variants.{Indicator}
-use Rattle.theorems.specs.Grammar.{Each, Record, Clean, Meets, IsRecord}
+use Rattle.theorems.specs.Grammar.{Each, Record, Meets, IsRecord}
 use Rattle.theorems.proofs.Tests.{by}
 use Rattle.theorems.proofs.Bytes.{Bytes}
 use Rattle.theorems.proofs.Ends.{Tidy, tidied, indicator-tidy}

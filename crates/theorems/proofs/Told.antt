@@ -1,21 +1,21 @@
 -- What is accepted is written by the grammar: by induction on the records, with a claim for each state. Assumes nothing.
-use Prim.Native.Nat.{ℕ, zero, suc, _+_, _≤_, _<_}
+use Prim.Native.Nat.{ℕ, suc, _+_, _≤_, _<_}
 use mathlib.Core.Path.{_≡_, refl, sym, ap, _∙_, subst}
-use mathlib.Core.Bool.{Bool, true, false, true≢false, cond, not, _&&_}
+use mathlib.Core.Bool.{Bool, true, false, true≢false, cond, _&&_}
 use mathlib.Core.List.{List, [], _∷_, _++_}
 use native.Mathlib.Omega.{arith}
 use lib.ListN.{length}
 use lib.Dec.{eqb, leb}
 use borrow.Author.Tests.{eqb-true, eqb-false, eq-eqb, ne-eqb, leb-true, leb-false, not-false}
 use Rattle.format.specs.Cut.{Lines, line, rest, lines, fields}
-use Rattle.format.specs.Records.{kindIn, versionIn, intervalsIn, dateIn, firstIn, lastIn, readTimeIn}
+use Rattle.format.specs.Records.{kindIn, versionIn, dateIn, firstIn, lastIn, readTimeIn}
 use Rattle.format.specs.Order.{Due, begun, isVaried, alikeWith, on100, on200, on300, on400, on500, on250, on550, on900, afterOf}
 use Rattle.format.specs.Faults.{isLate, covers, isOff, isAlike, onDay, isElsewhere, faultOf}
-use Rattle.format.specs.Answers.{Answer, accepted, refused}
+use Rattle.format.specs.Answers.{accepted, refused}
 use Rattle.format.specs.File.{after, orGoOn, walkOf}
 use Rattle.format.specs.declared.Fault.{Fault}
 use Rattle.format.specs.declared.Fault.the-variants.{Fine, Stop}
-use Rattle.theorems.specs.Grammar.{Each, Rising, Record, text, IsRecord, Block, Covers, Extra, IsBlock, datesOf, Channel, IsChannel, Reading, IsReading, Content, nem12, nem13, blocksThen, channelsThen, readingsThen, blocksIn, InFormat}
+use Rattle.theorems.specs.Grammar.{Each, Rising, Record, text, IsRecord, Block, Covers, Extra, IsBlock, datesOf, Channel, IsChannel, Reading, IsReading, nem12, nem13, blocksThen, channelsThen, readingsThen, blocksIn, InFormat}
 use Rattle.theorems.proofs.Tests.{by, and-true}
 use Rattle.theorems.proofs.Bytes.{bytesOf, bytes-lines, join-fields, fields-some, fields-bytes}
 use Rattle.theorems.proofs.Rows.{Fields, Ok, is-record}
@@ -68,9 +68,10 @@ fit-rec st r k f e z n =
 
 fit-300 : (st : Due) (r : List ℕ) → Fit st r → kindIn (fields r) ≡ 300 → IsRecord 300 (st .n) (fields r) × (st .date < dateIn (fields r))
 unfolding isLate
-fit-300 st r f e =
-    (is-record 300 (st .n) (fields r) (λ z. omega arith) (fit-fields st r f) e (subst (λ (x : ℕ). Ok x (cond (eqb x 300) (st .n) 0) (fields r)) e (f .ok)),
-    leb-false _ _ (rw e at (f .rises)))
+fit-300 st r f e = (
+  is-record 300 (st .n) (fields r) (λ z. omega arith) (fit-fields st r f) e (subst (λ (x : ℕ). Ok x (cond (eqb x 300) (st .n) 0) (fields r)) e (f .ok)),
+  leb-false _ _ (rw e at (f .rises)),
+)
 
 row-bytes : (r : List ℕ) (ls : Lines) (rows : List Record) → bytesOf ls ≡ text rows → bytesOf (line r ls) ≡ text (fields r ∷ rows)
 unfolding text

@@ -51,8 +51,8 @@ module _ (st : Due) (k n : ℕ) (fs : Record) where
   entry6 = record {
     number = 6;
     given = λ o i.
-      ((j : ℕ) × (j < length fs) × (obeys k (ruleOf k n j) (field j fs) ≡ false) × ((l : ℕ) → l < j → obeys k (ruleOf k n l) (field l fs) ≡ true)
-      × (o ≡ startOf j fs) × (i ≡ j + 1));
+        ((j : ℕ) × (j < length fs) × (obeys k (ruleOf k n j) (field j fs) ≡ false) × ((l : ℕ) → l < j → obeys k (ruleOf k n l) (field l fs) ≡ true)
+        × (o ≡ startOf j fs) × (i ≡ j + 1));
   }
 
   -- "a rule across fields is broken": start of the quality field, leftmost quality
