@@ -1,6 +1,6 @@
 -- What the days of a file in the format mean, by its grammar: the same at every place, as many days and channels as the check answers, n values and n marks, each
 -- interval with the mark of the record that names it. Assumes nothing.
-use Prim.Native.Nat.{ℕ, suc, _+_, _-_, _≤_, _<_}
+use Prim.Native.Nat.{ℕ, zero, suc, _+_, _-_, _≤_, _<_}
 use mathlib.Core.Path.{_≡_, refl, sym, ap, _∙_}
 use mathlib.Core.Bool.{true, false}
 use mathlib.Core.List.{List, [], _∷_, _++_, map}
@@ -13,7 +13,7 @@ use Rattle.format.specs.Records.{rowOf, intervalsIn, millionths, valuesIn, firs
 use Rattle.format.specs.Order.{isVaried}
 use Rattle.format.specs.Day.{Row, DayRows, daysOf, coverOf, eachOf, valuesOf, marksOf, Day, dayOf}
 use Rattle.format.specs.Total.{totalsFrom}
-use Rattle.theorems.specs.Grammar.{Each, Record, join, Block, Covers, IsBlock, Channel, Reading, Content, nem12, nem13, channelsIn, blocksIn, daysIn, InFormat}
+use Rattle.theorems.specs.Grammar.{Each, Record, join, Block, Covers, Marked, IsBlock, Channel, Reading, Content, nem12, nem13, channelsIn, blocksIn, daysIn, InFormat}
 use Rattle.theorems.specs.Days.{behind, rowsAt, rowsOf, dayAt, blockDays, behindBlocks, channelDays, contentDays, dayIn, blockMeanings, channelMeanings, meanings, channelTotals, readingTotals, totals}
 use Rattle.theorems.proofs.Tests.{by}
 use Rattle.theorems.proofs.Rows.{meets-length}
@@ -168,3 +168,22 @@ cover-gives n a p (r ∷ rs) c =
 -- on a V day, each 400 gives its mark to the intervals from its first to its last (they count from 1)
 pub interval-marks : (n : ℕ) (b : Block) → IsBlock n b → isVaried n (b .top) ≡ true → Gives 1 (dayIn n b .marks) (b .runs)
 interval-marks n b h e = rw (varied-marks n b h e) (cover-gives n 1 0 (b .runs) (h .covers e))
+
+-- ---- a V day has two intervals with different marks
+
+each-at : (m : Mark) (ms : List Mark) (i : ℕ) → Each (λ x. x ≡ m) ms → i < length ms → getD ms i noMark ≡ m
+each-at m [] i h l = absurd (let z : ⊥ = omega arith in z)
+each-at m (x ∷ ms) zero h l = h .0
+each-at m (x ∷ ms) (suc i) h l = each-at m ms i (h .1) (omega arith)
+
+pub unlike-intervals : (n : ℕ) (b : Block) → IsBlock n b → isVaried n (b .top) ≡ true → (m : Mark) → Each (λ x. x ≡ m) (dayIn n b .marks) → ⊥
+unlike-intervals n b h e m all = h .unlike e (m, go 1 (b .runs) (omega arith) (h .covers e) (interval-marks n b h e))
+  where
+    go : (a : ℕ) (rs : List Record) → 1 ≤ a → Covers n a rs → Gives 1 (dayIn n b .marks) rs → Marked m rs
+    go a [] l c g = tt
+    go a (r ∷ rs) l c g =
+        let x : firstIn r ≡ a = c .0 in
+        let y : firstIn r ≤ lastIn r = c .1 in
+        let z : lastIn r ≤ n = c .2 in
+        let i : firstIn r - 1 < length (dayIn n b .marks) = omega (arith, mark-count n b h) in
+        (sym (g .0 (firstIn r) (omega arith) y) ∙ each-at m (dayIn n b .marks) (firstIn r - 1) all i, go (lastIn r + 1) rs (omega arith) (c .3) (g .1))
