@@ -16,3 +16,4 @@ pub mod Days
 pub mod Once
 pub mod Meaning
 pub mod OneDay
+pub mod Blocks

@@ -16,7 +16,7 @@ use Rattle.theorems.proofs.Meaning.{day-anywhere, meaning, day-count}
 
 -- ---- bytes and places
 
-text-append : (rs us : List Record) → text (rs ++ us) ≡ text rs ++ text us
+pub text-append : (rs us : List Record) → text (rs ++ us) ≡ text rs ++ text us
 unfolding text
 text-append [] us = refl
 text-append (r ∷ rs) us = rw (text-append rs us, append-assoc (join r) (13 ∷ 10 ∷ text rs) (text us))
@@ -26,7 +26,7 @@ unfolding text
 behind-text p [] = omega arith
 behind-text p (r ∷ rs) = behind-text (p + length (join r) + 2) rs ∙ omega (arith, length-append (join r) (13 ∷ 10 ∷ text rs))
 
-block-text : (b : Block) (t : List Record) → text (b .top ∷ (b .runs ++ (b .extra ++ t))) ≡ text (rowsOf b) ++ text t
+pub block-text : (b : Block) (t : List Record) → text (b .top ∷ (b .runs ++ (b .extra ++ t))) ≡ text (rowsOf b) ++ text t
 block-text b t = rw (← append-assoc (b .runs) (b .extra) t) (text-append (rowsOf b) t)
 
 -- ---- each day stands in the file

@@ -84,6 +84,10 @@ pub record ReadsAs (head : Record) (s : List ℕ) (day : Day) : Type 0 where
   pub bytes : s ≡ text (rowsOf block)
   pub is : day ≡ dayIn (intervalsIn head) block
 
+-- the file of a 100, a 200, these bytes and a 900
+abbrev pub around : Record → Record → List ℕ → Record → List ℕ
+around header head s last = text (header ∷ head ∷ []) ++ (s ++ text (last ∷ []))
+
 -- at p in the file stands a block that is this day
 pub record StandsAt (file : List ℕ) (p : ℕ) (day : Day) : Type 0 where
   pub before : List ℕ
