@@ -1,5 +1,5 @@
--- The first fault, as 01's section Refusal numbers has it: for each number from 3 to 12 when it is "given" and at which "place", one entry each; "In one record: 2, 3, 10, 4, 5, 6
--- (leftmost field), 7 (leftmost quality), 8 or 9, 11 or 12"; and when a check of a whole file gives which number.
+-- The first fault, as 01's section Refusal numbers has it: for each number from 3 to 12 when it is "given" and at which "place", one entry each; their order,
+-- "In one record: 2, 3, 10, 4, 5, 6 (leftmost field), 7 (leftmost quality), 8 or 9, 11 or 12"; and when a check of a whole file gives which number.
 use Prim.Native.Nat.{ℕ, zero, suc, _+_, _/_, _≤_, _<_}
 use mathlib.Core.Path.{_≡_}
 use mathlib.Core.Logic.{_≢_, _⊎_}
