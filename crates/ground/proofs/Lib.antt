@@ -1,0 +1,2 @@
+-- The laws that know nothing of the format.
+pub mod Spans
