@@ -1,2 +1,4 @@
--- The laws of the definitions, each file named after the definitions that it is about.
+pub mod Numbers
+pub mod Dates
+pub mod Quality
 pub mod Cut

@@ -1,2 +1,4 @@
--- The laws that know nothing of the format.
+pub mod Tests
+pub mod Lists
+pub mod Decimal
 pub mod Spans
