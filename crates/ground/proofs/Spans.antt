@@ -1,14 +1,15 @@
 -- How many of the first elements pass a test, and the parts of a list, as a loop and a slice have them. Assumes nothing.
 use Prim.Native.Nat.{ℕ, zero, suc, _+_, _-_, _≤_, _<_}
-use mathlib.Core.Path.{_≡_, refl, sym, _∙_}
+use mathlib.Core.Path.{_≡_}
 use mathlib.Core.List.{List, [], _∷_}
-use mathlib.Core.Bool.{Bool, true, false, cond, _&&_, false≢true}
+use mathlib.Core.Bool.{Bool, true, false, cond}
 use native.Mathlib.Nat.{add-sub-cancel-left, sub-zero}
-use native.Mathlib.Numerals.{add-one}
 use native.Mathlib.Omega.{arith}
 use lib.ListN.{length, getD, take, drop, length-drop, drop-of-length-le}
-use lib.Seq.{drop-cons, take-all, take-take, take-nil, length-take-le, drop-drop}
+use lib.Seq.{take-take, take-nil, length-take-le, drop-drop}
 use Rattle.ground.specs.Lists.{all, spanOf, part}
+use Rattle.ground.proofs.Tests.{and-true}
+use Rattle.ground.proofs.Lists.{rest}
 
 -- ---- a span, byte after byte: i is how far a loop has come
 
@@ -17,14 +18,14 @@ module _ (p : ℕ → Bool) (s : List ℕ) (i : ℕ) where
   pub span-on : i < length s → p (getD s i 0) ≡ true → spanOf p s ≡ i + spanOf p (drop i s) → spanOf p s ≡ i + 1 + spanOf p (drop (i + 1) s)
   unfolding spanOf
   span-on h t e =
-      let k : spanOf p (drop i s) ≡ suc (spanOf p (drop (i + 1) s)) = rw (drop-cons s i 0 h, t, add-one) in
+      let k : spanOf p (drop i s) ≡ suc (spanOf p (drop (i + 1) s)) = rw (rest s i h, t) in
       omega arith
 
   -- the byte at i does not pass
   pub span-stop : i < length s → p (getD s i 0) ≡ false → spanOf p s ≡ i + spanOf p (drop i s) → i ≡ spanOf p s
   unfolding spanOf
   span-stop h t e =
-      let k : spanOf p (drop i s) ≡ 0 = rw (drop-cons s i 0 h, t) in
+      let k : spanOf p (drop i s) ≡ 0 = rw (rest s i h, t) in
       omega arith
 
   -- every byte passed
@@ -43,24 +44,16 @@ span-le p (b ∷ s) = go (p b) (span-le p s)
     go true h = omega arith
     go false h = omega arith
 
-both : (a b : Bool) → a && b ≡ true → (a ≡ true) × (b ≡ true)
-both true b t = (refl, t)
-both false b t = absurd (false≢true t)
-
 -- a block of m bytes that all pass
 pub span-block : (p : ℕ → Bool) (m : ℕ) (s : List ℕ) → m ≤ length s → all p (take m s) ≡ true → spanOf p s ≡ m + spanOf p (drop m s)
 unfolding spanOf
 span-block p zero s h t = omega arith
 span-block p (suc m) [] h t = absurd (let z : ⊥ = omega arith in z)
 span-block p (suc m) (b ∷ s) h t =
-    let a = both (p b) (all p (take m s)) t in
+    let a = and-true (p b) (all p (take m s)) t in
     rw (a .0) (omega (arith, span-block p m s (omega arith) (a .1)))
 
 -- ---- parts
-
--- `&s[a..]`
-pub part-rest : (a : ℕ) (s : List ℕ) → take (length s - a) (drop a s) ≡ drop a s
-part-rest a s = take-all (length s - a) (drop a s) (omega (arith, length-drop a s))
 
 -- `&s[a..e]` where e is `a + n`
 pub part-cut : (a n : ℕ) (s : List ℕ) → take (a + n - a) s ≡ take n s

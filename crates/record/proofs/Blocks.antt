@@ -3,25 +3,18 @@ use mathlib.Core.Path.{_≡_, refl, sym, _∙_}
 use mathlib.Core.Bool.{Bool, true, false, not, _&&_}
 use mathlib.Core.List.{List, [], _∷_}
 use Prim.Native.Nat.{ℕ, _+_, _-_, _≤_, _<_}
-use native.Mathlib.Numerals.{add-one}
 use native.Mathlib.Omega.{arith}
 use lib.ListN.{length, getD, take, drop, drop-of-length-le, length-drop}
-use lib.Seq.{drop-cons, drop-drop, take-add, length-take-le}
+use lib.Seq.{drop-drop, take-add, length-take-le}
 use borrow.Author.Tests.{eq-eqb, ne-eqb, not-true, not-false}
 use Rattle.ground.specs.Lists.{all, spanOf, other}
+use Rattle.ground.proofs.Tests.{and-false}
+use Rattle.ground.proofs.Lists.{rest}
 use Rattle.ground.proofs.Spans.{span-on, span-stop, span-all, span-block}
 use Rattle.format.specs.Bytes.{plain}
 use Rattle.format.specs.Cut.{fields}
 use Rattle.format.proofs.Cut.{count-on, count-more, count-end, count-append}
 use Rattle.record.specs.Places.{Scanned}
-
--- what is left of a list at a place inside it
-rest : (s : List ℕ) (i : ℕ) → i < length s → drop i s ≡ getD s i 0 ∷ drop (i + 1) s
-rest s i h = rw (add-one, drop-cons s i 0)
-
-and-false : (b : Bool) → b && false ≡ false
-and-false true = refl
-and-false false = refl
 
 and-true : (b : Bool) → b && true ≡ b
 and-true true = refl

@@ -10,7 +10,8 @@ use lib.Seq.{drop-cons, drop-drop, length-take-le, take-all}
 use lib.Dec.{eqb}
 use borrow.Author.Tests.{eqb-true}
 use Rattle.ground.specs.Lists.{spanOf, part}
-use Rattle.ground.proofs.Spans.{span-le, part-rest, part-cut, part-length}
+use Rattle.ground.proofs.Lists.{to-end}
+use Rattle.ground.proofs.Spans.{part-cut, part-length}
 use Rattle.format.specs.Bytes.{plain}
 use Rattle.format.specs.Cut.{isCrlf, Lines, line, rest, lines, fields}
 use Rattle.record.specs.Places.{lineLen, LineEnd, Scanned, Looked}
@@ -100,7 +101,7 @@ line-ends file at m h e g =
     record {
       order = omega arith;
       within = omega (arith, length-take (length file - at) (drop at file), length-drop at file);
-      is = ap (λ (z : ℕ). at + z) (rw (part-rest at file) at e);
+      is = ap (λ (z : ℕ). at + z) (rw (to-end at file) at e);
     }
 
 module _ (file : List ℕ) (at e : ℕ) (s : LineEnd file at e) where
@@ -173,16 +174,16 @@ pub looked : (file : List ℕ) (at stop commas n : ℕ) → at ≤ length file �
     → stop ≡ spanOf plain (take (length file - at) (drop at file)) → n ≡ lineLen (take (length file - (at + stop)) (drop (at + stop) file))
     → n ≤ length (take (length file - (at + stop)) (drop (at + stop) file)) → Looked file at (at + stop + n) (at + stop) commas
 looked file at stop commas n within r e q g =
-    let k : stop ≡ spanOf plain (drop at file) = rw (part-rest at file) at e in
-    let m : n ≡ lineLen (drop (at + stop) file) = rw (part-rest (at + stop) file) at q in
+    let k : stop ≡ spanOf plain (drop at file) = rw (to-end at file) at e in
+    let m : n ≡ lineLen (drop (at + stop) file) = rw (to-end (at + stop) file) at q in
     let l : lineLen (drop at file) ≡ stop + lineLen (drop (at + stop) file) = line-span (drop at file) ∙ rw (← k, drop-drop stop at file) in
-    let w : n ≤ length (drop (at + stop) file) = rw (part-rest (at + stop) file) at g in
-    let u : length (take (length file - at) (drop at file)) ≡ length file - at = rw (part-rest at file) (length-drop at file) in
+    let w : n ≤ length (drop (at + stop) file) = rw (to-end (at + stop) file) at g in
+    let u : length (take (length file - at) (drop at file)) ≡ length file - at = rw (to-end at file) (length-drop at file) in
     let j : at + stop + n - at ≡ stop + n = omega arith in
     record {
       ends = record { order = omega arith; within = omega (arith, w, u, r .within, length-drop (at + stop) file); is = omega arith };
       order = omega arith;
       within = omega arith;
       first = rw (j, span-take plain (stop + n) (drop at file) (omega arith), ← k);
-      count = rw (part-cut at stop (drop at file), ← part-rest at file) (r .count);
+      count = rw (part-cut at stop (drop at file), ← to-end at file) (r .count);
     }
