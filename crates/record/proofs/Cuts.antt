@@ -7,32 +7,11 @@ use native.Mathlib.Nat.{add-zero, zero-add, sub-self}
 use native.Mathlib.Omega.{arith}
 use lib.ListN.{length, getD, take, drop, length-drop}
 use lib.Seq.{getD-drop, drop-drop}
-use borrow.Author.Tests.{eq-eqb, ne-eqb}
 use Rattle.ground.specs.Lists.{spanOf, other, part}
-use Rattle.ground.proofs.Spans.{span-on, span-stop, span-all, span-le, part-length, part-drop, part-take, part-cut}
+use Rattle.ground.proofs.Spans.{span-le, part-length, part-drop, part-take}
 use Rattle.format.specs.Cut.{fields, field, startOf}
 use Rattle.format.proofs.Cut.{field-here, field-later, field-past, start-later, At, fields-from}
 use Rattle.record.specs.Places.{Cut, Rest}
-
--- ---- the loop that looks for a comma, at byte i
-
-pub record Sought (s : List ℕ) (i : ℕ) : Type 0 where
-  pub within : i ≤ length s
-  pub span : spanOf (other 44) s ≡ i + spanOf (other 44) (drop i s)
-
-module _ (s : List ℕ) where
-  pub sought-none : Sought s 0
-  sought-none = record { within = omega arith; span = omega arith }
-
-  module _ (i : ℕ) (r : Sought s i) where
-    pub sought-on : i < length s → (getD s i 0 ≡ 44 → ⊥) → Sought s (i + 1)
-    sought-on h q = record { within = omega arith; span = span-on (other 44) s i h (rw (ne-eqb _ _ q)) (r .span) }
-
-    pub sought-stops : i < length s → getD s i 0 ≡ 44 → i ≡ spanOf (other 44) s
-    sought-stops h q = span-stop (other 44) s i h (rw (eq-eqb _ _ q)) (r .span)
-
-    pub sought-end : length s ≤ i → i ≡ spanOf (other 44) s
-    sought-end h = span-all (other 44) s i h (r .span)
 
 -- ---- a field cut off: n is what `field_end` answers of the record from a on
 
