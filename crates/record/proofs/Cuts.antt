@@ -10,7 +10,7 @@ use lib.Seq.{getD-drop, drop-drop}
 use Rattle.ground.specs.Lists.{spanOf, other, part}
 use Rattle.ground.proofs.Spans.{span-le, part-length, part-drop, part-take}
 use Rattle.format.specs.Cut.{fields, field, startOf}
-use Rattle.format.proofs.Cut.{field-here, field-later, field-past, start-later, At, fields-from}
+use Rattle.format.proofs.Cut.{field-here, field-later, field-past, start-later, fields-from, start-add}
 use Rattle.record.specs.Places.{Cut, Rest}
 
 -- ---- a field cut off: n is what `field_end` answers of the record from a on
@@ -87,3 +87,19 @@ module _ {file : List ℕ} {fs : List (List ℕ)} {p i a e b x : ℕ} (s : Rest 
 -- what stands at the place where a field starts
 pub rest-first : {file : List ℕ} {fs : List (List ℕ)} {p i a e : ℕ} → Rest file fs p i a e → field 0 (fields (part file a e)) ≡ field i fs
 rest-first {file} {fs} {p} {i} s = sym (s .same 0) ∙ ap (λ (z : ℕ). field z fs) (add-zero i)
+
+-- at the place where a field that is there starts
+pub rest-at : (file : List ℕ) (at e i : ℕ) → at ≤ e → e ≤ length file → i < length (fields (part file at e))
+    → Rest file (fields (part file at e)) at i (at + startOf i (fields (part file at e))) e
+rest-at file at e i h g k =
+    let r = part file at e in
+    let fs = fields r in
+    let f = fields-from i r k in
+    let w : at + startOf i fs ≤ e = omega (arith, f .within, part-length file at e g) in
+    let d : drop i fs ≡ fields (part file (at + startOf i fs) e) = f .same ∙ ap fields (part-drop file at e (startOf i fs) w) in
+    record {
+      ends = w;
+      within = g;
+      same = λ j. rw (← getD-drop i fs j [], d);
+      place = λ j z. rw (start-add i j fs, d) (omega arith);
+    }
