@@ -15,7 +15,7 @@ use Rattle.ground.specs.Lists.{part}
 use Rattle.ground.proofs.Spans.{part-length}
 use Rattle.format.specs.Numbers.{numberIn, that, numberOf, smallOf, intervalOf, lengthOf, intervalsOf, reasonOf, valueOf}
 use Rattle.format.specs.Dates.{isDate, dateOf}
-use Rattle.format.specs.Records.{millionths}
+use Rattle.format.specs.Records.{indicatorOf, kindIn, millionths}
 use Rattle.format.specs.Quality.{flagIn, methodIn, qualityOf}
 use Rattle.format.specs.Cut.{fields, field, startOf}
 use Rattle.format.specs.Day.{Row, rowAt, tagAt}
@@ -32,6 +32,10 @@ use Rattle.record.proofs.Cuts.{rest-first}
 -- of the field f, which is g: x is what its rule answers
 pub says : (rule : List ℕ → Number) {f g : List ℕ} {x : Number} {v : ℕ} → v ≡ numberIn x → x ≡ rule f → f ≡ g → v ≡ numberIn (rule g)
 says rule e q h = e ∙ ap numberIn (q ∙ ap rule h)
+
+pub kind-says : (fs : List (List ℕ)) {f : List ℕ} {x : Number} {v : ℕ} → v ≡ numberIn x → x ≡ indicatorOf f → f ≡ field 0 fs → v ≡ kindIn fs
+unfolding kindIn
+kind-says fs e q h = says indicatorOf e q h
 
 -- a number in hand is below what bounds it
 number-below : (k : ℕ) (x : Number) → 0 < k → under k x → numberIn x < k

@@ -3,3 +3,4 @@ pub mod Blocks
 pub mod Ends
 pub mod Cuts
 pub mod Fields
+pub mod Rows

@@ -2,3 +2,4 @@
 pub mod lines;
 pub mod pieces;
 pub mod says;
+pub mod rules;
