@@ -1,0 +1,6 @@
+-- The laws of records and fields as places of the file.
+pub mod Blocks
+pub mod Ends
+pub mod Cuts
+pub mod Fields
+pub mod Rows
