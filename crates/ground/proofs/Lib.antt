@@ -2,3 +2,4 @@ pub mod Tests
 pub mod Lists
 pub mod Decimal
 pub mod Spans
+pub mod Prefix

@@ -1,0 +1,58 @@
+// Fast answers to the rules that are asked most often. Each has the contract of the simple rule and needs no number, only whether there is one.
+use leaf::Class;
+use leaf::bytes::all_in;
+
+ghost use mathlib.Core.Path.{_≡_};
+ghost use Prim.Native.Nat.{_≤_};
+ghost use lib.ListN.{length};
+ghost use Rattle.ground.specs.Lists.{spanOf};
+ghost use Rattle.ground.specs.Digits.{isDigit};
+ghost use Rattle.format.specs.Numbers.{isNumber, decimals, valueOf};
+
+// How many of the first bytes are digits.
+fn digit_span(f: &[u8]) -> usize
+    ensures is { λ r. ⌜ r ≡ spanOf isDigit (now (f .entry)) ⌝ }
+    ensures within { λ r. ⌜ r ≤ length (now (f .entry)) ⌝ }
+{
+    let n = f.len();
+    let mut i: usize = 0;
+    while i < n {
+        let b = f[i];
+        if b < 48 {
+            return i;
+        }
+        if 57 < b {
+            return i;
+        }
+        i += 1;
+    }
+    i
+}
+
+// A value: its digits up to the point, the point, the digits behind it, each looked at once.
+pub fn is_value(f: &[u8]) -> bool
+    ensures { λ r. ⌜ r ≡ isNumber (valueOf decimals (now (f .entry))) ⌝ }
+{
+    let n = f.len();
+    let w = digit_span(f);
+    if w < 1 {
+        return false;
+    }
+    if 7 < w {
+        return false;
+    }
+    if w == n {
+        return true;
+    }
+    if f[w] != 46 {
+        return false;
+    }
+    let a = w + 1;
+    if a == n {
+        return false;
+    }
+    if 6 < n - a {
+        return false;
+    }
+    all_in(&f[a..], Class::Digit)
+}
