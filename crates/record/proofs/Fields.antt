@@ -23,6 +23,7 @@ use Rattle.format.specs.declared.Number.{Number}
 use Rattle.format.specs.declared.Number.the-variants.{Is, Bad}
 use Rattle.format.specs.declared.Graded.{Graded}
 use Rattle.format.specs.declared.Tag.{Tag}
+use Rattle.format.proofs.Cut.{start-zero}
 use Rattle.format.proofs.Numbers.{under, number-under, small-under, value-below}
 use Rattle.record.specs.Places.{Cut, Rest}
 use Rattle.record.proofs.Cuts.{rest-first}
@@ -93,8 +94,7 @@ reason-fits s {x} {v} e q = let h : v ≡ numberIn (reasonOf s) = q ∙ ap numbe
 -- ---- quality, reason and description
 
 start-first : (x : ℕ) (fs : List (List ℕ)) → x + startOf 0 fs ≡ x
-unfolding startOf
-start-first x fs = add-zero x
+start-first x fs = rw (start-zero fs, add-zero x)
 
 tag-eq : {a b d e f a₁ b₁ d₁ e₁ f₁ : ℕ} → a ≡ a₁ → b ≡ b₁ → d ≡ d₁ → e ≡ e₁ → f ≡ f₁
     → _≡_ {A = Tag} (record { flag = a; method = b; reason = d; start = e; length = f }) (record { flag = a₁; method = b₁; reason = d₁; start = e₁; length = f₁ })

@@ -4,3 +4,4 @@ pub mod Ends
 pub mod Cuts
 pub mod Fields
 pub mod Rows
+pub mod Turns
