@@ -7,13 +7,14 @@ use mathlib.Core.Bool.{Bool, true, false, cond, not, _&&_}
 use native.Mathlib.Omega.{arith}
 use native.Mathlib.Decide.{decLt}
 use lib.ListN.{length, getD, take, drop, drop-of-length-le, length-drop}
-use lib.Seq.{length-take-le}
+use lib.Seq.{length-take-le, getD-take, getD-drop}
 use lib.Dec.{eqb, leb}
 use borrow.Author.Tests.{eq-eqb, ne-eqb, eqb-true, eqb-false, leb-true, not-true, not-false}
 use Rattle.ground.specs.Lists.{all, spanOf, other, part}
 use Rattle.ground.specs.Digits.{isDigit, decimal}
 use Rattle.ground.proofs.Tests.{and-true}
-use Rattle.ground.proofs.Spans.{span-le, part-length, part-cut}
+use Rattle.ground.proofs.Spans.{span-le, span-block, part-length, part-cut, part-take}
+use Rattle.ground.proofs.Prefix.{prefix-most}
 use Rattle.format.specs.Bytes.{areAll}
 use Rattle.format.specs.Numbers.{numberIn, that, numberOf}
 use Rattle.format.specs.Cut.{fields, field, startOf}
@@ -22,18 +23,17 @@ use Rattle.format.specs.Faults.{faultIn}
 use Rattle.format.specs.declared.Number.the-variants.{Is, Bad}
 use Rattle.format.specs.declared.Fault.the-variants.{Fine, Stop}
 use Rattle.format.specs.declared.Rule.{Rule}
-use Rattle.format.specs.declared.Rule.the-variants.{Indicator}
+use Rattle.format.specs.declared.Rule.the-variants.{Indicator, Value}
 use Rattle.format.proofs.Cut.{fields-some, field-here, field-cons, start-zero, start-next, start-end, fields-from}
+use Rattle.quick.specs.Shapes.{isThousandths}
+use Rattle.quick.proofs.Shapes.{thousandths-value, thousandths-plain}
 use Rattle.record.specs.Places.{Rest, Starts}
-use Rattle.record.specs.Walk.{firstAsked, secondAsked, Typed, Sound, Broken}
+use Rattle.record.specs.Walk.{firstAsked, secondAsked, Typed, Obeyed, Along, Goes, Sound, Broken}
+use Rattle.record.specs.declared.Spot.{Spot}
 use Rattle.record.proofs.Cuts.{first-is, rest-at, rest-first}
-use Rattle.record.proofs.Rows.{count-300}
+use Rattle.record.proofs.Rows.{count-300, rule-is, row-value}
 
 -- ---- the fields before i meet their rules
-
-pub record Obeyed (k n : ℕ) (fs : List (List ℕ)) (i : ℕ) : Type 0 where
-  pub within : i ≤ length fs
-  pub same : faultIn k n 0 0 fs ≡ faultIn k n (startOf i fs) i (drop i fs)
 
 -- what holds of both that a test picks from, where it is known how the test went
 by-test : {X : Type 0} (P : X → Type 0) (b : Bool) {x y : X} → (b ≡ true → P x) → (b ≡ false → P y) → P (cond b x y)
@@ -87,13 +87,6 @@ three f h = go (areAll isDigit 3 3 f) refl
         let a = and-true (leb 3 (length f)) (leb (length f) 3) (and-true (leb 3 (length f) && leb (length f) 3) (all isDigit f) e .0) in
         omega (arith, leb-true 3 (length f) (a .0), leb-true (length f) 3 (a .1))
     go false e = absurd (h (rw e))
-
--- a loop that has passed i fields of the record stands at b, behind the last of them
-pub record Along (file : List ℕ) (at e k n i b : ℕ) : Type 0 where
-  pub high : b ≤ e
-  pub few : i ≤ b
-  pub here : b + 1 ≡ at + startOf i (fields (part file at e))
-  pub passed : Obeyed k n (fields (part file at e)) i
 
 -- the indicator passed
 pub along-first : (file : List ℕ) (at e k n : ℕ) → Typed file at e k n → Along file at e k n 1 (at + 3)
@@ -174,7 +167,7 @@ pub record Noted (fs : List (List ℕ)) (at i w p : ℕ) : Type 0 where
 pub noted-none : (fs : List (List ℕ)) (at w : ℕ) → Noted fs at 1 w at
 noted-none fs at w = record { is = λ h. (let z : w ≡ 0 = omega arith in rw z (omega (arith, start-zero fs))) }
 
-pub noted-on : (fs : List (List ℕ)) (at i w p a r : ℕ) → Noted fs at i w p → a ≡ at + startOf i fs → r ≡ cond (eqb i w) a p → Noted fs at (i + 1) w r
+noted-on : (fs : List (List ℕ)) (at i w p a r : ℕ) → Noted fs at i w p → a ≡ at + startOf i fs → r ≡ cond (eqb i w) a p → Noted fs at (i + 1) w r
 noted-on fs at i w p a r s h e = record { is = λ g. go (eqb i w) refl g }
   where
     go : (b : Bool) → eqb i w ≡ b → w < i + 1 → r ≡ at + startOf w fs
@@ -234,3 +227,62 @@ along-end file at e k n i b v w p q y l h np nq ev ew =
     starts x a s g z =
         let is : a ≡ at + startOf x (fields (part file at e)) = s .is (omega arith) in
         record { place = is; rest = rw is (rest-at file at e x (y .order) (y .within) g) }
+
+-- ---- the values of a 300 that have the commonest shape
+
+-- five bytes that are no comma, and a comma behind them
+value-span : (s : List ℕ) → 5 < length s → all (other 44) (take 5 s) ≡ true → getD s 5 0 ≡ 44 → spanOf (other 44) s ≡ 5
+value-span s h a c =
+    let z : spanOf (other 44) s ≤ 5 = prefix-most (other 44) s 5 h (rw c) in
+    omega (arith, span-block (other 44) 5 s (omega arith) a)
+
+-- a turn: the five bytes behind t are such a value, and a comma follows
+pub along-value : (file : List ℕ) (at e n i t : ℕ) {o : Bool} → Typed file at e 300 n → Along file at e 300 n i t → 2 ≤ i → i < n + 2 → 6 < e - t
+    → getD file (t + 6) 0 ≡ 44 → o ≡ isThousandths (take (t + 6 - (t + 1)) (drop (t + 1) file)) → not o ≡ false → Along file at e 300 n (i + 1) (t + 6)
+unfolding obeys rowOf
+along-value file at e n i t {o} y l two few room comma eo en =
+    let six : t + 1 + 5 ≡ t + 6 = omega arith in
+    let f = take (t + 6 - (t + 1)) (drop (t + 1) file) in
+    let h : isThousandths f ≡ true = sym eo ∙ not-false o en in
+    let w : length (part file (t + 1) e) ≡ e - (t + 1) = part-length file (t + 1) e (y .within) in
+    let five : take 5 (part file (t + 1) e) ≡ f = rw six at (part-take file (t + 1) e 5 (omega arith)) in
+    let q : 5 < e - (t + 1) = omega arith in
+    let c : getD (part file (t + 1) e) 5 0 ≡ 44 = rw (getD-take, getD-drop, six) comma in
+    let span : spanOf (other 44) (part file (t + 1) e) ≡ 5 = value-span (part file (t + 1) e) (omega arith) (rw five (thousandths-plain f h)) c in
+    let on : Along file at e 300 n (i + 1) (t + 1 + 5) =
+        along-on file at e 300 n i t y l 5 Value true (omega arith) (sym span) (rule-is 300 n 300 i refl (row-value n i two few)) (rw six (sym (thousandths-value f h))) refl in
+    rw six at on
+
+-- what `passed` answers
+module _ (file : List ℕ) (at e k n i b : ℕ) where
+  pub goes-none : Along file at e k n i b → (r : Spot) → r ≡ record { i = i; b = b } → Goes file at e k n i b r
+  goes-none l r q = rw q (record { along = l; on = omega arith; more = omega arith; first = λ h. h; second = λ h. h })
+
+  pub goes-values : k ≡ 300 → 2 ≤ i → i < n + 2 → (r : Spot) → Along file at e 300 n (r .i) (r .b) × (b ≤ r .b) × (i ≤ r .i) × (r .i ≤ n + 2) → Goes file at e k n i b r
+  unfolding firstAsked secondAsked
+  goes-values q two few r h =
+      rw q
+      (record {
+        along = h .0;
+        on = h .1;
+        more = h .2;
+        first = λ g. omega (arith, h .3);
+        second = λ g. omega arith;
+      })
+
+-- field i was looked at, and the loop went on from i + 1
+module _ {file : List ℕ} {at e k n i t : ℕ} {s : Spot} (g : Goes file at e k n (i + 1) t s) (w p a r : ℕ)
+    (m : Noted (fields (part file at e)) at i w p) (h : a ≡ at + startOf i (fields (part file at e))) (q : r ≡ cond (eqb i w) a p) where
+  pub noted-first : w ≡ firstAsked k n → Noted (fields (part file at e)) at (s .i) w r
+  noted-first f = record { is = λ l. noted-on (fields (part file at e)) at i w p a r m h q .is (rw (← f) at (g .first) l) }
+
+  pub noted-second : w ≡ secondAsked k n → Noted (fields (part file at e)) at (s .i) w r
+  noted-second f = record { is = λ l. noted-on (fields (part file at e)) at i w p a r m h q .is (rw (← f) at (g .second) l) }
+
+-- at a 300
+module _ (file : List ℕ) (at e k n i b : ℕ) (q : k ≡ 300) where
+  pub typed-300 : Typed file at e k n → Typed file at e 300 n
+  typed-300 y = rw q at y
+
+  pub along-300 : Along file at e k n i b → Along file at e 300 n i b
+  along-300 l = rw q at l

@@ -11,3 +11,9 @@ pub enum Walked {
     Sound(usize, usize),
     Broken(usize, usize),
 }
+
+// A loop over the fields: how many it has passed, and where the last of them ended.
+pub struct Spot {
+    pub i: usize,
+    pub b: usize,
+}

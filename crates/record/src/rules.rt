@@ -6,6 +6,7 @@ use field::texts;
 use format::Graded;
 use format::Number;
 use format::Rule;
+use quick::is_value;
 ghost use mathlib.Core.Path.{_≡_};
 ghost use Prim.Native.Nat.{_≤_, _-_};
 ghost use lib.ListN.{getD, take};
@@ -225,7 +226,7 @@ pub fn obeys(kind: u64, rule: Rule, f: &[u8]) -> bool
         Rule::Length => is_number(numbers::interval_length(f)),
         Rule::NextRead => is_number(dates::next_read_date(f)),
         Rule::Date => is_number(dates::date(f)),
-        Rule::Value => is_number(numbers::value(f, 6)),
+        Rule::Value => is_value(f),
         Rule::Quality => is_graded(quality::quality(f, kind)),
         Rule::Reason => is_number(numbers::reason(f)),
         Rule::Description => texts::description(f),
