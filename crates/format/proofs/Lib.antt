@@ -1,3 +1,5 @@
 pub mod Numbers
 pub mod Dates
 pub mod Quality
+pub mod Cut
+pub mod Shapes

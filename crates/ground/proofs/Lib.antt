@@ -1,3 +1,5 @@
 pub mod Tests
 pub mod Lists
 pub mod Decimal
+pub mod Spans
+pub mod Prefix

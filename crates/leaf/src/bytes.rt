@@ -8,7 +8,8 @@ ghost use Rattle.ground.specs.Digits.{isDigit};
 ghost use Rattle.format.specs.Bytes.{isCapital, isLetter, isAlnum, endSpace, isText, areAll};
 ghost use Rattle.leaf.specs.Classes.{inClass};
 
-fn is_digit(b: u8) -> bool
+// A digit.
+pub fn is_digit(b: u8) -> bool
     ensures { λ r. ⌜ r ≡ isDigit b ⌝ }
 {
     if b < 48 {

@@ -1,0 +1,74 @@
+use Prim.Native.Nat.{_-_}
+use native.Mathlib.Omega.{arith}
+use Rattle.quick.proofs.Shapes.{not-five, no-point, no-first, no-second, no-third, all-five}
+use borrow.Author.Needs.{needs}
+use Rattle.quick.proofs.thousandths.Statement.{statement}
+use Rattle.quick.proofs.thousandths.Tie as tie
+use Rattle.quick.proofs.thousandths.Reads as reads
+use Rattle.quick.proofs.thousandths.Lts as lts
+use Rattle.leaf.proofs.bytes.is_digit.Reads as is-digit-reads
+
+returns : tie.Need-returns
+returns c = search (not-five, no-point, no-first, no-second, no-third, all-five)
+
+shared-slice-read-if2 : tie.Need-shared-slice-read-if2
+shared-slice-read-if2 c = search needs
+
+returns-2 : tie.Need-returns-2
+returns-2 c = search (not-five, no-point, no-first, no-second, no-third, all-five)
+
+shared-slice-read-is-digit : tie.Need-shared-slice-read-is-digit
+shared-slice-read-is-digit c = search needs
+
+is-digit-requires : tie.Need-is-digit-requires
+is-digit-requires c κs = search needs
+
+returns-3 : tie.Need-returns-3
+returns-3 c = search (not-five, no-point, no-first, no-second, no-third, all-five)
+
+shared-slice-read-is-digit-2 : tie.Need-shared-slice-read-is-digit-2
+shared-slice-read-is-digit-2 c = search needs
+
+is-digit-requires-2 : tie.Need-is-digit-requires-2
+is-digit-requires-2 c κs = search needs
+
+returns-4 : tie.Need-returns-4
+returns-4 c = search (not-five, no-point, no-first, no-second, no-third, all-five)
+
+shared-slice-read-is-digit-3 : tie.Need-shared-slice-read-is-digit-3
+shared-slice-read-is-digit-3 c = search needs
+
+is-digit-requires-3 : tie.Need-is-digit-requires-3
+is-digit-requires-3 c κs = search needs
+
+returns-5 : tie.Need-returns-5
+returns-5 c = search (not-five, no-point, no-first, no-second, no-third, all-five)
+
+shared-slice-read-is-digit-4 : tie.Need-shared-slice-read-is-digit-4
+shared-slice-read-is-digit-4 c = search needs
+
+is-digit-requires-4 : tie.Need-is-digit-requires-4
+is-digit-requires-4 c κs = search needs
+
+returns-6 : tie.Need-returns-6
+returns-6 c = search (not-five, no-point, no-first, no-second, no-third, all-five)
+
+pub thousandths-spec : {M : Type 1} → statement M
+thousandths-spec =
+    tie.close
+    (tie.spec
+    returns
+    shared-slice-read-if2
+    returns-2
+    shared-slice-read-is-digit
+    is-digit-requires
+    returns-3
+    shared-slice-read-is-digit-2
+    is-digit-requires-2
+    returns-4
+    shared-slice-read-is-digit-3
+    is-digit-requires-3
+    returns-5
+    shared-slice-read-is-digit-4
+    is-digit-requires-4
+    returns-6)

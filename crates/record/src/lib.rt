@@ -1,0 +1,19 @@
+// The records of a file and their fields: where a record ends, and its fields from left to right, each a part of the file, held to its rule.
+pub mod lines;
+pub mod pieces;
+pub mod says;
+pub mod rules;
+pub mod walk;
+
+// What a walk over a record's fields found: each meets its rule, and where the two start that later rules ask for; or the leftmost that breaks its
+// rule, with its place from the record's start and its number from 1.
+pub enum Walked {
+    Sound(usize, usize),
+    Broken(usize, usize),
+}
+
+// A loop over the fields: how many it has passed, and where the last of them ended.
+pub struct Spot {
+    pub i: usize,
+    pub b: usize,
+}

@@ -1,0 +1,114 @@
+// The fields of a record from left to right, each held to its rule: one loop over the field's number serves every kind.
+use super::Spot;
+use super::Walked;
+use super::pieces::field_end;
+use super::rules::obeys;
+use super::rules::rule_at;
+use quick::thousandths;
+ghost use mathlib.Core.Path.{_≡_};
+ghost use mathlib.Core.Bool.{cond};
+ghost use Prim.Native.Nat.{_+_, _≤_};
+ghost use lib.Dec.{eqb};
+ghost use Rattle.record.specs.Walk.{firstAsked, secondAsked, Typed, Along, Goes, Walks};
+
+fn first_asked(kind: u64, n: usize) -> usize
+    requires { ⌜ n ≤ 288 ⌝ }
+    ensures { λ r. ⌜ r ≡ firstAsked kind n ⌝ }
+{
+    match kind {
+        200 => 8,
+        300 => n + 2,
+        400 => 2,
+        500 => 3,
+        250 => 10,
+        _ => 0,
+    }
+}
+
+fn second_asked(kind: u64, n: usize) -> usize
+    ensures { λ r. ⌜ r ≡ secondAsked kind n ⌝ }
+{
+    match kind {
+        400 => 3,
+        250 => 15,
+        _ => 0,
+    }
+}
+
+// Field i starts at a: that is where the field w starts, if it is this one.
+fn noted(w: usize, before: usize, i: usize, a: usize) -> usize
+    ensures { λ r. ⌜ r ≡ cond (eqb i w) a before ⌝ }
+{
+    if i == w {
+        return a;
+    }
+    before
+}
+
+// Passes the values of a 300 that have the commonest shape, of which the end need not be looked for. Each is tried as a part of the file.
+fn pass_values(file: &[u8], at: usize, e: usize, n: usize, i: usize, b: usize) -> Spot
+    requires { ⌜ Typed (now file) at e 300 n × Along (now file) at e 300 n i b × (2 ≤ i) × (i ≤ n + 2) ⌝ }
+    ensures { λ r. ⌜ Along (now (file .entry)) at e 300 n (r .i) (r .b) × (b ≤ r .b) × (i ≤ r .i) × (r .i ≤ n + 2) ⌝ }
+{
+    let mut j = i;
+    let mut t = b;
+    while j < n + 2 {
+        if e - t <= 6 {
+            return Spot { i: j, b: t };
+        }
+        let a = t + 1;
+        let z = t + 6;
+        if file[z] != 44 {
+            return Spot { i: j, b: t };
+        }
+        if !thousandths(&file[a..z]) {
+            return Spot { i: j, b: t };
+        }
+        t = z;
+        j += 1;
+    }
+    Spot { i: j, b: t }
+}
+
+// Goes on over values of a 300 that are passed quickly, if any come next; a field that later rules ask for is none of them.
+fn passed(file: &[u8], at: usize, e: usize, kind: u64, n: usize, i: usize, b: usize) -> Spot
+    requires { ⌜ Typed (now file) at e kind n × Along (now file) at e kind n i b × (1 ≤ i) ⌝ }
+    ensures { λ r. ⌜ Goes (now (file .entry)) at e kind n i b r ⌝ }
+{
+    if kind != 300 {
+        return Spot { i: i, b: b };
+    }
+    if i < 2 {
+        return Spot { i: i, b: b };
+    }
+    if n + 2 <= i {
+        return Spot { i: i, b: b };
+    }
+    pass_values(file, at, e, n, i, b)
+}
+
+// The record from at to e, of which the kind and the number of fields are known: an indicator has three bytes, so the walk starts behind it.
+pub fn check_fields(file: &[u8], at: usize, e: usize, kind: u64, n: usize) -> Walked
+    requires { ⌜ Typed (now file) at e kind n ⌝ }
+    ensures { λ r. ⌜ Walks (now (file .entry)) at e kind n r ⌝ }
+{
+    let v = first_asked(kind, n);
+    let w = second_asked(kind, n);
+    let mut p = at;
+    let mut q = at;
+    let mut b = at + 3;
+    let mut i: usize = 1;
+    while b < e {
+        let a = b + 1;
+        let t = a + field_end(&file[a..e]);
+        if !obeys(kind, rule_at(kind, n, i), &file[a..t]) {
+            return Walked::Broken(a - at, i + 1);
+        }
+        p = noted(v, p, i, a);
+        q = noted(w, q, i, a);
+        let s = passed(file, at, e, kind, n, i + 1, t);
+        i = s.i;
+        b = s.b;
+    }
+    Walked::Sound(p, q)
+}
