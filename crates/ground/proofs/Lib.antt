@@ -1,0 +1,5 @@
+pub mod Cases
+pub mod Digits
+pub mod From
+pub mod Room
+pub mod Runs
