@@ -1,4 +1,5 @@
 pub mod Cases
+pub mod Same
 pub mod Digits
 pub mod From
 pub mod Room

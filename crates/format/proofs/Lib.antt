@@ -1,0 +1,4 @@
+pub mod NumberText
+pub mod ValueText
+pub mod MarkText
+pub mod CoverText
