@@ -11,9 +11,11 @@ use lib.Dec.{eqb, ltb}
 use borrow.Author.Tests.{eq-eqb, ne-eqb, eqb-true, ltb-true}
 use Rattle.ground.specs.Lists.{same}
 use Rattle.ground.specs.Digits.{padded, dec}
-use Rattle.ground.proofs.Cases.{same-or, by, each, both}
+use Rattle.ground.proofs.Tests.{and-true}
+use Rattle.ground.proofs.Cases.{same-or, by, both}
 use Rattle.ground.proofs.Same.{same-itself, same-sound}
-use Rattle.ground.proofs.Digits.{length-padded, decimal-lt}
+use Rattle.ground.proofs.Decimal.{decimal-below}
+use Rattle.ground.proofs.Digits.{length-padded}
 use Rattle.format.specs.Numbers.{numberOf, noReason}
 use Rattle.format.specs.Quality.{standsAlone, takesMethod, noMethod, withMethod, qualityOf, Mark, sameMark}
 use Rattle.format.specs.Block.{fitQuality, fitReason, qualityText, reasonText, comma, markText}
@@ -21,7 +23,8 @@ use Rattle.format.specs.declared.Graded.{Graded}
 use Rattle.format.specs.declared.Graded.the-variants.{Of}
 use Rattle.format.specs.declared.Number.{Number}
 use Rattle.format.specs.declared.Number.the-variants.{Is, Bad}
-use Rattle.format.proofs.NumberText.{two-back, Held, held}
+use Rattle.format.proofs.Numbers.{Got, got}
+use Rattle.format.proofs.NumberText.{two-back}
 
 -- ---- the same mark
 
@@ -42,9 +45,9 @@ alike e f g h = rw (e, f, g, h)
 pub mark-sound : (a b : Mark) → sameMark a b ≡ true → a ≡ b
 unfolding sameMark
 mark-sound a b e =
-    let c1 = each (eqb (a .flag) (b .flag) && eqb (a .method) (b .method) && eqb (a .reason) (b .reason)) (same (a .text) (b .text)) e in
-    let c2 = each (eqb (a .flag) (b .flag) && eqb (a .method) (b .method)) (eqb (a .reason) (b .reason)) (c1 .0) in
-    let c3 = each (eqb (a .flag) (b .flag)) (eqb (a .method) (b .method)) (c2 .0) in
+    let c1 = and-true (eqb (a .flag) (b .flag) && eqb (a .method) (b .method) && eqb (a .reason) (b .reason)) (same (a .text) (b .text)) e in
+    let c2 = and-true (eqb (a .flag) (b .flag) && eqb (a .method) (b .method)) (eqb (a .reason) (b .reason)) (c1 .0) in
+    let c3 = and-true (eqb (a .flag) (b .flag)) (eqb (a .method) (b .method)) (c2 .0) in
     alike (eqb-true _ _ (c3 .0)) (eqb-true _ _ (c3 .1)) (eqb-true _ _ (c2 .1)) (same-sound _ _ (c1 .1))
 
 -- ---- a quality
@@ -88,7 +91,7 @@ unfolding fitQuality
 quality-back k q m f =
     by (standsAlone 400 q)
     (λ t. back-alone k q m (alone-is q t) (eqb-true m noMethod (rw t at f)))
-    (λ t. let g = each (takesMethod q) (ltb m 100) (rw t at f) in back-graded k q m (g .0) (ltb-true m 100 (g .1)))
+    (λ t. let g = and-true (takesMethod q) (ltb m 100) (rw t at f) in back-graded k q m (g .0) (ltb-true m 100 (g .1)))
 
 of-alone : (b : Bool) (x q m : ℕ) → cond b (Of x noMethod) Graded.Bad ≡ Of q m → (b ≡ true) × (m ≡ noMethod)
 of-alone true x q m e = (refl, (cc))
@@ -105,12 +108,12 @@ quality-shortest k s q m e =
     by (standsAlone k (getD s 0 0))
     (λ t. let g = of-alone (eqb (length s) 1) (getD s 0 0) q m (rw t at e) in
     omega (arith, ap length (quality-alone q m (g .1)), eqb-true (length s) 1 (g .0)))
-    (λ t. let h = held 2 2 (drop 1 s) m (of-graded (takesMethod (getD s 0 0)) (getD s 0 0) q m (numberOf 2 2 (drop 1 s)) (rw t at e)) in
-    let b : m < 100 = omega (arith, rw (two-long s h) at (decimal-lt (drop 1 s) (h .digits)), h .number) in
-    omega (arith, ap length (quality-graded q m (λ d. omega arith)), length-padded 2 m, length-drop 1 s, h .least-is))
+    (λ t. let h = got 2 2 (drop 1 s) m (of-graded (takesMethod (getD s 0 0)) (getD s 0 0) q m (numberOf 2 2 (drop 1 s)) (rw t at e)) in
+    let b : m < 100 = omega (arith, rw (two-long s h) at (decimal-below (drop 1 s) (h .is)), h .number) in
+    omega (arith, ap length (quality-graded q m (λ d. omega arith)), length-padded 2 m, length-drop 1 s, h .low))
   where
-    two-long : (s : List ℕ) → Held 2 2 (drop 1 s) m → length (drop 1 s) ≡ 2
-    two-long s h = omega (arith, h .least-is, h .most-is)
+    two-long : (s : List ℕ) → Got 2 2 (drop 1 s) m → length (drop 1 s) ≡ 2
+    two-long s h = omega (arith, h .low, h .high)
 
 -- ---- a mark's text
 

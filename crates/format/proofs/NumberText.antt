@@ -12,12 +12,16 @@ use lib.Dec.{leb, eqb, ltb, lit≤}
 use borrow.Author.Tests.{eq-eqb, ne-eqb, le-leb, leb-true, lt-ltb, le-ltb, ltb-true, eqb-true}
 use Rattle.ground.specs.Lists.{all}
 use Rattle.ground.specs.Digits.{isDigit, decimal, padded, dec}
-use Rattle.ground.proofs.Cases.{split, same-or, by, each}
-use Rattle.ground.proofs.Digits.{length-padded, all-padded, decimal-padded, decimal-lt, all-dec, decimal-dec, dec-some, dec-first, dec-most, dec-least}
+use Rattle.ground.proofs.Tests.{and-true}
+use Rattle.ground.proofs.Cases.{split, same-or, by}
+use Rattle.ground.proofs.Decimal.{decimal-below}
+use Rattle.ground.proofs.Digits.{length-padded, all-padded, decimal-padded, all-dec, decimal-dec, dec-some, dec-first, dec-most, dec-least}
 use Rattle.format.specs.Bytes.{areAll}
 use Rattle.format.specs.Numbers.{that, orEmpty, numberOf, leadingZero, smallOf, noReason, reasonOf}
 use Rattle.format.specs.Dates.{daysIn, isDay, isDate, isTime, dateOf, timeOf, loadOf}
 use Rattle.format.specs.Block.{fitReason, reasonText, loadText}
+use Rattle.format.proofs.Numbers.{Got, got}
+use Rattle.format.proofs.Dates.{day-is}
 use Rattle.format.specs.declared.Number.{Number}
 use Rattle.format.specs.declared.Number.the-variants.{Is, Bad}
 
@@ -26,25 +30,6 @@ use Rattle.format.specs.declared.Number.the-variants.{Is, Bad}
 pub digits-are : (least most : ℕ) (s : List ℕ) → least ≤ length s → length s ≤ most → all isDigit s ≡ true → numberOf least most s ≡ Is (decimal s)
 unfolding numberOf areAll
 digits-are least most s l h a = rw (le-leb least (length s) l, le-leb (length s) most h, a)
-
--- what a field that holds a number says of its bytes
-pub record Held (least most : ℕ) (s : List ℕ) (v : ℕ) : Type 0 where
-  pub least-is : least ≤ length s
-  pub most-is : length s ≤ most
-  pub digits : all isDigit s ≡ true
-  pub number : decimal s ≡ v
-
-held-if : (t : Bool) (d v : ℕ) → cond t (Is d) Bad ≡ Is v → (t ≡ true) × (d ≡ v)
-held-if true d v e = (refl, (cc))
-held-if false d v e = let z : _≡_ {A = ℕ} 0 1 = cc in absurd (omega arith)
-
-pub held : (least most : ℕ) (s : List ℕ) (v : ℕ) → numberOf least most s ≡ Is v → Held least most s v
-unfolding numberOf areAll
-held least most s v e =
-    let a = held-if (areAll isDigit least most s) (decimal s) v e in
-    let b = each (leb least (length s) && leb (length s) most) (all isDigit s) (a .0) in
-    let d = each (leb least (length s)) (leb (length s) most) (b .0) in
-    record { least-is = leb-true least (length s) (d .0); most-is = leb-true (length s) most (d .1); digits = b .1; number = a .1 }
 
 -- k digits
 padded-back : (k n : ℕ) → n < 10 ^ k → numberOf k k (padded k n) ≡ Is n
@@ -70,18 +55,18 @@ small-back most n p h b =
     rw (no-leading-zero n b)
     (digits-are 1 most (dec n) (dec-some n) (dec-most n most p h) (all-dec n) ∙ ap Is (decimal-dec n b))
 
-pub small-held : (most : ℕ) (s : List ℕ) (n : ℕ) → smallOf most s ≡ Is n → Held 1 most s n
+pub small-got : (most : ℕ) (s : List ℕ) (n : ℕ) → smallOf most s ≡ Is n → Got 1 most s n
 unfolding smallOf
-small-held most s n e = by (leadingZero s) (λ t. absurd (impossible (rw t at e))) (λ t. held 1 most s n (rw t at e))
+small-got most s n e = by (leadingZero s) (λ t. absurd (impossible (rw t at e))) (λ t. got 1 most s n (rw t at e))
   where
     impossible : Bad ≡ Is n → ⊥
     impossible q = let z : _≡_ {A = ℕ} 0 1 = cc in omega arith
 
-pub held-least : (least most : ℕ) (s : List ℕ) (n : ℕ) → 1 ≤ least → Held least most s n → length (dec n) ≤ length s
-held-least least most s n p g = subst (λ (k : ℕ). length (dec k) ≤ length s) (g .number) (dec-least s (g .digits) (omega (arith, g .least-is)))
+pub got-least : (least most : ℕ) (s : List ℕ) (n : ℕ) → 1 ≤ least → Got least most s n → length (dec n) ≤ length s
+got-least least most s n p g = subst (λ (k : ℕ). length (dec k) ≤ length s) (g .number) (dec-least s (g .is) (omega (arith, g .low)))
 
 pub small-shortest : (most : ℕ) (s : List ℕ) (n : ℕ) → smallOf most s ≡ Is n → length (dec n) ≤ length s
-small-shortest most s n e = held-least 1 most s n (omega arith) (small-held most s n e)
+small-shortest most s n e = got-least 1 most s n (omega arith) (small-got most s n e)
 
 pub reason-back : (r : ℕ) → fitReason r ≡ true → reasonOf (reasonText r) ≡ Is r
 unfolding fitReason reasonOf reasonText
@@ -108,33 +93,24 @@ reason-shortest s r e =
 that-passed : (p : ℕ → Bool) (n : ℕ) → p n ≡ true → that p (Is n) ≡ Is n
 that-passed p n t = rw t
 
-that-held : (p : ℕ → Bool) (x : Number) (n : ℕ) → that p x ≡ Is n → x ≡ Is n
-that-held p (Is v) n e = by (p v) (λ t. rw t at e) (λ t. absurd (impossible (rw t at e)))
+that-got : (p : ℕ → Bool) (x : Number) (n : ℕ) → that p x ≡ Is n → x ≡ Is n
+that-got p (Is v) n e = by (p v) (λ t. rw t at e) (λ t. absurd (impossible (rw t at e)))
   where
     impossible : Bad ≡ Is n → ⊥
     impossible q = let z : _≡_ {A = ℕ} 0 1 = cc in omega arith
-that-held p Bad n e = let z : _≡_ {A = ℕ} 0 1 = cc in absurd (omega arith)
+that-got p Bad n e = let z : _≡_ {A = ℕ} 0 1 = cc in absurd (omega arith)
 
 -- a date has eight digits, a time fourteen
-year-below : (y m d : ℕ) → isDay y m d ≡ true → y ≤ 2199
-unfolding isDay
-year-below y m d e =
-    let c1 = each _ (leb d (daysIn y m)) e in
-    let c2 = each _ (leb 1 d) (c1 .0) in
-    let c3 = each _ (leb m 12) (c2 .0) in
-    let c4 = each _ (leb 1 m) (c3 .0) in
-    leb-true y 2199 (each (leb 1900 y) (leb y 2199) (c4 .0) .1)
-
 pub date-below : (t : ℕ) → isDate t ≡ true → t < 10 ^ 8
 unfolding isDate
-date-below t e = omega (arith, year-below (t / 10000) (t / 100 % 100) (t % 100) e)
+date-below t e = omega (arith, day-is (t / 10000) (t / 100 % 100) (t % 100) e)
 
 pub time-below : (t : ℕ) → isTime t ≡ true → t < 10 ^ 14
 unfolding isTime
 time-below t e =
-    let c1 = each _ (ltb (t % 100) 60) e in
-    let c2 = each _ (ltb (t / 100 % 100) 60) (c1 .0) in
-    let c3 = each (isDate (t / 1000000)) (ltb (t / 10000 % 100) 24) (c2 .0) in
+    let c1 = and-true _ (ltb (t % 100) 60) e in
+    let c2 = and-true _ (ltb (t / 100 % 100) 60) (c1 .0) in
+    let c3 = and-true (isDate (t / 1000000)) (ltb (t / 10000 % 100) 24) (c2 .0) in
     omega (arith, date-below (t / 1000000) (c3 .0))
 
 pub date-back : (t : ℕ) → isDate t ≡ true → dateOf (padded 8 t) ≡ Is t
@@ -155,11 +131,11 @@ load-back t f =
 
 pub date-length : (s : List ℕ) (t : ℕ) → dateOf s ≡ Is t → length s ≡ 8
 unfolding dateOf
-date-length s t e = let g = held 8 8 s t (that-held isDate (numberOf 8 8 s) t e) in omega (arith, g .least-is, g .most-is)
+date-length s t e = let g = got 8 8 s t (that-got isDate (numberOf 8 8 s) t e) in omega (arith, g .low, g .high)
 
 pub time-length : (s : List ℕ) (t : ℕ) → timeOf s ≡ Is t → length s ≡ 14
 unfolding timeOf
-time-length s t e = let g = held 14 14 s t (that-held isTime (numberOf 14 14 s) t e) in omega (arith, g .least-is, g .most-is)
+time-length s t e = let g = got 14 14 s t (that-got isTime (numberOf 14 14 s) t e) in omega (arith, g .low, g .high)
 
 pub load-shortest : (s : List ℕ) (t : ℕ) → loadOf s ≡ Is t → length (loadText t) ≤ length s
 unfolding loadOf loadText

@@ -7,18 +7,20 @@ use mathlib.Core.List.{List, [], _∷_, _++_, append-nil}
 use native.Mathlib.Nat.{pow-zero, one-le-pow, mul-le-mul-right, sub-self, add-suc}
 use native.Mathlib.Numerals.{add-one}
 use native.Mathlib.Omega.{arith}
-use lib.Pow.{pow-add}
 use lib.ListN.{length, take, drop, length-append, length-drop}
 use lib.Seq.{length-take-le, take-append-seam, drop-append-add}
 use lib.Dec.{leb, eqb, ltb}
 use borrow.Author.Tests.{eq-eqb, ne-eqb, le-leb, leb-true, eqb-true, eqb-false}
 use Rattle.ground.specs.Lists.{all, spanOf, other}
 use Rattle.ground.specs.Digits.{isDigit, decimal, padded, dec}
-use Rattle.ground.proofs.Cases.{split, same-or, by, each, both}
-use Rattle.ground.proofs.Digits.{ten, length-padded, all-padded, decimal-padded, decimal-lt, all-dec, decimal-dec, dec-some, dec-most, dec-least}
+use Rattle.ground.proofs.Tests.{and-true}
+use Rattle.ground.proofs.Cases.{split, same-or, by, both}
+use Rattle.ground.proofs.Decimal.{decimal-below}
+use Rattle.ground.proofs.Digits.{ten, length-padded, all-padded, decimal-padded, all-dec, decimal-dec, dec-some, dec-most, dec-least}
 use Rattle.format.specs.Numbers.{numberOf, times, amount, point, before, behind, decimals, fractionOf, valueOf}
 use Rattle.format.specs.Block.{places, trimmed, fractionText, valueText}
-use Rattle.format.proofs.NumberText.{digits-are, Held, held, held-least}
+use Rattle.format.proofs.Numbers.{under-is, Got, got, fraction-under}
+use Rattle.format.proofs.NumberText.{digits-are, got-least}
 use Rattle.format.specs.declared.Number.{Number}
 use Rattle.format.specs.declared.Number.the-variants.{Is, Bad}
 
@@ -83,13 +85,13 @@ fraction-some f e = rw (ne-eqb f 0 e)
 
 digit-no-point : (b : ℕ) → isDigit b ≡ true → other 46 b ≡ true
 unfolding isDigit
-digit-no-point b h = ap not (ne-eqb b 46 (λ e. omega (arith, leb-true 48 b (each (leb 48 b) (leb b 57) h .0))))
+digit-no-point b h = ap not (ne-eqb b 46 (λ e. omega (arith, leb-true 48 b (and-true (leb 48 b) (leb b 57) h .0))))
 
 point-behind : (xs ys : List ℕ) → all isDigit xs ≡ true → point (xs ++ ys) ≡ length xs + point ys
 unfolding spanOf
 point-behind [] ys h = omega arith
 point-behind (x ∷ xs) ys h =
-    let g = each (isDigit x) (all isDigit xs) h in
+    let g = and-true (isDigit x) (all isDigit xs) h in
     rw (digit-no-point x (g .0)) (omega (arith, point-behind xs ys (g .1)))
 
 point-le : (s : List ℕ) → point s ≤ length s
@@ -126,22 +128,13 @@ value-back v h =
 
 -- ---- and no text that holds it is shorter
 
--- a fraction of a text that holds a value: m is what its digits write
-fraction-lt : (s : List ℕ) (m : ℕ) → Held 1 6 s m → m * 10 ^ (6 - length s) < 10 ^ 6
-fraction-lt s m g =
-    let k : ℕ = length s in
-    let r : k + (6 - k) ≡ 6 = omega (arith, g .most-is) in
-    let q : 10 ^ k * 10 ^ (6 - k) ≡ 10 ^ 6 = sym (pow-add 10 k (6 - k)) ∙ ap (λ (j : ℕ). 10 ^ j) r in
-    let b : (m + 1) * 10 ^ (6 - k) ≤ 10 ^ k * 10 ^ (6 - k) = mul-le-mul-right (10 ^ (6 - k)) (omega (arith, decimal-lt s (g .digits), g .number)) in
-    let o : 1 ≤ 10 ^ (6 - k) = one-le-pow (6 - k) 10 (omega arith) in
-    omega arith
-
-fraction-least : (s : List ℕ) (m : ℕ) → Held 1 6 s m → length (fractionText (m * 10 ^ (6 - length s))) ≤ 1 + length s
+-- m is what the digits behind the point write
+fraction-least : (s : List ℕ) (m : ℕ) → Got 1 6 s m → length (fractionText (m * 10 ^ (6 - length s))) ≤ 1 + length s
 fraction-least s m g =
     let f : ℕ = m * 10 ^ (6 - length s) in
     same-or f 0
     (λ e. rw (fraction-none f e) zero-le)
-    (λ e. rw (fraction-some f e) (omega (arith, length-padded (places 6 f) (trimmed 6 f), places-least 6 f (length s) m (g .most-is) refl)))
+    (λ e. rw (fraction-some f e) (omega (arith, length-padded (places 6 f) (trimmed 6 f), places-least 6 f (length s) m (g .high) refl)))
 
 -- the text of whole units and millionths
 length-value : (v w f : ℕ) → v ≡ w * 10 ^ 6 + f → f < 10 ^ 6 → length (valueText v) ≡ length (dec w) + length (fractionText f)
@@ -158,7 +151,7 @@ value-shortest s v e = by (eqb (point s) (length s)) (λ t. plain-case (numberOf
     plain-case : (x : Number) → numberOf 1 7 s ≡ x → amount x (Is 0) ≡ Is v → length (valueText v) ≤ length s
     plain-case (Is w) i q =
         let z : w * 10 ^ 6 + 0 ≡ v = cc in
-        omega (arith, length-value v w 0 (sym z) (omega arith), ap length (fraction-none 0 refl), held-least 1 7 s w (omega arith) (held 1 7 s w i))
+        omega (arith, length-value v w 0 (sym z) (omega arith), ap length (fraction-none 0 refl), got-least 1 7 s w (omega arith) (got 1 7 s w i))
     plain-case Bad i q = let z : _≡_ {A = ℕ} 0 1 = cc in absurd (omega arith)
 
     split-case : point s ≢ length s → (x : Number) → numberOf 1 7 (before s) ≡ x → (y : Number) → numberOf 1 6 (behind s) ≡ y
@@ -166,12 +159,12 @@ value-shortest s v e = by (eqb (point s) (length s)) (λ t. plain-case (numberOf
     split-case n (Is w) i (Is m) j q =
         let f : ℕ = m * 10 ^ (6 - length (behind s)) in
         let z : w * 10 ^ 6 + f ≡ v = cc in
-        let g = held 1 6 (behind s) m j in
+        let g = got 1 6 (behind s) m j in
         omega (
           arith,
           point-le s,
-          length-value v w f (sym z) (fraction-lt (behind s) m g),
-          held-least 1 7 (before s) w (omega arith) (held 1 7 (before s) w i),
+          length-value v w f (sym z) (under-is (10 ^ 6) (fraction-under 6 (behind s)) (ap (times (10 ^ (6 - length (behind s)))) j)),
+          got-least 1 7 (before s) w (omega arith) (got 1 7 (before s) w i),
           fraction-least (behind s) m g,
           length-take-le (point s) s (point-le s),
           length-drop (point s + 1) s,

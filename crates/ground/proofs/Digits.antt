@@ -12,7 +12,9 @@ use lib.Dec.{leb, ltb, lit≤}
 use borrow.Author.Tests.{lt-ltb, le-ltb, le-leb, leb-true}
 use Rattle.ground.specs.Lists.{all}
 use Rattle.ground.specs.Digits.{isDigit, decimalFrom, decimal, padded, widthFrom, width, dec}
-use Rattle.ground.proofs.Cases.{split, each, both}
+use Rattle.ground.proofs.Tests.{and-true}
+use Rattle.ground.proofs.Decimal.{decimal-below}
+use Rattle.ground.proofs.Cases.{split, both}
 
 -- ten times as much
 pub ten : (k : ℕ) → 10 ^ suc k ≡ 10 ^ k * 10
@@ -23,7 +25,7 @@ ten k = pow-suc 10 k
 pub all-append : {X : Type 0} (p : X → Bool) (xs ys : List X) → all p xs ≡ true → all p ys ≡ true → all p (xs ++ ys) ≡ true
 all-append p [] ys e f = f
 all-append p (x ∷ xs) ys e f =
-    let g = each (p x) (all p xs) e in
+    let g = and-true (p x) (all p xs) e in
     both (p x) (all p (xs ++ ys)) (g .0) (all-append p xs ys (g .1) f)
 
 -- ---- the last digits of a number
@@ -67,23 +69,6 @@ decimal-padded-from (suc k) v n h =
 
 pub decimal-padded : (k n : ℕ) → n < 10 ^ k → decimal (padded k n) ≡ n
 decimal-padded k n h = decimal-padded-from k 0 n h ∙ omega arith
-
--- digits write less than as many nines and one
-decimal-from-lt : (v : ℕ) (s : List ℕ) → all isDigit s ≡ true → decimalFrom v s < (v + 1) * 10 ^ length s
-unfolding isDigit
-decimal-from-lt v [] e = omega (arith, pow-zero 10)
-decimal-from-lt v (b ∷ s) e =
-    let g = each (isDigit b) (all isDigit s) e in
-    let d = each (leb 48 b) (leb b 57) (g .0) in
-    let lo : 48 ≤ b = leb-true 48 b (d .0) in
-    let hi : b ≤ 57 = leb-true b 57 (d .1) in
-    let ih : decimalFrom (v * 10 + (b - 48)) s < (v * 10 + (b - 48) + 1) * 10 ^ length s
-    = decimal-from-lt (v * 10 + (b - 48)) s (g .1) in
-    let m : (v * 10 + (b - 48) + 1) * 10 ^ length s ≤ (v * 10 + 10) * 10 ^ length s = mul-le-mul-right (10 ^ length s) (omega arith) in
-    rw (ten (length s)) (omega arith)
-
-pub decimal-lt : (s : List ℕ) → all isDigit s ≡ true → decimal s < 10 ^ length s
-decimal-lt s e = omega (arith, decimal-from-lt 0 s e)
 
 -- ---- how many digits a number has
 
@@ -197,4 +182,4 @@ unfolding width
 dec-most n k p h = omega (arith, length-dec n, width-least 19 n k p h)
 
 pub dec-least : (s : List ℕ) → all isDigit s ≡ true → 1 ≤ length s → length (dec (decimal s)) ≤ length s
-dec-least s e p = dec-most (decimal s) (length s) p (decimal-lt s e)
+dec-least s e p = dec-most (decimal s) (length s) p (decimal-below s e)

@@ -11,7 +11,8 @@ use lib.Dec.{leb}
 use borrow.Author.Tests.{le-leb, leb-true}
 use Rattle.ground.specs.Lists.{from}
 use Rattle.ground.specs.Runs.{Run, run, spell, proper, glue, runs}
-use Rattle.ground.proofs.Cases.{by, each, both}
+use Rattle.ground.proofs.Tests.{and-true}
+use Rattle.ground.proofs.Cases.{by, both}
 use Rattle.ground.proofs.From.{from-step, from-end}
 
 -- what a cover costs that begins behind the first a places
@@ -84,8 +85,8 @@ module _ {X : Type 0} (same : X → X → Bool) where
     norm-is : (c : List (Run X)) → proper c ≡ true → norm c ≡ runs same (spell c)
     unfolding norm spell proper runs
     norm-is [] p = refl
-    norm-is (run zero m ∷ c) p = absurd (omega (arith, leb-true 1 0 (each (leb 1 0) (proper c) p .0)))
-    norm-is (run (suc k) m ∷ c) p = ap (glue same (suc k) m) (norm-is c (each (leb 1 (suc k)) (proper c) p .1)) ∙ sym (runs-glue k m (spell c))
+    norm-is (run zero m ∷ c) p = absurd (omega (arith, leb-true 1 0 (and-true (leb 1 0) (proper c) p .0)))
+    norm-is (run (suc k) m ∷ c) p = ap (glue same (suc k) m) (norm-is c (and-true (leb 1 (suc k)) (proper c) p .1)) ∙ sym (runs-glue k m (spell c))
 
     -- ---- the theorems
 
@@ -106,7 +107,7 @@ module _ {X : Type 0} (same : X → X → Bool) where
   glue-proper k m [] h p = both (leb 1 k) true (le-leb 1 k h) refl
   glue-proper k m (run j x ∷ c) h p =
       by (same m x)
-      (λ e. rw e (both (leb 1 (k + j)) (proper c) (le-leb 1 (k + j) (omega arith)) (each (leb 1 j) (proper c) p .1)))
+      (λ e. rw e (both (leb 1 (k + j)) (proper c) (le-leb 1 (k + j) (omega arith)) (and-true (leb 1 j) (proper c) p .1)))
       (λ e. rw e (both (leb 1 k) (proper (run j x ∷ c)) (le-leb 1 k h) p))
 
   pub runs-proper : (ms : List X) → proper (runs same ms) ≡ true

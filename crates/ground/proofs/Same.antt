@@ -6,7 +6,8 @@ use mathlib.Core.List.{List, [], _∷_}
 use lib.Dec.{eqb}
 use borrow.Author.Tests.{eq-eqb, eqb-true}
 use Rattle.ground.specs.Lists.{same}
-use Rattle.ground.proofs.Cases.{each, both}
+use Rattle.ground.proofs.Tests.{and-true}
+use Rattle.ground.proofs.Cases.{both}
 
 pub same-itself : (s : List ℕ) → same s s ≡ true
 unfolding same
@@ -19,5 +20,5 @@ same-sound [] [] e = refl
 same-sound [] (y ∷ t) e = absurd (false≢true e)
 same-sound (x ∷ s) [] e = absurd (false≢true e)
 same-sound (x ∷ s) (y ∷ t) e =
-    let g = each (eqb x y) (same s t) e in
+    let g = and-true (eqb x y) (same s t) e in
     ap₂ (λ (z : ℕ) (r : List ℕ). z ∷ r) (eqb-true x y (g .0)) (same-sound s t (g .1))

@@ -1,0 +1,64 @@
+-- What the tests of a date and of a time say, as facts about numbers.
+-- Assumes nothing.
+use mathlib.Core.Path.{_≡_, refl, sym}
+use mathlib.Core.Bool.{Bool, true, false}
+use Prim.Native.Nat.{ℕ, _/_, _%_, _≤_, _<_}
+use lib.Dec.{leb}
+use borrow.Author.Tests.{leb-true, ltb-true, le-leb, lt-ltb}
+use Rattle.ground.proofs.Tests.{and-true, and-end}
+use Rattle.format.specs.Dates.{isLeap, daysIn, isDay, isDate, isTime}
+
+pub record Day (y m d : ℕ) : Type 0 where
+  pub from : 1900 ≤ y
+  pub to : y ≤ 2199
+  pub first : 1 ≤ m
+  pub last : m ≤ 12
+  pub one : 1 ≤ d
+  pub end : d ≤ daysIn y m
+
+pub day-is : (y m d : ℕ) → isDay y m d ≡ true → Day y m d
+unfolding isDay
+day-is y m d t =
+    let t5 = and-true _ _ t in
+    let t4 = and-true _ _ (t5 .0) in
+    let t3 = and-true _ _ (t4 .0) in
+    let t2 = and-true _ _ (t3 .0) in
+    let t1 = and-true _ _ (t2 .0) in
+    record {
+      from = leb-true _ _ (t1 .0);
+      to = leb-true _ _ (t1 .1);
+      first = leb-true _ _ (t2 .1);
+      last = leb-true _ _ (t3 .1);
+      one = leb-true _ _ (t4 .1);
+      end = leb-true _ _ (t5 .1);
+    }
+
+pub day-end : (y m d : ℕ) {e : ℕ} → e ≡ daysIn y m → 1900 ≤ y → y ≤ 2199 → 1 ≤ m → m ≤ 12 → 1 ≤ d → leb d e ≡ isDay y m d
+unfolding isDay
+day-end y m d q a b f l o = rw (q, le-leb _ _ a, le-leb _ _ b, le-leb _ _ f, le-leb _ _ l, le-leb _ _ o)
+
+pub record Clock (t : ℕ) : Type 0 where
+  pub hour : t / 10000 % 100 < 24
+  pub minute : t / 100 % 100 < 60
+  pub second : t % 100 < 60
+
+pub clock-is : (t : ℕ) → isTime t ≡ true → Clock t
+unfolding isTime
+clock-is t e =
+    let t3 = and-true _ _ e in
+    let t2 = and-true _ _ (t3 .0) in
+    let t1 = and-true (isDate (t / 1000000)) _ (t2 .0) in
+    record { hour = ltb-true _ _ (t1 .1); minute = ltb-true _ _ (t2 .1); second = ltb-true _ _ (t3 .1) }
+
+pub clock-end : (t : ℕ) {b : Bool} → b ≡ isDate (t / 1000000) → t / 10000 % 100 < 24 → t / 100 % 100 < 60 → t % 100 < 60 → b ≡ isTime t
+unfolding isTime
+clock-end t q h m s = rw (lt-ltb _ _ h, lt-ltb _ _ m, lt-ltb _ _ s, ← q) (sym (and-end _))
+
+module _ (y m : ℕ) {b : Bool} (e : b ≡ isLeap y) (f : m ≡ 2) where
+  pub days-leap : b ≡ true → 29 ≡ daysIn y m
+  unfolding daysIn
+  days-leap t = rw (f, ← e, t)
+
+  pub days-short : b ≡ false → 28 ≡ daysIn y m
+  unfolding daysIn
+  days-short t = rw (f, ← e, t)
