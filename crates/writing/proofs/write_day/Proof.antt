@@ -1,3 +1,6 @@
+use denote.Ref.{now}
+use Rattle.writing.proofs.Refusals.{no-room, placed, placed-room, day-fit, day-bytes, unfit, fit-written, no-length, no-length-left, too-short, too-short-left, values-cut, lists-ready, day-answer, day-left}
+use native.Mathlib.Omega.{arith}
 use borrow.Author.Needs.{needs}
 use Rattle.writing.proofs.write_day.Statement.{statement}
 use Rattle.writing.proofs.write_day.Tie as tie
@@ -22,7 +25,7 @@ no-block-requires c κs = search needs
 
 -- src/lib.rt:126:9
 returns : tie.Need-returns
-returns c = ?
+returns c = (search no-length, search no-length-left)
 
 -- src/lib.rt:128:9
 enough-requires : tie.Need-enough-requires
@@ -34,15 +37,15 @@ no-block-requires-2 c κs = search needs
 
 -- src/lib.rt:129:9
 returns-2 : tie.Need-returns-2
-returns-2 c = ?
+returns-2 c = (search too-short, search too-short-left)
 
 -- src/lib.rt:131:21
 slice-aggregate-write-long : tie.Need-slice-aggregate-write-long
-slice-aggregate-write-long c = ?
+slice-aggregate-write-long c = search values-cut
 
 -- src/lib.rt:131:5
 write-long-requires : tie.Need-write-long-requires
-write-long-requires c κs = ?
+write-long-requires c κs = lists-ready _ _ _ _ _ _ _ (c .before .before .before .enough .ensures) (c .before .before .if2 .left) _ (c .before .before .before .before .before .intervals .ensures) (c .before .before .before .before .if1 .left)
 
 -- src/lib.rt:110:1
 same-length : tie.Need-same-length
@@ -50,7 +53,7 @@ same-length c = search needs
 
 -- src/lib.rt:110:1
 returns-3 : tie.Need-returns-3
-returns-3 c = ?
+returns-3 c = (search day-answer, search day-left)
 
 pub write-day-spec : {M : Type 1} → statement M
 write-day-spec =

@@ -1,3 +1,6 @@
+use denote.Ref.{now}
+use Rattle.writing.proofs.Refusals.{no-room, placed, placed-room, day-fit, day-bytes, unfit, fit-written, no-length, no-length-left, too-short, too-short-left, values-cut, lists-ready, day-answer, day-left}
+use native.Mathlib.Omega.{arith}
 use borrow.Author.Needs.{needs}
 use Rattle.writing.proofs.write_long.Statement.{statement}
 use Rattle.writing.proofs.write_long.Tie as tie
@@ -25,11 +28,11 @@ enum-known-m c = search needs
 
 -- src/lib.rt:103:31
 write-fit-requires : tie.Need-write-fit-requires
-write-fit-requires c κs = ?
+write-fit-requires c κs = (c .before .before .before .before .before .before .before .before .before .before .before .before .before .pre, (search day-fit, search day-bytes))
 
 -- src/lib.rt:85:1
 returns : tie.Need-returns
-returns c = ?
+returns c = search unfit
 
 -- src/lib.rt:85:1
 same-length : tie.Need-same-length
@@ -37,7 +40,7 @@ same-length c = search needs
 
 -- src/lib.rt:85:1
 returns-2 : tie.Need-returns-2
-returns-2 c = ?
+returns-2 c = search fit-written
 
 pub write-long-spec : {M : Type 1} → statement M
 write-long-spec =
