@@ -65,7 +65,8 @@ pub fn created(f: &[u8]) -> Number
 pub fn next_read_date(f: &[u8]) -> Number
     ensures { λ r. ⌜ r ≡ nextReadOf (now (f .entry)) ⌝ }
 {
-    if f.len() == 0 {
+    let n = f.len();
+    if n == 0 {
         return Number::Is(0);
     }
     date(f)
@@ -74,7 +75,8 @@ pub fn next_read_date(f: &[u8]) -> Number
 pub fn load_time(f: &[u8]) -> Number
     ensures { λ r. ⌜ r ≡ loadOf (now (f .entry)) ⌝ }
 {
-    if f.len() == 0 {
+    let size = f.len();
+    if size == 0 {
         return Number::Is(0);
     }
     time(f)

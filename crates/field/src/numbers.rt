@@ -210,7 +210,8 @@ pub fn register_read(f: &[u8]) -> bool
 pub fn index_read(f: &[u8]) -> bool
     ensures { λ r. ⌜ r ≡ isIndexRead (now (f .entry)) ⌝ }
 {
-    if f.len() == 0 {
+    let n = f.len();
+    if n == 0 {
         return true;
     }
     register_read(f)
