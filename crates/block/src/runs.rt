@@ -22,7 +22,7 @@ ghost use Rattle.fit.specs.Tags.{markOf, marksFrom, fitTag};
 ghost use Rattle.block.specs.Cover.{coverFrom, RunEnds, Marked, Sized, spanText};
 
 // Where the run ends that begins with interval i.
-pub fn run_end(
+fn run_end(
     flags: &[u8],
     methods: &[u8],
     reasons: &[u16],

@@ -17,7 +17,7 @@ ghost use Rattle.text.specs.Inside.{inside};
 ghost use Rattle.fit.specs.Tags.{tagFrom, fitFields, fitTag, fitMarks, Long};
 
 // A quality that a 400 may carry.
-pub fn fit_quality(flag: u8, method: u8) -> bool
+fn fit_quality(flag: u8, method: u8) -> bool
     ensures { λ r. ⌜ r ≡ fitQuality flag method ⌝ }
 {
     if stands_alone(400, flag) {
@@ -29,7 +29,7 @@ pub fn fit_quality(flag: u8, method: u8) -> bool
     false
 }
 
-pub fn fit_reason(reason: u16) -> bool
+fn fit_reason(reason: u16) -> bool
     ensures { λ r. ⌜ r ≡ fitReason reason ⌝ }
 {
     if reason == 65535 {
@@ -75,7 +75,7 @@ fn fit_description(f: &[u8]) -> bool
 }
 
 // The sum of start and length may be too large for a word, so it is not taken before both are known to be small.
-pub fn is_inside(text: &[u8], s: usize, n: usize) -> bool
+fn is_inside(text: &[u8], s: usize, n: usize) -> bool
     ensures { λ r. ⌜ r ≡ inside (now (text .entry)) s n ⌝ }
 {
     if n == 0 {
@@ -102,7 +102,7 @@ fn fit_fields(t: Tag) -> bool
 }
 
 // A tag whose mark a 400 may carry.
-pub fn fit_tag(text: &[u8], t: Tag) -> bool
+fn fit_tag(text: &[u8], t: Tag) -> bool
     ensures { λ r. ⌜ r ≡ fitTag (now (text .entry)) t ⌝ }
 {
     if !fit_fields(t) {

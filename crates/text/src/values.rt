@@ -14,12 +14,12 @@ ghost use Rattle.text.specs.Trims.{Trims};
 const MILLION: u64 = 1000000;
 
 // Decimals without the zeros at their end: how many are left, and the number that they write.
-pub struct Decimals {
-    pub places: usize,
-    pub number: u64,
+struct Decimals {
+    places: usize,
+    number: u64,
 }
 
-pub fn trim(f: u64) -> Decimals
+fn trim(f: u64) -> Decimals
     ensures { λ r. ⌜ Trims f (r .places) (r .number) ⌝ }
 {
     let mut p: usize = 6;

@@ -1,5 +1,5 @@
 // Writes one day as the shortest block that says it.
-pub mod pieces;
+mod pieces;
 
 use block::Measured;
 use field::numbers::intervals;
