@@ -1,5 +1,11 @@
 pub mod Tests
+pub mod Cases
 pub mod Lists
+pub mod Same
 pub mod Decimal
 pub mod Spans
 pub mod Prefix
+pub mod Digits
+pub mod From
+pub mod Room
+pub mod Runs

@@ -1,0 +1,3 @@
+pub mod OneMark
+pub mod ValueList
+pub mod Covers

@@ -1,0 +1,186 @@
+-- Each way out of the writer: the answer that the meaning gives there, and what it leaves of the room. Assumes nothing.
+use Prim.Native.Nat.{ℕ, _+_, _/_, _≤_, _<_}
+use mathlib.Core.Path.{_≡_, refl, sym, ap, ap₂, _∙_}
+use mathlib.Core.Bool.{Bool, true, false, cond, not, _&&_, _||_, and-assoc}
+use mathlib.Core.List.{List, [], _∷_, _++_}
+use native.Mathlib.Omega.{arith}
+use lib.ListN.{length, take, drop, getD}
+use lib.Seq.{sets, length-take-le}
+use lib.Dec.{leb, eqb}
+use borrow.Author.Tests.{eq-eqb, ne-eqb, le-leb, lt-leb, leb-true, not-true, not-false}
+use Rattle.ground.specs.Lists.{all, from}
+use Rattle.ground.specs.Room.{Put}
+use Rattle.ground.proofs.Tests.{and-true}
+use Rattle.ground.proofs.Cases.{same-or, by}
+use Rattle.ground.proofs.Room.{sets-front}
+use Rattle.format.specs.Numbers.{isLength, intervalsOf}
+use Rattle.format.specs.Dates.{isDate, isTime}
+use Rattle.format.specs.Answers.{Answer, accepted, refused, refusal, writtenAs}
+use Rattle.format.specs.Day.{Five, five, Day, enoughFor}
+use Rattle.format.specs.Block.{Given, given, intervalsGiven, markGiven, dayGiven, fitMark, fitValue, fitDay, isInside, fitGiven, valuesText, blockOf, recordsOf, writeOf, leftBy, roomOf}
+use Rattle.format.specs.declared.DayHead.{DayHead}
+use Rattle.format.specs.declared.Written.{Written}
+use Rattle.format.specs.declared.Written.the-variants.{Block}
+use Rattle.text.specs.Inside.{inside}
+use Rattle.fit.specs.Tags.{tagFrom, markOf, marksFrom, tagInside, insideAt, fitMarks, Long}
+use Rattle.block.specs.declared.Measured.{Measured}
+use Rattle.block.specs.declared.Measured.the-variants.{Bytes, Unfit}
+use Rattle.writing.specs.Pieces.{dayWith, fitHead, fitWith, fitOf, Ready, Sizes}
+use Rattle.writing.specs.Layers.{placedOf, answeredOf, Writes}
+
+-- ---- a fit day
+
+module _ (d : Day) {b r : ℕ} (s : Sizes d b r) (room : List ℕ) where
+  pub no-room : {w : Written} → length room < b → writtenAs w ≡ refusal 15 → Writes (placedOf d (length room)) (blockOf d) room w room
+  unfolding placedOf
+  no-room h e =
+      let f : leb (length (blockOf d)) (length room) ≡ false = lt-leb (length (blockOf d)) (length room) (omega (arith, s .bytes-are)) in
+      record { answer = rw f e; left = rw f }
+
+  pub placed : {p : ℕ} {after : List ℕ} → b ≤ length room → Put room 0 (blockOf d) p after → Writes (placedOf d (length room)) (blockOf d) room (Block b r) after
+  unfolding placedOf
+  placed h w =
+      let g : length (blockOf d) ≤ length room = omega (arith, s .bytes-are) in
+      let f : leb (length (blockOf d)) (length room) ≡ true = le-leb (length (blockOf d)) (length room) g in
+      record {
+        answer = rw f (ap₂ (λ (x y : ℕ). accepted (x ∷ y ∷ [])) (s .bytes-are) (s .records-are));
+        left = rw f (w .room ∙ sets-front room (blockOf d) g);
+      }
+
+  pub placed-room : b ≤ length room → length (blockOf d) ≤ length room
+  placed-room h = omega (arith, s .bytes-are)
+
+-- ---- a day whose lists are long enough
+
+bytes-if : (t : Bool) (j k : ℕ) → Bytes k ≡ cond t (Bytes j) Unfit → (t ≡ true) × (k ≡ j)
+bytes-if true j k e = (refl, (cc))
+bytes-if false j k e = let z : _≡_ {A = ℕ} 0 1 = cc in absurd (omega arith)
+
+unfit-if : (t : Bool) (j : ℕ) → Unfit ≡ cond t (Bytes j) Unfit → t ≡ false
+unfit-if true j e = let z : _≡_ {A = ℕ} 0 1 = cc in absurd (omega arith)
+unfit-if false j e = refl
+
+module _ (h : DayHead) (n : ℕ) (vs : List ℕ) (l : Five) (text : List ℕ) {m : Measured} (e : m ≡ fitOf h n vs l text) where
+  pub day-fit : {k : ℕ} → m ≡ Bytes k → fitWith h n vs l text ≡ true
+  unfolding fitOf
+  day-fit {k} f = bytes-if (fitWith h n vs l text) (length (valuesText vs)) k (sym f ∙ e) .0
+
+  pub day-bytes : {k : ℕ} → m ≡ Bytes k → k ≡ length (valuesText vs)
+  unfolding fitOf
+  day-bytes {k} f = bytes-if (fitWith h n vs l text) (length (valuesText vs)) k (sym f ∙ e) .1
+
+  pub unfit : {w : Written} {room : List ℕ} → m ≡ Unfit → writtenAs w ≡ refusal 16
+      → Writes (answeredOf (fitWith h n vs l text) (dayWith h n vs l text) (length room)) (blockOf (dayWith h n vs l text)) room w room
+  unfolding answeredOf fitOf
+  unfit f q =
+      let z : fitWith h n vs l text ≡ false = unfit-if (fitWith h n vs l text) (length (valuesText vs)) (sym f ∙ e) in
+      record { answer = rw z q; left = rw z }
+
+  pub fit-written : {k : ℕ} {w : Written} {room after : List ℕ} → m ≡ Bytes k
+      → Writes (placedOf (dayWith h n vs l text) (length room)) (blockOf (dayWith h n vs l text)) room w after
+      → Writes (answeredOf (fitWith h n vs l text) (dayWith h n vs l text) (length room)) (blockOf (dayWith h n vs l text)) room w after
+  unfolding answeredOf
+  fit-written f x =
+      let z : fitWith h n vs l text ≡ true = day-fit f in
+      record { answer = rw z (x .answer); left = rw z (x .left) }
+
+-- ---- any day
+
+few-intervals : (m : ℕ) → intervalsOf m ≤ 288
+unfolding intervalsOf isLength
+few-intervals m =
+    same-or m 5 (λ e. rw e (omega arith))
+    (λ a. same-or m 15 (λ e. rw e (omega arith))
+    (λ b. same-or m 30 (λ e. rw e (omega arith)) (λ c. rw (ne-eqb m 5 a, ne-eqb m 15 b, ne-eqb m 30 c) (omega arith))))
+
+module _ (n : ℕ) (vs fs ms rs ss ls : List ℕ) {b : Bool} (f : b ≡ enoughFor n (length vs) (length fs) (length ms) (length rs) (length ss) (length ls)) (t : not b ≡ false) where
+  enough : enoughFor n (length vs) (length fs) (length ms) (length rs) (length ss) (length ls) ≡ true
+  enough = sym f ∙ not-false b t
+
+  pub values-long : n ≤ length vs
+  unfolding enoughFor
+  values-long =
+      let c1 = and-true _ (leb n (length ls)) enough in
+      let c2 = and-true _ (leb n (length ss)) (c1 .0) in
+      let c3 = and-true _ (leb n (length rs)) (c2 .0) in
+      let c4 = and-true _ (leb n (length ms)) (c3 .0) in
+      leb-true n (length vs) (and-true (leb n (length vs)) (leb n (length fs)) (c4 .0) .0)
+
+  pub values-cut : n ≡ length (take n vs)
+  values-cut = sym (length-take-le n vs values-long)
+
+  pub lists-ready : (m : ℕ) → n ≡ intervalsOf m → (n ≡ 0 → ⊥) → Ready n (take n vs) (five fs ms rs ss ls)
+  unfolding enoughFor
+  lists-ready m e some =
+      let c1 = and-true _ (leb n (length ls)) enough in
+      let c2 = and-true _ (leb n (length ss)) (c1 .0) in
+      let c3 = and-true _ (leb n (length rs)) (c2 .0) in
+      let c4 = and-true _ (leb n (length ms)) (c3 .0) in
+      let c5 = and-true (leb n (length vs)) (leb n (length fs)) (c4 .0) in
+      record {
+        some = omega arith;
+        few = omega (arith, few-intervals m);
+        values = length-take-le n vs values-long;
+        long =
+            record {
+              flags = leb-true n (length fs) (c5 .1);
+              methods = leb-true n (length ms) (c4 .1);
+              reasons = leb-true n (length rs) (c3 .1);
+              starts = leb-true n (length ss) (c2 .1);
+              lengths = leb-true n (length ls) (c1 .1);
+            };
+      }
+
+-- the tests of a fit day, in the order of the code
+reorder : (i d u o v m : Bool) → (i && (d && u && o && v && m)) ≡ (d && u && o && v && (i && m))
+reorder true d u o v m = refl
+reorder false true true true true m = refl
+reorder false true true true false m = refl
+reorder false true true false v m = refl
+reorder false true false o v m = refl
+reorder false false u o v m = refl
+
+module _ (h : DayHead) (vs fs ms rs ss ls text : List ℕ) {n : ℕ} (e : n ≡ intervalsOf (h .length)) where
+  same-day : dayGiven (given h vs fs ms rs ss ls text) ≡ dayWith h n (take n vs) (five fs ms rs ss ls) text
+  unfolding dayGiven intervalsGiven markGiven dayWith marksFrom markOf tagFrom
+  same-day = rw (← e)
+
+  same-fit : fitGiven (given h vs fs ms rs ss ls text) ≡ fitWith h n (take n vs) (five fs ms rs ss ls) text
+  unfolding fitGiven fitDay isInside dayGiven intervalsGiven markGiven fitWith fitHead fitMarks insideAt tagInside inside marksFrom markOf tagFrom
+  same-fit =
+      let l = five fs ms rs ss ls in
+      rw (← e)
+      (reorder (all (insideAt l text) (from (λ j. j) 0 n)) (isDate (h .date)) (isTime (h .update)) (eqb (h .load) 0 || isTime (h .load))
+      (all fitValue (take n vs)) (all fitMark (from (marksFrom l text) 0 n)))
+
+  pub no-length : {a : Answer} (room : List ℕ) → n ≡ 0 → a ≡ refusal 16 → a ≡ writeOf (given h vs fs ms rs ss ls text) (length room)
+  unfolding writeOf intervalsGiven
+  no-length room z q = rw (eq-eqb (intervalsOf (h .length)) 0 (sym e ∙ z)) q
+
+  pub no-length-left : (room : List ℕ) → n ≡ 0 → room ≡ roomOf (given h vs fs ms rs ss ls text) room
+  unfolding roomOf writeOf intervalsGiven
+  no-length-left room z = rw (eq-eqb (intervalsOf (h .length)) 0 (sym e ∙ z))
+
+  module _ (some : n ≡ 0 → ⊥) {b : Bool} (f : b ≡ enoughFor n (length vs) (length fs) (length ms) (length rs) (length ss) (length ls)) where
+    pub too-short : {a : Answer} (room : List ℕ) → not b ≡ true → a ≡ refusal 15 → a ≡ writeOf (given h vs fs ms rs ss ls text) (length room)
+    unfolding writeOf intervalsGiven
+    too-short room t q = rw (← e, ne-eqb n 0 some, ← f, not-true b t) q
+
+    pub too-short-left : (room : List ℕ) → not b ≡ true → room ≡ roomOf (given h vs fs ms rs ss ls text) room
+    unfolding roomOf writeOf intervalsGiven
+    too-short-left room t = rw (← e, ne-eqb n 0 some, ← f, not-true b t)
+
+    module _ (t : not b ≡ false) where
+      answered : (room : ℕ) → answeredOf (fitWith h n (take n vs) (five fs ms rs ss ls) text) (dayWith h n (take n vs) (five fs ms rs ss ls) text) room ≡ writeOf (given h vs fs ms rs ss ls text) room
+      unfolding writeOf intervalsGiven answeredOf placedOf
+      answered room = rw (← e, ne-eqb n 0 some, enough n vs fs ms rs ss ls f t, same-fit, same-day)
+
+      module _ (room : List ℕ) {w : Written} {after : List ℕ}
+          (x : Writes (answeredOf (fitWith h n (take n vs) (five fs ms rs ss ls) text) (dayWith h n (take n vs) (five fs ms rs ss ls) text) (length room))
+              (blockOf (dayWith h n (take n vs) (five fs ms rs ss ls) text)) room w after) where
+        pub day-answer : writtenAs w ≡ writeOf (given h vs fs ms rs ss ls text) (length room)
+        day-answer = x .answer ∙ answered (length room)
+
+        pub day-left : after ≡ roomOf (given h vs fs ms rs ss ls text) room
+        unfolding roomOf
+        day-left = rw (← answered (length room), same-day) (x .left)

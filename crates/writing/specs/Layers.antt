@@ -1,0 +1,24 @@
+-- What each layer of the writer answers and leaves: where the day is fit, where its lists are long enough, and where nothing is known of it.
+use Prim.Native.Nat.{ℕ}
+use mathlib.Core.Path.{_≡_}
+use mathlib.Core.List.{List, [], _∷_}
+use mathlib.Core.Bool.{Bool, cond}
+use lib.ListN.{length}
+use lib.Dec.{leb}
+use Rattle.format.specs.Day.{Day}
+use Rattle.format.specs.Answers.{Answer, accepted, refused, refusal, writtenAs}
+use Rattle.format.specs.Block.{blockOf, recordsOf, leftBy}
+use Rattle.format.specs.declared.Written.{Written}
+
+-- a fit day: room or 15
+unfoldable pub placedOf : Day → ℕ → Answer
+placedOf d room = cond (leb (length (blockOf d)) room) (accepted (length (blockOf d) ∷ recordsOf d ∷ [])) (refusal 15)
+
+-- a day that is fit or not: 16
+unfoldable pub answeredOf : Bool → Day → ℕ → Answer
+answeredOf fit d room = cond fit (placedOf d room) (refusal 16)
+
+-- the answer, and what it leaves of the room
+pub record Writes (a : Answer) (block room : List ℕ) (w : Written) (after : List ℕ) : Type 0 where
+  pub answer : writtenAs w ≡ a
+  pub left : after ≡ leftBy a block room

@@ -1,0 +1,132 @@
+// Writes one day as the shortest block that says it.
+mod pieces;
+
+use block::Measured;
+use field::numbers::intervals;
+use format::DayHead;
+use format::Refusal;
+use format::Written;
+use pieces::fit_day;
+use pieces::measure_block;
+use pieces::put_block;
+
+ghost use mathlib.Core.Path.{_≡_};
+ghost use mathlib.Core.Bool.{true};
+ghost use Prim.Native.Nat.{_≤_};
+ghost use lib.ListN.{length};
+ghost use Rattle.format.specs.Answers.{refusal, writtenAs};
+ghost use Rattle.format.specs.Day.{five, enoughFor};
+ghost use Rattle.format.specs.Block.{given, valuesText, blockOf, writeOf, roomOf};
+ghost use Rattle.writing.specs.Pieces.{dayWith, fitWith, Ready};
+ghost use Rattle.writing.specs.Layers.{placedOf, answeredOf, Writes};
+
+fn no_block(number: u64) -> Written
+    ensures { λ r. ⌜ writtenAs r ≡ refusal number ⌝ }
+{
+    Written::Refused(Refusal {
+        number,
+        place: 0,
+        record: 0,
+        field: 0,
+    })
+}
+
+// None of the lists is shorter than n.
+fn enough(n: usize, v: usize, f: usize, m: usize, r: usize, s: usize, l: usize) -> bool
+    ensures { λ b. ⌜ b ≡ enoughFor n v f m r s l ⌝ }
+{
+    if v < n {
+        return false;
+    }
+    if f < n {
+        return false;
+    }
+    if m < n {
+        return false;
+    }
+    if r < n {
+        return false;
+    }
+    if s < n {
+        return false;
+    }
+    n <= l
+}
+
+// A fit day whose values have k bytes: written where the room is long enough.
+fn write_fit(
+    day: DayHead,
+    values: &[u64],
+    flags: &[u8],
+    methods: &[u8],
+    reasons: &[u16],
+    starts: &[usize],
+    lengths: &[usize],
+    text: &[u8],
+    room: &mut [u8],
+    n: usize,
+    k: usize,
+) -> Written
+    requires { ⌜ Ready n (now values) (five (now flags) (now methods) (now reasons) (now starts) (now lengths)) ⌝ }
+    requires { ⌜ (fitWith day n (now values) (five (now flags) (now methods) (now reasons) (now starts) (now lengths)) (now text) ≡ true) × (k ≡ length (valuesText (now values))) ⌝ }
+    ensures { λ w. ⌜ Writes (placedOf (dayWith day n (now (values .entry)) (five (now (flags .entry)) (now (methods .entry)) (now (reasons .entry)) (now (starts .entry)) (now (lengths .entry))) (now (text .entry))) (length (now (room .entry)))) (blockOf (dayWith day n (now (values .entry)) (five (now (flags .entry)) (now (methods .entry)) (now (reasons .entry)) (now (starts .entry)) (now (lengths .entry))) (now (text .entry)))) (now (room .entry)) w (now (room .exit)) ⌝ }
+{
+    let size = measure_block(day, values, k, flags, methods, reasons, starts, lengths, text, n);
+    let b = size.bytes;
+    let r = size.records;
+    if room.len() < b {
+        return no_block(15);
+    }
+    put_block(room, day, values, flags, methods, reasons, starts, lengths, text, n, r);
+    Written::Block { bytes: b, records: r }
+}
+
+// A day whose lists are long enough.
+fn write_long(
+    day: DayHead,
+    values: &[u64],
+    flags: &[u8],
+    methods: &[u8],
+    reasons: &[u16],
+    starts: &[usize],
+    lengths: &[usize],
+    text: &[u8],
+    room: &mut [u8],
+    n: usize,
+) -> Written
+    requires { ⌜ Ready n (now values) (five (now flags) (now methods) (now reasons) (now starts) (now lengths)) ⌝ }
+    ensures { λ w. ⌜ Writes (answeredOf (fitWith day n (now (values .entry)) (five (now (flags .entry)) (now (methods .entry)) (now (reasons .entry)) (now (starts .entry)) (now (lengths .entry))) (now (text .entry))) (dayWith day n (now (values .entry)) (five (now (flags .entry)) (now (methods .entry)) (now (reasons .entry)) (now (starts .entry)) (now (lengths .entry))) (now (text .entry))) (length (now (room .entry)))) (blockOf (dayWith day n (now (values .entry)) (five (now (flags .entry)) (now (methods .entry)) (now (reasons .entry)) (now (starts .entry)) (now (lengths .entry))) (now (text .entry)))) (now (room .entry)) w (now (room .exit)) ⌝ }
+{
+    let m = fit_day(day, values, flags, methods, reasons, starts, lengths, text, n);
+    match m {
+        Measured::Unfit => no_block(16),
+        Measured::Bytes(k) => write_fit(
+            day, values, flags, methods, reasons, starts, lengths, text, room, n, k,
+        ),
+    }
+}
+
+// Writes the day's block at the room's start and answers its bytes and records; or refuses it, and leaves the room as it was.
+pub fn write_day(
+    day: DayHead,
+    values: &[u64],
+    flags: &[u8],
+    methods: &[u8],
+    reasons: &[u16],
+    starts: &[usize],
+    lengths: &[usize],
+    text: &[u8],
+    room: &mut [u8],
+) -> Written
+    ensures answer { λ w. ⌜ writtenAs w ≡ writeOf (given day (now (values .entry)) (now (flags .entry)) (now (methods .entry)) (now (reasons .entry)) (now (starts .entry)) (now (lengths .entry)) (now (text .entry))) (length (now (room .entry))) ⌝ }
+    ensures left { λ w. ⌜ now (room .exit) ≡ roomOf (given day (now (values .entry)) (now (flags .entry)) (now (methods .entry)) (now (reasons .entry)) (now (starts .entry)) (now (lengths .entry)) (now (text .entry))) (now (room .entry)) ⌝ }
+{
+    let n = intervals(day.length as u64);
+    if n == 0 {
+        return no_block(16);
+    }
+    if !enough(n, values.len(), flags.len(), methods.len(), reasons.len(), starts.len(), lengths.len()) {
+        return no_block(15);
+    }
+    write_long(day, &values[..n], flags, methods, reasons, starts, lengths, text, room, n)
+}
