@@ -1,21 +1,22 @@
 -- The days of an accepted file are sound. By induction on the lines: each step inverts the chain of faults once, and what it says of one record is the
 -- next clause of the cover. Assumes nothing.
-use Prim.Native.Nat.{ℕ, zero, suc, _+_, _≤_, _<_}
-use mathlib.Core.Path.{_≡_, refl, sym, ap, _∙_}
-use mathlib.Core.List.{List, [], _∷_, _++_}
-use mathlib.Core.Bool.{Bool, true, false, cond, not, _&&_, _||_}
+use Prim.Native.Nat.{ℕ, _+_, _≤_, _<_}
+use mathlib.Core.Path.{_≡_, refl, _∙_}
+use mathlib.Core.List.{List, [], _∷_}
+use mathlib.Core.Bool.{Bool, true, false, cond, not, _&&_, false≢true}
 use native.Mathlib.Omega.{arith}
-use lib.ListN.{length, drop, replicate, length-replicate, length-append}
+use lib.ListN.{length, replicate, length-replicate, length-append}
 use lib.Dec.{leb, ltb, eqb}
-use borrow.Author.Tests.{leb-true, leb-false, eqb-true, eqb-false, eq-eqb, ne-eqb, le-leb, not-true, not-false}
+use borrow.Author.Tests.{leb-true, leb-false, eqb-true, eq-eqb, le-leb, not-false}
 use Rattle.ground.specs.Lists.{all}
+use Rattle.ground.proofs.Tests.{and-true}
 use Rattle.format.specs.Cut.{Lines, line, rest, lines, fields}
 use Rattle.format.specs.Records.{kindIn, rowOf, countOf, versionIn, intervalsIn, firstIn, lastIn}
 use Rattle.format.specs.Order.{Due, begun, between, inDay, mayCome, isVaried, on300, on400, afterOf}
-use Rattle.format.specs.Faults.{_▹_, stop, f3, f10, f4, f5, f6, f7, f8, f9, f11, f12, size, isOpen, covers, isOff, faultAt, faultOf}
+use Rattle.format.specs.Faults.{_▹_, stop, f3, f10, f4, f5, f6, f7, f8, f9, size, isOpen, covers, isOff, faultAt, faultOf}
 use Rattle.format.specs.Answers.{Answer, accepted, refused}
 use Rattle.format.specs.File.{after, orGoOn, walkOf, most, checkOf}
-use Rattle.format.specs.Day.{Row, rowAt, DayRows, runsFrom, daysFrom, daysOf, coverOf}
+use Rattle.format.specs.Day.{rowAt, DayRows, runsFrom, daysFrom, daysOf}
 use Rattle.format.specs.declared.Rule.the-variants.{Quality, Value, Reason, Description, Time, Load}
 use Rattle.format.specs.declared.Fault.{Fault}
 use Rattle.format.specs.declared.Fault.the-variants.{Fine, Stop}
@@ -99,10 +100,6 @@ off-400 st j k x e h i o =
     by true z = z
     by false z = refl
 
-pub and-true : (a b : Bool) → a && b ≡ true → (a ≡ true) × (b ≡ true)
-and-true true b e = (refl, e)
-and-true false b e = let z : _≡_ {A = ℕ} 0 1 = cc in absurd (omega arith)
-
 -- the walk from a state that expects the 400 of interval j + 1
 pub covers-on : (st : Due) (p k q j : ℕ) (ls : Lines) (xs : List ℕ) → st .expect ≡ 4 → st .next ≡ j + 1 → j ≤ st .n
     → walkOf st p k ls ≡ accepted xs → coversFrom j (st .n) (runsFrom q ls) ≡ true
@@ -134,7 +131,7 @@ abbrev Held : Due → ℕ → Type 0
 Held st n = between 2 5 (st .expect) ≡ true → st .n ≡ n
 
 nowhere : {A : Type 0} → false ≡ true → A
-nowhere e = let z : _≡_ {A = ℕ} 0 1 = cc in absurd (omega arith)
+nowhere e = absurd (false≢true e)
 
 held-100 : (b : Bool) (n : ℕ) → between 2 5 (cond b 1 6) ≡ true → 0 ≡ n
 held-100 true n e = nowhere e

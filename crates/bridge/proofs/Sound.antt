@@ -1,7 +1,7 @@
 -- What a sound day gives: one value and one mark for each of its n intervals. Assumes nothing.
-use Prim.Native.Nat.{ℕ, zero, suc, _+_, _-_, _≤_, min}
-use mathlib.Core.Path.{_≡_, refl, sym, ap, _∙_}
-use mathlib.Core.List.{List, [], _∷_, _++_, map}
+use Prim.Native.Nat.{ℕ, zero, suc, _+_, _-_, _≤_}
+use mathlib.Core.Path.{_≡_, refl}
+use mathlib.Core.List.{List, [], _∷_}
 use mathlib.Core.Bool.{Bool, true, false, cond, _&&_}
 use native.Mathlib.Nat.{zero-add}
 use native.Mathlib.Omega.{arith}
@@ -9,13 +9,14 @@ use lib.ListN.{length, take, drop, replicate, length-map, length-take, length-dr
 use lib.Dec.{leb, eqb}
 use borrow.Author.Tests.{leb-true, eqb-true}
 use Rattle.ground.specs.Lists.{all}
+use Rattle.ground.proofs.Tests.{and-true}
 use Rattle.format.specs.Records.{valuesIn, millionths, firstIn, lastIn}
 use Rattle.format.specs.Order.{isVaried}
 use Rattle.format.specs.Answers.{accepted}
 use Rattle.format.specs.File.{checkOf}
 use Rattle.format.specs.Day.{Row, DayRows, daysOf, coverOf, eachOf, valuesOf}
 use Rattle.bridge.specs.Sound.{coversFrom, isSound}
-use Rattle.bridge.proofs.Bridge.{and-true, checked-days}
+use Rattle.bridge.proofs.Bridge.{checked-days}
 
 -- what a cover says of its first 400
 pub record Covered (k n : ℕ) (x : Row) (xs : List Row) : Type 0 where

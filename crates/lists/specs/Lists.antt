@@ -1,6 +1,6 @@
 -- The five lists of marks: what it is to store marks in them, and to have room for so many.
 use Prim.Native.Nat.{ℕ, _≤_}
-use mathlib.Core.List.{List, [], _∷_, map}
+use mathlib.Core.List.{List, map}
 use lib.ListN.{length}
 use lib.Seq.{sets}
 use Rattle.format.specs.declared.Tag.{Tag}
