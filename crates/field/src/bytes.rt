@@ -1,6 +1,5 @@
 // Classes of bytes, and what the rules of texts are made of.
 use super::Class;
-
 ghost use mathlib.Core.Path.{_≡_};
 ghost use Prim.Native.Nat.{_≤_};
 ghost use lib.ListN.{length};

@@ -1,7 +1,6 @@
 // Dates and times, as the decimal number that their digits write; 0 where one may be empty and is.
-use format::Number;
 use super::numbers::digits;
-
+use format::Number;
 ghost use mathlib.Core.Path.{_≡_};
 ghost use Prim.Native.Nat.{_<_, _^_};
 ghost use Rattle.format.specs.Dates.{isLeap, daysIn, isDate, isTime, isMinute, dateOf, timeOf, createdOf, nextReadOf, loadOf, readTimeOf};

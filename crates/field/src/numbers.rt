@@ -1,9 +1,8 @@
 // Numbers: digits, indicator, start and end, interval length, reason, value and quantity, register reads.
-use format::Number;
 use super::Class;
 use super::bytes::all_in;
 use super::bytes::first_at;
-
+use format::Number;
 ghost use mathlib.Core.Path.{_≡_};
 ghost use Prim.Native.Nat.{_≤_, _-_, _^_, min};
 ghost use lib.ListN.{length};

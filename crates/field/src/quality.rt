@@ -1,8 +1,7 @@
 // Qualities, and the rules across fields.
+use super::numbers::digits;
 use format::Graded;
 use format::Number;
-use super::numbers::digits;
-
 ghost use mathlib.Core.Path.{_≡_};
 ghost use Rattle.format.specs.Quality.{standsAlone, takesMethod, qualityOf, needsReason, across};
 

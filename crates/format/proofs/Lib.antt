@@ -1,3 +1,4 @@
 pub mod Numbers
 pub mod Dates
 pub mod Quality
+pub mod Cut

@@ -1,3 +1,4 @@
 pub mod Tests
 pub mod Lists
 pub mod Decimal
+pub mod Spans

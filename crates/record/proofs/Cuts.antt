@@ -1,0 +1,110 @@
+-- A field cut off the record, and the fields behind it, as places of the file. Assumes nothing.
+use Prim.Native.Nat.{ℕ, zero, suc, _+_, _-_, _≤_, _<_}
+use mathlib.Core.Path.{_≡_, refl, sym, _∙_, ap}
+use mathlib.Core.List.{List, [], _∷_}
+use mathlib.Core.Bool.{true, false}
+use native.Mathlib.Nat.{add-zero, zero-add, sub-self}
+use native.Mathlib.Omega.{arith}
+use lib.ListN.{length, getD, take, drop, length-drop}
+use lib.Seq.{getD-drop, drop-drop}
+use borrow.Author.Tests.{eq-eqb, ne-eqb}
+use Rattle.ground.specs.Lists.{spanOf, other, part}
+use Rattle.ground.proofs.Spans.{span-on, span-stop, span-all, span-le, part-length, part-drop, part-take, part-cut}
+use Rattle.format.specs.Cut.{fields, field, startOf}
+use Rattle.format.proofs.Cut.{field-here, field-later, field-past, start-later, At, fields-from}
+use Rattle.record.specs.Places.{Cut, Rest}
+
+-- ---- the loop that looks for a comma, at byte i
+
+pub record Sought (s : List ℕ) (i : ℕ) : Type 0 where
+  pub within : i ≤ length s
+  pub span : spanOf (other 44) s ≡ i + spanOf (other 44) (drop i s)
+
+module _ (s : List ℕ) where
+  pub sought-none : Sought s 0
+  sought-none = record { within = omega arith; span = omega arith }
+
+  module _ (i : ℕ) (r : Sought s i) where
+    pub sought-on : i < length s → (getD s i 0 ≡ 44 → ⊥) → Sought s (i + 1)
+    sought-on h q = record { within = omega arith; span = span-on (other 44) s i h (rw (ne-eqb _ _ q)) (r .span) }
+
+    pub sought-stops : i < length s → getD s i 0 ≡ 44 → i ≡ spanOf (other 44) s
+    sought-stops h q = span-stop (other 44) s i h (rw (eq-eqb _ _ q)) (r .span)
+
+    pub sought-end : length s ≤ i → i ≡ spanOf (other 44) s
+    sought-end h = span-all (other 44) s i h (r .span)
+
+-- ---- a field cut off: n is what `field_end` answers of the record from a on
+
+one-field : (j : ℕ) → field j ([] ∷ []) ≡ []
+one-field zero = refl
+one-field (suc j) = refl
+
+nothing : (file : List ℕ) (e j : ℕ) → field j (fields (part file e e)) ≡ []
+unfolding fields
+nothing file e j = rw sub-self (one-field j)
+
+module _ (file : List ℕ) (a e n : ℕ) (le : a ≤ e) (within : e ≤ length file) (en : n ≡ spanOf (other 44) (take (e - a) (drop a file))) where
+  short : n ≤ e - a
+  short = omega (arith, span-le (other 44) (part file a e), part-length file a e within)
+
+  pub first-is : part file a (a + n) ≡ field 0 (fields (part file a e))
+  first-is = rw (field-here (part file a e), ← en, part-take file a e n short)
+
+  pub cut-more : a + n < e → Cut file a e (a + n) (a + n + 1)
+  cut-more h =
+      let lt : spanOf (other 44) (part file a e) < length (part file a e) = omega (arith, part-length file a e within) in
+      let d : drop (n + 1) (part file a e) ≡ part file (a + n + 1) e =
+      (let m : a + (n + 1) ≡ a + n + 1 = omega arith in rw (part-drop file a e (n + 1) (omega arith), m)) in
+      record {
+        order = omega arith;
+        on = omega arith;
+        ends = omega arith;
+        within = within;
+        here = sym first-is;
+        later = λ j. rw (field-later (part file a e) j lt, ← en, d);
+        place = λ j g.
+            (let s : startOf (suc j) (fields (part file a e)) ≡ n + 1 + startOf j (fields (part file (a + n + 1) e)) =
+            rw (start-later (part file a e) j lt, ← en, d) in
+            omega arith);
+      }
+
+  pub cut-last : e ≤ a + n → Cut file a e (a + n) e
+  cut-last h =
+      let eq : spanOf (other 44) (part file a e) ≡ length (part file a e) = omega (arith, part-length file a e within, short) in
+      record {
+        order = omega arith;
+        on = omega (arith, short);
+        ends = omega arith;
+        within = within;
+        here = sym first-is;
+        later = λ j. field-past (part file a e) j eq ∙ sym (nothing file e j);
+        place = λ j g. absurd (let z : 0 < 0 = rw (field-past (part file a e) j eq) at g in let y : ⊥ = omega arith in y);
+      }
+
+-- ---- the rest of a record
+
+pub rest-whole : (file : List ℕ) (a e : ℕ) → a ≤ e → e ≤ length file → Rest file (fields (part file a e)) a 0 a e
+rest-whole file a e h g = record { ends = h; within = g; same = λ j. rw zero-add; place = λ j k. rw zero-add }
+
+module _ {file : List ℕ} {fs : List (List ℕ)} {p i a e b x : ℕ} (s : Rest file fs p i a e) (k : Cut file a e b x) where
+  -- the field that was cut off
+  pub rest-here : part file a b ≡ field i fs
+  rest-here = sym (k .here) ∙ sym (s .same 0) ∙ ap (λ (z : ℕ). field z fs) (add-zero i)
+
+  pub rest-next : Rest file fs p (i + 1) x e
+  rest-next =
+      record {
+        ends = k .ends;
+        within = k .within;
+        same = λ j. (let m : i + 1 + j ≡ i + suc j = omega arith in rw m (s .same (suc j) ∙ k .later j));
+        place = λ j g.
+            (let m : i + 1 + j ≡ i + suc j = omega arith in
+            let g₁ : 0 < length (field (i + suc j) fs) = rw m at g in
+            let g₂ : 0 < length (field (suc j) (fields (part file a e))) = rw (s .same (suc j)) at g₁ in
+            rw m (s .place (suc j) g₁ ∙ k .place j g₂));
+      }
+
+-- what stands at the place where a field starts
+pub rest-first : {file : List ℕ} {fs : List (List ℕ)} {p i a e : ℕ} → Rest file fs p i a e → field 0 (fields (part file a e)) ≡ field i fs
+rest-first {file} {fs} {p} {i} s = sym (s .same 0) ∙ ap (λ (z : ℕ). field z fs) (add-zero i)

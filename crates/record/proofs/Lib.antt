@@ -1,0 +1,4 @@
+-- The laws of records and fields as places of the file.
+pub mod Blocks
+pub mod Ends
+pub mod Cuts
