@@ -3,7 +3,7 @@ use Prim.Native.Nat.{ℕ, zero, suc, _+_, _-_, _≤_, _<_}
 use mathlib.Core.Path.{_≡_, refl, sym, _∙_, ap}
 use mathlib.Core.List.{List, [], _∷_, _++_}
 use mathlib.Core.Bool.{Bool, true, false, cond}
-use native.Mathlib.Nat.{add-zero}
+use native.Mathlib.Nat.{zero-add, suc-add}
 use native.Mathlib.Numerals.{add-one}
 use native.Mathlib.Omega.{arith}
 use native.Mathlib.Decide.{decLt}
@@ -132,3 +132,15 @@ fields-from (suc i) s h = by (decLt (spanOf (other 44) s) (length s)) (λ t k. f
           same = rw (start-later s i p, ← drop-drop (startOf i (fields (drop (m + 1) s))) (m + 1) s, ← r .same, fields-at s p, add-one);
         }
     by (no p) ih = absurd (let e : length (fields s) ≡ 1 = rw (fields-last s (omega (arith, span-le (other 44) s))) in let z : ⊥ = omega arith in z)
+
+start-nil : (i : ℕ) → startOf i [] ≡ 0
+unfolding startOf
+start-nil zero = refl
+start-nil (suc i) = refl
+
+-- where a field behind another starts
+pub start-add : (i j : ℕ) (fs : List (List ℕ)) → startOf (i + j) fs ≡ startOf i fs + startOf j (drop i fs)
+unfolding startOf
+start-add zero j fs = rw (zero-add, zero-add)
+start-add (suc i) j [] = rw (start-nil (suc i + j), start-nil j)
+start-add (suc i) j (f ∷ fs) = rw suc-add (omega (arith, start-add i j fs))

@@ -7,32 +7,11 @@ use native.Mathlib.Nat.{add-zero, zero-add, sub-self}
 use native.Mathlib.Omega.{arith}
 use lib.ListN.{length, getD, take, drop, length-drop}
 use lib.Seq.{getD-drop, drop-drop}
-use borrow.Author.Tests.{eq-eqb, ne-eqb}
 use Rattle.ground.specs.Lists.{spanOf, other, part}
-use Rattle.ground.proofs.Spans.{span-on, span-stop, span-all, span-le, part-length, part-drop, part-take, part-cut}
+use Rattle.ground.proofs.Spans.{span-le, part-length, part-drop, part-take}
 use Rattle.format.specs.Cut.{fields, field, startOf}
-use Rattle.format.proofs.Cut.{field-here, field-later, field-past, start-later, At, fields-from}
+use Rattle.format.proofs.Cut.{field-here, field-later, field-past, start-later, fields-from, start-add}
 use Rattle.record.specs.Places.{Cut, Rest}
-
--- ---- the loop that looks for a comma, at byte i
-
-pub record Sought (s : List ℕ) (i : ℕ) : Type 0 where
-  pub within : i ≤ length s
-  pub span : spanOf (other 44) s ≡ i + spanOf (other 44) (drop i s)
-
-module _ (s : List ℕ) where
-  pub sought-none : Sought s 0
-  sought-none = record { within = omega arith; span = omega arith }
-
-  module _ (i : ℕ) (r : Sought s i) where
-    pub sought-on : i < length s → (getD s i 0 ≡ 44 → ⊥) → Sought s (i + 1)
-    sought-on h q = record { within = omega arith; span = span-on (other 44) s i h (rw (ne-eqb _ _ q)) (r .span) }
-
-    pub sought-stops : i < length s → getD s i 0 ≡ 44 → i ≡ spanOf (other 44) s
-    sought-stops h q = span-stop (other 44) s i h (rw (eq-eqb _ _ q)) (r .span)
-
-    pub sought-end : length s ≤ i → i ≡ spanOf (other 44) s
-    sought-end h = span-all (other 44) s i h (r .span)
 
 -- ---- a field cut off: n is what `field_end` answers of the record from a on
 
@@ -108,3 +87,19 @@ module _ {file : List ℕ} {fs : List (List ℕ)} {p i a e b x : ℕ} (s : Rest 
 -- what stands at the place where a field starts
 pub rest-first : {file : List ℕ} {fs : List (List ℕ)} {p i a e : ℕ} → Rest file fs p i a e → field 0 (fields (part file a e)) ≡ field i fs
 rest-first {file} {fs} {p} {i} s = sym (s .same 0) ∙ ap (λ (z : ℕ). field z fs) (add-zero i)
+
+-- at the place where a field that is there starts
+pub rest-at : (file : List ℕ) (at e i : ℕ) → at ≤ e → e ≤ length file → i < length (fields (part file at e))
+    → Rest file (fields (part file at e)) at i (at + startOf i (fields (part file at e))) e
+rest-at file at e i h g k =
+    let r = part file at e in
+    let fs = fields r in
+    let f = fields-from i r k in
+    let w : at + startOf i fs ≤ e = omega (arith, f .within, part-length file at e g) in
+    let d : drop i fs ≡ fields (part file (at + startOf i fs) e) = f .same ∙ ap fields (part-drop file at e (startOf i fs) w) in
+    record {
+      ends = w;
+      within = g;
+      same = λ j. rw (← getD-drop i fs j [], d);
+      place = λ j z. rw (start-add i j fs, d) (omega arith);
+    }

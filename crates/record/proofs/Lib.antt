@@ -2,3 +2,4 @@
 pub mod Blocks
 pub mod Ends
 pub mod Cuts
+pub mod Fields

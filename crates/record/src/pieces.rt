@@ -1,4 +1,5 @@
-// The fields of a record from left to right, each a part of the file itself.
+// The fields of a record from left to right, each a part of the file itself, and what the field at a place says.
+use field::bytes::first_at;
 ghost use mathlib.Core.Path.{_≡_};
 ghost use Prim.Native.Nat.{_≤_};
 ghost use lib.ListN.{length};
@@ -8,16 +9,10 @@ ghost use Rattle.record.specs.Places.{Cut};
 
 // How many bytes stand before the first comma.
 pub fn field_end(t: &[u8]) -> usize
-    ensures { λ r. ⌜ (r ≡ spanOf (other 44) (now (t .entry))) × (r ≤ length (now (t .entry))) ⌝ }
+    ensures is { λ r. ⌜ r ≡ spanOf (other 44) (now (t .entry)) ⌝ }
+    ensures within { λ r. ⌜ r ≤ length (now (t .entry)) ⌝ }
 {
-    let mut i: usize = 0;
-    while i < t.len() {
-        if t[i] == 44 {
-            return i;
-        }
-        i += 1;
-    }
-    i
+    first_at(t, 44)
 }
 
 // Where a field ends, and where the next one starts; the record's end where there is none.
