@@ -5,10 +5,9 @@ use mathlib.Core.List.{List, [], _∷_}
 use native.Mathlib.Omega.{arith}
 use lib.ListN.{length, drop}
 use lib.Seq.{drop-nil}
-use lib.Dec.{ltb}
 use borrow.Author.Tests.{ne-eqb, lt-ltb}
 use Rattle.ground.specs.Lists.{part}
-use Rattle.format.specs.Cut.{lines, fields}
+use Rattle.format.specs.Cut.{fields}
 use Rattle.format.specs.Records.{kindIn, intervalsIn, quantityIn}
 use Rattle.format.specs.Answers.{Answer, accepted, refusal}
 use Rattle.format.specs.Total.{totalsFrom, totalFirst}

@@ -1,19 +1,19 @@
 -- A sum that is taken value by value, and given up before it would pass 64 bits. Assumes nothing.
 use Prim.Native.Nat.{ℕ, zero, suc, _+_, _-_, _^_, _≤_, _<_}
 use mathlib.Core.Path.{_≡_, refl, sym, ap, _∙_}
-use mathlib.Core.List.{List, [], _∷_, map}
+use mathlib.Core.List.{List, [], map}
 use mathlib.Core.Bool.{Bool, true, false, cond}
 use native.Mathlib.Numerals.{add-one}
 use native.Mathlib.Omega.{arith}
 use native.Mathlib.Decide.{decLt}
 use lib.ListN.{length, take, drop, drop-of-length-le, List·getD-eq-default}
-use lib.Seq.{drop-cons, take-nil}
-use lib.Dec.{ltb, eqb}
+use lib.Seq.{drop-cons}
+use lib.Dec.{ltb}
 use borrow.Author.Tests.{lt-ltb, le-ltb, ltb-false, ne-eqb}
 use Rattle.ground.specs.Lists.{spanOf, sum, part}
 use Rattle.format.specs.Bytes.{areAll}
 use Rattle.format.specs.Numbers.{numberOf, valueOf}
-use Rattle.format.specs.Cut.{fields, field, lines}
+use Rattle.format.specs.Cut.{fields, field}
 use Rattle.format.specs.Records.{kindIn, millionths, valuesIn}
 use Rattle.format.specs.Total.{sumFrom}
 use Rattle.format.specs.declared.Number.{Number}

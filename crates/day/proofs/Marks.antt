@@ -1,54 +1,39 @@
 -- The marks of a day: the walk over its 400s, and the 300's own. Assumes nothing.
-use Prim.Native.Nat.{ℕ, zero, suc, _+_, _-_, _≤_, _<_}
+use Prim.Native.Nat.{ℕ, _+_, _-_, _≤_, _<_}
 use mathlib.Core.Path.{_≡_, refl, sym, ap, _∙_}
 use mathlib.Core.List.{List, [], _∷_, _++_}
-use mathlib.Core.Bool.{Bool, true, false, cond}
-use native.Mathlib.Nat.{add-zero, sub-zero}
+use mathlib.Core.Bool.{Bool, true, false}
+use native.Mathlib.Nat.{sub-zero}
 use native.Mathlib.Omega.{arith}
 use native.Mathlib.Decide.{decLt}
-use lib.ListN.{length, drop, replicate, length-replicate}
+use lib.ListN.{length, replicate, length-replicate}
 use lib.Dec.{eqb}
-use borrow.Author.Tests.{eqb-true, eqb-false, eq-eqb, ne-eqb}
+use borrow.Author.Tests.{eqb-true, eqb-false, ne-eqb}
 use Rattle.ground.specs.Lists.{part}
-use Rattle.format.specs.Numbers.{numberIn, reasonOf}
-use Rattle.format.specs.Quality.{qualityOf, flagIn, methodIn}
-use Rattle.format.specs.Cut.{lines, fields, field, startOf}
+use Rattle.format.specs.Numbers.{numberIn, intervalOf}
+use Rattle.format.specs.Cut.{fields, field}
 use Rattle.format.specs.Records.{kindIn, firstIn, lastIn}
 use Rattle.format.specs.Day.{Row, rowAt, Five, runsFrom, coverOf, tagAt}
 use Rattle.format.specs.declared.Tag.{Tag}
-use Rattle.record.specs.Places.{LineEnd, Rest}
+use Rattle.record.specs.Places.{LineEnd, Cut, Rest}
+use Rattle.record.proofs.Cuts.{rest-first, rest-next}
+use Rattle.record.proofs.Fields.{tag-moves}
 use Rattle.record.proofs.Ends.{line-none, line-more, line-room, line-long}
-use Rattle.lists.specs.Lists.{stored, Roomy}
+use Rattle.lists.specs.Lists.{stored}
 use Rattle.lists.proofs.Laws.{stored-append}
 use Rattle.bridge.specs.Sound.{coversFrom}
 use Rattle.bridge.proofs.Sound.{Covered, cover-first}
 use Rattle.day.specs.Places.{runsAt, runTags, tagsFor, isCovered}
 
--- ---- a tag, in the record that it stands in
+-- ---- one 400, where its third field starts at x
 
-tag-eq : {a b d e f a₁ b₁ d₁ e₁ f₁ : ℕ} → a ≡ a₁ → b ≡ b₁ → d ≡ d₁ → e ≡ e₁ → f ≡ f₁
-    → _≡_ {A = Tag} (record { flag = a; method = b; reason = d; start = e; length = f }) (record { flag = a₁; method = b₁; reason = d₁; start = e₁; length = f₁ })
-tag-eq p q r s t = rw (p, q, r, s, t)
+module _ (file : List ℕ) (a e x : ℕ) (s : Rest file (fields (part file a e)) a 2 x e) where
+  pub run-last : (t : ℕ) → t ≡ numberIn (intervalOf (field 0 (fields (part file x e)))) → t ≡ lastIn (fields (part file a e))
+  unfolding lastIn
+  run-last t h = h ∙ ap (λ (f : List ℕ). numberIn (intervalOf f)) (rest-first s)
 
-place-eq : (m n x y : ℕ) → m ≡ n → (0 < n → x ≡ y) → cond (eqb m 0) 0 x ≡ cond (eqb n 0) 0 y
-place-eq m n x y e h = by (decLt 0 n)
-  where
-    by : Dec (0 < n) → cond (eqb m 0) 0 x ≡ cond (eqb n 0) 0 y
-    by (yes p) = rw (e, h p)
-    by (no p) = let z : n ≡ 0 = omega arith in rw (e, z)
-
-pub tag-moves : (k : ℕ) (file : List ℕ) (fs : List (List ℕ)) (p i a e : ℕ) → Rest file fs p i a e
-    → tagAt k (rowAt a (part file a e)) 0 ≡ tagAt k (record { place = p; cells = fs }) i
-unfolding tagAt
-tag-moves k file fs p i a e s =
-    let h₀ : field 0 (fields (part file a e)) ≡ field i fs = sym (s .same 0) ∙ ap (λ (z : ℕ). field z fs) (add-zero i) in
-    tag-eq
-    (ap (λ (f : List ℕ). flagIn (qualityOf k f)) h₀)
-    (ap (λ (f : List ℕ). methodIn (qualityOf k f)) h₀)
-    (ap (λ (f : List ℕ). numberIn (reasonOf f)) (sym (s .same 1)))
-    (place-eq (length (field 2 (fields (part file a e)))) (length (field (i + 2) fs)) (a + startOf 2 (fields (part file a e))) (p + startOf (i + 2) fs)
-    (ap length (sym (s .same 2))) (λ g. sym (s .place 2 g)))
-    (ap length (sym (s .same 2)))
+  pub run-tag : (b y : ℕ) (g : Tag) → Cut file x e b y → g ≡ tagAt 400 (rowAt y (part file y e)) 0 → g ≡ tagAt 400 (rowAt a (part file a e)) 3
+  run-tag b y g k h = h ∙ tag-moves file 400 (rowAt a (part file a e)) 3 y e (rest-next s k)
 
 -- ---- the 400s at a place, in the terms of a walk: e is where the record at that place ends
 
@@ -112,17 +97,16 @@ module _ (file : List ℕ) (at e n k t : ℕ) (s : LineEnd file at e) (more : k 
       by (no p) = absurd (not-done (runs-none file at e s (omega (arith, s .within))))
 
 -- a turn of the loop over the 400s: l and l₁ are the five lists before it and behind it
-pub cover-on : (file : List ℕ) (at n k t x e : ℕ) (l l₁ whole : Five) (g : Tag) → Turn file at e n k t
-    → Rest file (fields (part file at e)) at 3 x e → g ≡ tagAt 400 (rowAt x (part file x e)) 0 → l₁ ≡ stored l k (replicate (t - k) g)
+pub cover-on : (file : List ℕ) (at n k t e : ℕ) (l l₁ whole : Five) (g : Tag) → Turn file at e n k t
+    → g ≡ tagAt 400 (rowAt at (part file at e)) 3 → l₁ ≡ stored l k (replicate (t - k) g)
     → stored l k (runTags (runsAt file at)) ≡ whole → stored l₁ t (runTags (runsAt file (e + 2))) ≡ whole
-cover-on file at n k t x e l l₁ whole g u s eg el inv =
+cover-on file at n k t e l l₁ whole g u eg el inv =
     let h : k + length (replicate (t - k) g) ≡ t = omega (arith, length-replicate (t - k) g, u .more) in
-    let q : tagAt 400 (rowAt at (part file at e)) 3 ≡ g = sym (eg ∙ tag-moves 400 file (fields (part file at e)) at 3 x e s) in
     let ys = runTags (runsAt file (e + 2)) in
     ap (λ (z : Five). stored z t ys) el
     ∙ ap (λ (z : ℕ). stored (stored l k (replicate (t - k) g)) z ys) (sym h)
     ∙ sym (stored-append l k (replicate (t - k) g) ys)
-    ∙ ap (λ (z : Tag). stored l k (replicate (t - k) z ++ ys)) (sym q)
+    ∙ ap (λ (z : Tag). stored l k (replicate (t - k) z ++ ys)) eg
     ∙ ap (stored l k) (sym (u .marks))
     ∙ inv
 

@@ -1,7 +1,7 @@
 -- The values of a day, stored one after the other. Assumes nothing.
 use Prim.Native.Nat.{ℕ, zero, suc, _+_, _-_, _≤_, _<_}
 use mathlib.Core.Path.{_≡_, refl, sym, ap, subst, _∙_}
-use mathlib.Core.List.{List, [], _∷_, map}
+use mathlib.Core.List.{List, [], map}
 use native.Mathlib.Numerals.{add-one}
 use native.Mathlib.Omega.{arith}
 use lib.ListN.{length, take, drop, set}
@@ -9,9 +9,6 @@ use lib.Seq.{sets, drop-cons}
 use Rattle.ground.specs.Lists.{part}
 use Rattle.format.specs.Cut.{fields, field}
 use Rattle.format.specs.Records.{millionths, valuesIn}
-use Rattle.format.specs.Numbers.{valueOf}
-use Rattle.format.specs.declared.Number.{Number}
-use Rattle.format.specs.declared.Number.the-variants.{Is, Bad}
 use Rattle.record.specs.Places.{Cut, Rest}
 use Rattle.record.proofs.Cuts.{rest-here}
 use Rattle.day.specs.Places.{valuesFrom}
@@ -56,16 +53,6 @@ pub values-are : (n : ℕ) (fs : List (List ℕ)) → length fs ≡ n + 7 → va
 unfolding valuesIn
 values-are n fs h = from-take n 2 fs (omega arith)
 
--- ---- what a field says, and where the fields behind it stand
-
-module _ (f : List ℕ) {x : Number} (e : x ≡ valueOf 6 f) where
-  pub value-is : (v : ℕ) → x ≡ Is v → v ≡ millionths f
-  unfolding millionths
-  value-is v h = rw (← e, h)
-
-  pub value-bad : x ≡ Bad → 0 ≡ millionths f
-  unfolding millionths
-  value-bad h = rw (← e, h)
-
+-- n fields on
 pub rest-end : (file : List ℕ) (fs : List (List ℕ)) (p n i x e : ℕ) → n ≤ i → i ≤ n → Rest file fs p i x e → Rest file fs p n x e
 rest-end file fs p n i x e h g s = let q : i ≡ n = omega arith in subst (λ (z : ℕ). Rest file fs p z x e) q s

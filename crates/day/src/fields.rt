@@ -1,14 +1,12 @@
-// The fields of a record one after the other, from a place of the file on: passed over, or held as values.
-use field::numbers;
-use format::Number;
+// The fields of a record one after the other, from a place of the file on: passed over, or stored as values.
 use record::pieces::field_at;
+use record::says::value_of;
 ghost use mathlib.Core.Path.{_≡_};
 ghost use Prim.Native.Nat.{_≤_};
 ghost use lib.ListN.{length};
 ghost use lib.Seq.{sets};
 ghost use Rattle.ground.specs.Lists.{part};
 ghost use Rattle.format.specs.Cut.{fields};
-ghost use Rattle.format.specs.Records.{millionths};
 ghost use Rattle.record.specs.Places.{Rest};
 ghost use Rattle.day.specs.Places.{valuesFrom};
 
@@ -25,17 +23,6 @@ pub fn skip(file: &[u8], a: usize, e: usize, n: usize) -> usize
         i += 1;
     }
     x
-}
-
-// A value in millionths, 0 where the field is none.
-pub fn value_of(f: &[u8]) -> u64
-    ensures { λ r. ⌜ r ≡ millionths (now (f .entry)) ⌝ }
-{
-    let x = numbers::value(f, 6);
-    match x {
-        Number::Is(v) => v,
-        Number::Bad => 0,
-    }
 }
 
 // The values of the n fields from a on, in one pass; answers where the field behind them starts.
