@@ -9,12 +9,12 @@ use native.Mathlib.Decide.{decLt}
 use lib.ListN.{length, take, drop, drop-of-length-le, List·getD-eq-default}
 use lib.Seq.{drop-cons}
 use lib.Dec.{ltb}
-use borrow.Author.Tests.{lt-ltb, le-ltb, ltb-false, ne-eqb}
+use borrow.Author.Tests.{lt-ltb, le-ltb, ltb-true, ltb-false, ne-eqb}
 use Rattle.ground.specs.Lists.{spanOf, sum, part}
 use Rattle.format.specs.Bytes.{areAll}
-use Rattle.format.specs.Numbers.{numberOf, valueOf}
+use Rattle.format.specs.Numbers.{numberIn, numberOf, valueOf}
 use Rattle.format.specs.Cut.{fields, field}
-use Rattle.format.specs.Records.{kindIn, millionths, valuesIn}
+use Rattle.format.specs.Records.{indicatorOf, kindIn, millionths, valuesIn}
 use Rattle.format.specs.Total.{sumFrom}
 use Rattle.format.specs.declared.Number.{Number}
 use Rattle.format.specs.declared.Number.the-variants.{Is, Bad}
@@ -40,6 +40,14 @@ got-is v y e = by (ltb v (2 ^ 64)) e
     by : (b : Bool) → cond b (Is v) Bad ≡ Is y → v ≡ y
     by true q = cc
     by false q = let z : _≡_ {A = ℕ} 0 1 = cc in absurd (omega arith)
+
+pub got-fits : {x : Number} (v : ℕ) {y : ℕ} → x ≡ held v → x ≡ Is y → y < 2 ^ 64
+unfolding held
+got-fits {x} v {y} e q = by (ltb v (2 ^ 64)) refl (sym e ∙ q)
+  where
+    by : (b : Bool) → ltb v (2 ^ 64) ≡ b → cond b (Is v) Bad ≡ Is y → y < 2 ^ 64
+    by true h r = let z : v ≡ y = cc in rw z at (ltb-true v (2 ^ 64) h)
+    by false h r = let z : _≡_ {A = ℕ} 0 1 = cc in absurd (omega arith)
 
 got-bad : (v : ℕ) → held v ≡ Bad → 2 ^ 64 ≤ v
 unfolding held
@@ -111,17 +119,17 @@ module _ (file : List ℕ) (at e n acc whole : ℕ) (s : LineEnd file at e) (inv
       let q : acc ≡ whole = omega arith in
       rw (← q) (held-is acc l)
 
-  module _ (go : e ≡ length file → ⊥) {k : ℕ} (ek : k ≡ kindIn (fields (part file at e))) where
+  module _ (go : e ≡ length file → ⊥) {k : ℕ} (ek : k ≡ numberIn (indicatorOf (field 0 (fields (part file at e))))) where
     -- the next channel
     pub days-end : k ≡ 200 → Is acc ≡ held whole
-    unfolding sumFrom
+    unfolding sumFrom kindIn
     days-end h =
         let t : sumAt file at n ≡ 0 = rw (line-more file at e s go, ← ek, h) in
         let q : acc ≡ whole = omega arith in
         rw (← q) (held-is acc l)
 
     pub days-skip : (k ≡ 200 → ⊥) → (k ≡ 300 → ⊥) → acc + sumAt file (e + 2) n ≡ whole
-    unfolding sumFrom
+    unfolding sumFrom kindIn
     days-skip h g =
         let t : sumAt file at n ≡ sumAt file (e + 2) n = rw (line-more file at e s go, ← ek, ne-eqb _ _ h, ne-eqb _ _ g) in
         omega arith
@@ -130,7 +138,7 @@ module _ (file : List ℕ) (at e n acc whole : ℕ) (s : LineEnd file at e) (inv
     module _ (h : k ≡ 300) (v : ℕ) (z : Rest file (fields (part file at e)) at 2 v e) {x : Number}
         (ex : x ≡ held (acc + sum (valuesFrom n 0 (fields (part file v e))))) where
       day-more : sumAt file at n ≡ sum (valuesFrom n 0 (fields (part file v e))) + sumAt file (e + 2) n
-      unfolding sumFrom
+      unfolding sumFrom kindIn
       day-more = rw (line-more file at e s go, ← ek, h, day-sum file at e v n z)
 
       pub days-over : x ≡ Bad → Bad ≡ held whole
@@ -139,4 +147,4 @@ module _ (file : List ℕ) (at e n acc whole : ℕ) (s : LineEnd file at e) (inv
       pub days-on : {y : ℕ} → x ≡ Is y → y + sumAt file (e + 2) n ≡ whole
       days-on {y} q = omega (arith, got-is (acc + sum (valuesFrom n 0 (fields (part file v e)))) y (sym ex ∙ q), day-more)
 
-pub ruleset sums = (sum-on, sum-over, sum-end, days-none, days-end, days-skip, days-over, days-on)
+pub ruleset days = (days-none, days-end, days-skip, days-over, days-on)

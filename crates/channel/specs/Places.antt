@@ -1,8 +1,8 @@
 -- A channel as places of the file, for the contracts of the inner functions.
-use Prim.Native.Nat.{ℕ, _^_}
+use Prim.Native.Nat.{ℕ, _^_, _≤_}
 use mathlib.Core.List.{List, [], _∷_}
 use mathlib.Core.Bool.{cond}
-use lib.ListN.{drop}
+use lib.ListN.{length, drop}
 use lib.Dec.{ltb}
 use Rattle.format.specs.Cut.{lines}
 use Rattle.format.specs.Answers.{Answer, accepted, refusal}
@@ -29,3 +29,8 @@ abbrev pub channelAs : List ℕ → Channel → Answer
 channelAs file (Days p n) = totalFirst (sumAt file p n ∷ [])
 channelAs file (Quantity v) = accepted (v ∷ [])
 channelAs file Missing = refusal 14
+
+abbrev pub within : List ℕ → Channel → Type 0
+within file (Days p n) = p ≤ length file
+within file (Quantity v) = Unit
+within file Missing = Unit

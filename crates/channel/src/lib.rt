@@ -1,4 +1,6 @@
 // Totals one channel of a file.
+pub mod add;
+pub mod walk;
 
 // A channel of a file: its days, which start at a place and have so many intervals each; or its quantity in millionths.
 pub enum Channel {
