@@ -12,11 +12,8 @@ use Rattle.ground.specs.Lists.{all}
 use Rattle.ground.proofs.Tests.{and-true}
 use Rattle.format.specs.Records.{valuesIn, millionths, firstIn, lastIn}
 use Rattle.format.specs.Order.{isVaried}
-use Rattle.format.specs.Answers.{accepted}
-use Rattle.format.specs.File.{checkOf}
-use Rattle.format.specs.Day.{Row, DayRows, daysOf, coverOf, eachOf, valuesOf}
+use Rattle.format.specs.Day.{Row, DayRows, coverOf, eachOf, valuesOf}
 use Rattle.bridge.specs.Sound.{coversFrom, isSound}
-use Rattle.bridge.proofs.Bridge.{checked-days}
 
 -- what a cover says of its first 400
 pub record Covered (k n : ℕ) (x : Row) (xs : List Row) : Type 0 where
@@ -67,12 +64,8 @@ module _ (d : DayRows) (s : isSound d ≡ true) where
   sound-values =
       omega (arith, length-map (take (d .n) (drop 2 (d .top .cells))) millionths, length-take (d .n) (drop 2 (d .top .cells)), length-drop 2 (d .top .cells), sound-fields)
 
-all-drop : {X : Type 0} (p : X → Bool) (k : ℕ) (l : List X) (x : X) (xs : List X) → all p l ≡ true → drop k l ≡ x ∷ xs → p x ≡ true
+pub all-drop : {X : Type 0} (p : X → Bool) (k : ℕ) (l : List X) (x : X) (xs : List X) → all p l ≡ true → drop k l ≡ x ∷ xs → p x ≡ true
 all-drop p zero [] x xs e h = let z : _≡_ {A = ℕ} 0 1 = cc in absurd (omega arith)
 all-drop p (suc k) [] x xs e h = let z : _≡_ {A = ℕ} 0 1 = cc in absurd (omega arith)
 all-drop p zero (y ∷ l) x xs e h = let z : y ≡ x = cc in rw z at (and-true (p y) _ e .0)
 all-drop p (suc k) (y ∷ l) x xs e h = all-drop p k l x xs (and-true (p y) _ e .1) h
-
--- the day of a number, in a file that is accepted
-pub checked-day : (file xs : List ℕ) (day : ℕ) (d : DayRows) (ds : List DayRows) → checkOf file ≡ accepted xs → drop day (daysOf file) ≡ d ∷ ds → isSound d ≡ true
-checked-day file xs day d ds e h = all-drop isSound day (daysOf file) d ds (checked-days file xs e) h

@@ -1,7 +1,7 @@
 -- A sum that is taken value by value, and given up before it would pass 64 bits. Assumes nothing.
 use Prim.Native.Nat.{ℕ, zero, suc, _+_, _-_, _^_, _≤_, _<_}
 use mathlib.Core.Path.{_≡_, refl, sym, ap, _∙_}
-use mathlib.Core.List.{List, [], map}
+use mathlib.Core.List.{List, [], _∷_, map}
 use mathlib.Core.Bool.{Bool, true, false, cond}
 use native.Mathlib.Numerals.{add-one}
 use native.Mathlib.Omega.{arith}
@@ -15,7 +15,8 @@ use Rattle.format.specs.Bytes.{areAll}
 use Rattle.format.specs.Numbers.{numberIn, numberOf, valueOf}
 use Rattle.format.specs.Cut.{fields, field}
 use Rattle.format.specs.Records.{indicatorOf, kindIn, millionths, valuesIn}
-use Rattle.format.specs.Total.{sumFrom}
+use Rattle.format.specs.Answers.{Answer, accepted, refusal}
+use Rattle.format.specs.Total.{sumFrom, totalFirst}
 use Rattle.format.specs.declared.Number.{Number}
 use Rattle.format.specs.declared.Number.the-variants.{Is, Bad}
 use Rattle.record.specs.Places.{LineEnd, Cut, Rest}
@@ -23,7 +24,9 @@ use Rattle.record.proofs.Ends.{line-none, line-more}
 use Rattle.record.proofs.Cuts.{rest-here}
 use Rattle.day.specs.Places.{valuesFrom}
 use Rattle.day.proofs.Values.{values-move}
-use Rattle.channel.specs.Places.{held, sumAt}
+use Rattle.channel.specs.declared.Channel.{Channel}
+use Rattle.channel.specs.declared.Channel.the-variants.{Days, Quantity, Missing}
+use Rattle.channel.specs.Places.{held, sumAt, channelAs, within}
 
 pub held-is : (v : ℕ) → v < 2 ^ 64 → Is v ≡ held v
 unfolding held
@@ -148,3 +151,31 @@ module _ (file : List ℕ) (at e n acc whole : ℕ) (s : LineEnd file at e) (inv
       days-on {y} q = omega (arith, got-is (acc + sum (valuesFrom n 0 (fields (part file v e)))) y (sym ex ∙ q), day-more)
 
 pub ruleset days = (days-none, days-end, days-skip, days-over, days-on)
+
+-- ---- the answer
+
+module _ (w : ℕ) {x : Number} (ex : x ≡ held w) where
+  pub total-is : {v : ℕ} → x ≡ Is v → accepted (v ∷ []) ≡ totalFirst (w ∷ [])
+  total-is {v} h =
+      let q : w ≡ v = got-is w v (sym ex ∙ h) in
+      let l : w < 2 ^ 64 = rw (← q) at (got-fits w ex h) in
+      rw (lt-ltb _ _ l, q)
+
+  pub total-over : (r : Answer) → x ≡ Bad → r ≡ refusal 17 → r ≡ totalFirst (w ∷ [])
+  total-over r h er = rw (le-ltb _ _ (got-bad w (sym ex ∙ h))) er
+
+-- c is what the walk to the channel answers, and a what is to be answered
+module _ (file : List ℕ) (a : Answer) (c : Channel) (ec : channelAs file c ≡ a) where
+  pub channel-days : (p n : ℕ) (r : Answer) → c ≡ Days p n → r ≡ totalFirst (sumAt file p n ∷ []) → r ≡ a
+  channel-days p n r h er = er ∙ sym (ap (channelAs file) h) ∙ ec
+
+  pub channel-quantity : (v : ℕ) → c ≡ Quantity v → accepted (v ∷ []) ≡ a
+  channel-quantity v h = sym (ap (channelAs file) h) ∙ ec
+
+  pub channel-missing : (r : Answer) → c ≡ Missing → r ≡ refusal 14 → r ≡ a
+  channel-missing r h er = er ∙ sym (ap (channelAs file) h) ∙ ec
+
+  pub channel-inside : (p n : ℕ) → c ≡ Days p n → within file c → p ≤ length file
+  channel-inside p n h i = rw h at i
+
+pub ruleset totals = (total-is, total-over, channel-days, channel-quantity, channel-missing, channel-inside)

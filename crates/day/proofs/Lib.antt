@@ -1,4 +1,4 @@
 pub mod Values
 pub mod Marks
-pub mod Fill
+pub mod Times
 pub mod Find

@@ -1,6 +1,5 @@
 -- A day as places of the file, for the contracts of the inner functions: its 300 stands from a to e, its values start at v, its quality at q.
 use Prim.Native.Nat.{ℕ, zero, suc, _+_, _≤_}
-use mathlib.Core.Path.{_≡_}
 use mathlib.Core.List.{List, [], _∷_}
 use mathlib.Core.Bool.{Bool, true, cond}
 use lib.ListN.{length, drop, replicate}
@@ -8,10 +7,9 @@ use lib.Dec.{eqb}
 use Rattle.ground.specs.Lists.{part}
 use Rattle.format.specs.Cut.{lines, field}
 use Rattle.format.specs.Records.{millionths}
-use Rattle.format.specs.Day.{Row, rowAt, DayRows, runsFrom, daysFrom, coverOf, tagAt, Five}
+use Rattle.format.specs.Day.{Row, rowAt, DayRows, runsFrom, daysFrom, coverOf, tagAt}
 use Rattle.format.specs.declared.Tag.{Tag}
-use Rattle.lists.specs.Lists.{Roomy}
-use Rattle.bridge.specs.Sound.{coversFrom, isSound}
+use Rattle.bridge.specs.Sound.{coversFrom}
 use Rattle.day.specs.declared.Place.{Place}
 use Rattle.day.specs.declared.Place.the-variants.{At, Missing}
 
@@ -39,14 +37,6 @@ isCovered t n xs = cond (eqb (t .flag) 86) (coversFrom 0 n xs) true
 -- the day of n intervals whose 300 stands from a to e
 abbrev pub dayAt : List ℕ → ℕ → ℕ → ℕ → DayRows
 dayAt file a e n = record { n = n; top = rowAt a (part file a e); runs = runsAt file (e + 2) }
-
--- that day may be filled into lists: it is sound and they have room
-pub record Ready (file : List ℕ) (a e n : ℕ) (vs : List ℕ) (ms : Five) : Type 0 where
-  pub order : a ≤ e
-  pub within : e + 2 ≤ length file
-  pub sound : isSound (dayAt file a e n) ≡ true
-  pub values : n ≤ length vs
-  pub marks : Roomy n ms
 
 -- ---- where a day stands
 

@@ -10,21 +10,20 @@ use lib.Dec.{eqb}
 use Rattle.ground.specs.Lists.{part}
 use Rattle.ground.proofs.Tests.{and-true}
 use Rattle.format.specs.Numbers.{numberIn}
-use Rattle.format.specs.Dates.{dateOf, timeOf, loadOf}
+use Rattle.format.specs.Dates.{timeOf, loadOf}
 use Rattle.format.specs.Cut.{fields, field}
 use Rattle.format.specs.Records.{dateIn}
 use Rattle.format.specs.Order.{isVaried}
 use Rattle.format.specs.Answers.{accepted}
 use Rattle.format.specs.Day.{rowAt, eachOf, tagAt, tagsOf, valuesOf, updateIn, loadIn, Five, over, overFive, outcome, readInto}
 use Rattle.format.specs.declared.Tag.{Tag}
-use Rattle.record.specs.Places.{Cut, Rest}
-use Rattle.record.proofs.Cuts.{rest-whole, rest-first, rest-next}
+use Rattle.record.specs.Places.{Rest}
 use Rattle.record.proofs.Fields.{tag-moves}
 use Rattle.lists.specs.Lists.{stored, Roomy}
 use Rattle.bridge.specs.Sound.{isSound}
 use Rattle.bridge.proofs.Sound.{sound-fields, sound-each, sound-values}
 use Rattle.day.specs.Places.{valuesFrom, runsAt, runTags, tagsFor, isCovered, dayAt}
 use Rattle.day.proofs.Values.{values-move, values-are}
 
 -- ---- stores from place 0 on leave the tail
 
@@ -44,23 +43,6 @@ over-five ts n ms h r =
       over-one (map (λ (t : Tag). t .start) ts) (ms .starts) (omega (arith, length-map ts (λ (t : Tag). t .start), r .starts)),
       over-one (map (λ (t : Tag). t .length) ts) (ms .lengths) (omega (arith, length-map ts (λ (t : Tag). t .length), r .lengths)),
     )
-
--- ---- head and times of a 300
-
-module _ (file : List ℕ) (a e b x b₁ x₁ : ℕ) (k : Cut file a e b x) (k₁ : Cut file x e b₁ x₁) where
-  pub head-rest : Rest file (fields (part file a e)) a 2 x₁ e
-  head-rest = rest-next (rest-next (rest-whole file a e (omega (arith, k .order, k .on, k .ends)) (k .within)) k) k₁
-
-  pub head-date : (d : ℕ) → d ≡ numberIn (dateOf (field 0 (fields (part file x e)))) → d ≡ dateIn (fields (part file a e))
-  unfolding dateIn
-  head-date d h = h ∙ ap (λ (f : List ℕ). numberIn (dateOf f)) (sym (k .later 0))
-
-module _ (file : List ℕ) (fs : List (List ℕ)) (a e x : ℕ) (s : Rest file fs a 3 x e) where
-  pub time-first : (u : ℕ) → u ≡ numberIn (timeOf (field 0 (fields (part file x e)))) → u ≡ numberIn (timeOf (field 3 fs))
-  time-first u h = h ∙ ap (λ (f : List ℕ). numberIn (timeOf f)) (rest-first s)
-
-  pub time-second : (b y l : ℕ) → Cut file x e b y → l ≡ numberIn (loadOf (field 0 (fields (part file y e)))) → l ≡ numberIn (loadOf (field 4 fs))
-  time-second b y l k h = h ∙ ap (λ (f : List ℕ). numberIn (loadOf f)) (rest-first (rest-next s k))
 
 -- ---- the rest of a rest
 
