@@ -16,11 +16,11 @@ pub fn skip(file: &[u8], a: usize, e: usize, n: usize) -> usize
     ensures { λ r. ⌜ Rest (now (file .entry)) (fields (part (now (file .entry)) a e)) a n r e ⌝ }
 {
     let mut x = a;
-    let mut i: usize = 0;
-    while i < n {
+    let mut passed: usize = 0;
+    while passed < n {
         let f = field_at(file, x, e);
         x = f.next;
-        i += 1;
+        passed += 1;
     }
     x
 }

@@ -11,10 +11,10 @@ use Rattle.day.proofs.fields.skip.Statement.{statement}
 use Rattle.day.proofs.fields.skip.Tie as tie
 
 abbrev Inv-loop : tie.InvT-loop
-Inv-loop file a e n x₀ i₀ x i = (i ≤ n) × Rest file (fields (part file a e)) a i x e
+Inv-loop file a e n x₀ passed₀ x passed = (passed ≤ n) × Rest file (fields (part file a e)) a passed x e
 
 abbrev μ-loop : tie.MeasureT-loop
-μ-loop file a e n x₀ i₀ x i = n - i
+μ-loop file a e n x₀ passed₀ x passed = n - passed
 
 loop-holds : tie.Need-loop-holds Inv-loop μ-loop
 loop-holds c = (omega arith, rest-whole _ _ _ (omega arith) (omega arith))
@@ -22,8 +22,8 @@ loop-holds c = (omega arith, rest-whole _ _ _ (omega arith) (omega arith))
 field-at-requires : tie.Need-field-at-requires Inv-loop μ-loop
 field-at-requires c κs = search needs
 
-add-i : tie.Need-add-i Inv-loop μ-loop
-add-i c = search needs
+add-passed : tie.Need-add-passed Inv-loop μ-loop
+add-passed c = search needs
 
 loop-less : tie.Need-loop-less Inv-loop μ-loop
 loop-less c = search needs
@@ -37,4 +37,4 @@ returns c = search rest-end
 pub skip-spec : {M : Type 1} → statement M
 skip-spec =
     tie.close
-    (tie.spec Inv-loop μ-loop loop-holds field-at-requires add-i loop-less loop-again returns)
+    (tie.spec Inv-loop μ-loop loop-holds field-at-requires add-passed loop-less loop-again returns)
