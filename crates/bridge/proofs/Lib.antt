@@ -1,0 +1,2 @@
+pub mod Bridge
+pub mod Sound

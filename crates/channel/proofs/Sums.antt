@@ -1,0 +1,181 @@
+-- A sum that is taken value by value, and given up before it would pass 64 bits. Assumes nothing.
+use Prim.Native.Nat.{ℕ, zero, suc, _+_, _-_, _^_, _≤_, _<_}
+use mathlib.Core.Path.{_≡_, refl, sym, ap, _∙_}
+use mathlib.Core.List.{List, [], _∷_, map}
+use mathlib.Core.Bool.{Bool, true, false, cond}
+use native.Mathlib.Numerals.{add-one}
+use native.Mathlib.Omega.{arith}
+use native.Mathlib.Decide.{decLt}
+use lib.ListN.{length, take, drop, drop-of-length-le, List·getD-eq-default}
+use lib.Seq.{drop-cons}
+use lib.Dec.{ltb}
+use borrow.Author.Tests.{lt-ltb, le-ltb, ltb-true, ltb-false, ne-eqb}
+use Rattle.ground.specs.Lists.{spanOf, sum, part}
+use Rattle.format.specs.Bytes.{areAll}
+use Rattle.format.specs.Numbers.{numberIn, numberOf, valueOf}
+use Rattle.format.specs.Cut.{fields, field}
+use Rattle.format.specs.Records.{indicatorOf, kindIn, millionths, valuesIn}
+use Rattle.format.specs.Answers.{Answer, accepted, refusal}
+use Rattle.format.specs.Total.{sumFrom, totalFirst}
+use Rattle.format.specs.declared.Number.{Number}
+use Rattle.format.specs.declared.Number.the-variants.{Is, Bad}
+use Rattle.record.specs.Places.{LineEnd, Cut, Rest}
+use Rattle.record.proofs.Ends.{line-none, line-more}
+use Rattle.record.proofs.Cuts.{rest-here}
+use Rattle.day.specs.Places.{valuesFrom}
+use Rattle.day.proofs.Values.{values-move}
+use Rattle.channel.specs.declared.Channel.{Channel}
+use Rattle.channel.specs.declared.Channel.the-variants.{Days, Quantity, Missing}
+use Rattle.channel.specs.Places.{held, sumAt, channelAs, within}
+
+pub held-is : (v : ℕ) → v < 2 ^ 64 → Is v ≡ held v
+unfolding held
+held-is v h = rw (lt-ltb _ _ h)
+
+pub held-not : (v : ℕ) → 2 ^ 64 ≤ v → Bad ≡ held v
+unfolding held
+held-not v h = rw (le-ltb _ _ h)
+
+got-is : (v y : ℕ) → held v ≡ Is y → v ≡ y
+unfolding held
+got-is v y e = by (ltb v (2 ^ 64)) e
+  where
+    by : (b : Bool) → cond b (Is v) Bad ≡ Is y → v ≡ y
+    by true q = cc
+    by false q = let z : _≡_ {A = ℕ} 0 1 = cc in absurd (omega arith)
+
+pub got-fits : {x : Number} (v : ℕ) {y : ℕ} → x ≡ held v → x ≡ Is y → y < 2 ^ 64
+unfolding held
+got-fits {x} v {y} e q = by (ltb v (2 ^ 64)) refl (sym e ∙ q)
+  where
+    by : (b : Bool) → ltb v (2 ^ 64) ≡ b → cond b (Is v) Bad ≡ Is y → y < 2 ^ 64
+    by true h r = let z : v ≡ y = cc in rw z at (ltb-true v (2 ^ 64) h)
+    by false h r = let z : _≡_ {A = ℕ} 0 1 = cc in absurd (omega arith)
+
+got-bad : (v : ℕ) → held v ≡ Bad → 2 ^ 64 ≤ v
+unfolding held
+got-bad v e = by (ltb v (2 ^ 64)) refl e
+  where
+    by : (b : Bool) → ltb v (2 ^ 64) ≡ b → cond b (Is v) Bad ≡ Bad → 2 ^ 64 ≤ v
+    by true h q = let z : _≡_ {A = ℕ} 0 1 = cc in absurd (omega arith)
+    by false h q = ltb-false _ _ h
+
+-- ---- the values of one 300
+
+-- a turn, at field i: v is its value, and `whole` the sum to come to
+module _ (file : List ℕ) (fs : List (List ℕ)) (p n i a e b x v acc whole : ℕ) (h : i < n) (s : Rest file fs p i a e) (k : Cut file a e b x)
+    (ev : v ≡ millionths (part file a b)) (inv : acc + sum (valuesFrom (n - i) i fs) ≡ whole) where
+  pub sum-on : acc + v + sum (valuesFrom (n - (i + 1)) (i + 1) fs) ≡ whole
+  unfolding valuesFrom
+  sum-on =
+      let m : n - i ≡ suc (n - (i + 1)) = omega arith in
+      let w : millionths (field i fs) ≡ v = sym (ev ∙ ap millionths (rest-here s k)) in
+      let t : sum (valuesFrom (n - i) i fs) ≡ v + sum (valuesFrom (n - (i + 1)) (i + 1) fs) = rw (m, w, add-one) in
+      omega arith
+
+  pub sum-over : 18446744073709551615 - acc < v → acc < 2 ^ 64 → Bad ≡ held whole
+  sum-over g l = held-not whole (omega (arith, sum-on))
+
+pub sum-end : (n i acc whole : ℕ) (fs : List (List ℕ)) → n ≤ i → acc < 2 ^ 64 → acc + sum (valuesFrom (n - i) i fs) ≡ whole → Is acc ≡ held whole
+unfolding valuesFrom
+sum-end n i acc whole fs h l inv =
+    let m : n - i ≡ 0 = omega arith in
+    let t : sum (valuesFrom (n - i) i fs) ≡ 0 = rw m in
+    let q : acc ≡ whole = omega arith in
+    rw (← q) (held-is acc l)
+
+-- a field that is not there adds nothing
+nothing : millionths [] ≡ 0
+unfolding millionths valueOf numberOf areAll spanOf
+nothing = refl
+
+none-left : (n i : ℕ) (fs : List (List ℕ)) → length fs ≤ i → sum (valuesFrom n i fs) ≡ 0
+unfolding valuesFrom
+none-left zero i fs h = refl
+none-left (suc n) i fs h = rw (List·getD-eq-default fs [] {n = i} h, nothing) (omega (arith, none-left n (suc i) fs (omega arith)))
+
+sum-take : (n i : ℕ) (fs : List (List ℕ)) → sum (valuesFrom n i fs) ≡ sum (map millionths (take n (drop i fs)))
+unfolding valuesFrom
+sum-take zero i fs = refl
+sum-take (suc n) i fs = by (decLt i (length fs)) (sum-take n (suc i) fs)
+  where
+    by : Dec (i < length fs) → sum (valuesFrom n (suc i) fs) ≡ sum (map millionths (take n (drop (suc i) fs)))
+        → sum (valuesFrom (suc n) i fs) ≡ sum (map millionths (take (suc n) (drop i fs)))
+    by (yes p) ih = rw (drop-cons fs i [] p, ih)
+    by (no p) ih =
+        let g : length fs ≤ i = omega arith in
+        none-left (suc n) i fs g ∙ sym (rw (drop-of-length-le fs g))
+
+-- the day whose 300 stands from a to e, of which v is where the values start
+pub day-sum : (file : List ℕ) (a e v n : ℕ) → Rest file (fields (part file a e)) a 2 v e
+    → sum (valuesFrom n 0 (fields (part file v e))) ≡ sum (valuesIn n (fields (part file a e)))
+unfolding valuesIn
+day-sum file a e v n s = ap sum (values-move s n 0) ∙ sum-take n 2 (fields (part file a e))
+
+-- ---- the days of a channel: the record at a place ends at e
+
+module _ (file : List ℕ) (at e n acc whole : ℕ) (s : LineEnd file at e) (inv : acc + sumAt file at n ≡ whole) (l : acc < 2 ^ 64) where
+  pub days-none : e ≡ length file → Is acc ≡ held whole
+  unfolding sumFrom
+  days-none h =
+      let t : sumAt file at n ≡ 0 = rw (line-none file at e s h) in
+      let q : acc ≡ whole = omega arith in
+      rw (← q) (held-is acc l)
+
+  module _ (go : e ≡ length file → ⊥) {k : ℕ} (ek : k ≡ numberIn (indicatorOf (field 0 (fields (part file at e))))) where
+    -- the next channel
+    pub days-end : k ≡ 200 → Is acc ≡ held whole
+    unfolding sumFrom kindIn
+    days-end h =
+        let t : sumAt file at n ≡ 0 = rw (line-more file at e s go, ← ek, h) in
+        let q : acc ≡ whole = omega arith in
+        rw (← q) (held-is acc l)
+
+    pub days-skip : (k ≡ 200 → ⊥) → (k ≡ 300 → ⊥) → acc + sumAt file (e + 2) n ≡ whole
+    unfolding sumFrom kindIn
+    days-skip h g =
+        let t : sumAt file at n ≡ sumAt file (e + 2) n = rw (line-more file at e s go, ← ek, ne-eqb _ _ h, ne-eqb _ _ g) in
+        omega arith
+
+    -- a day: x is what its values and the sum before them come to
+    module _ (h : k ≡ 300) (v : ℕ) (z : Rest file (fields (part file at e)) at 2 v e) {x : Number}
+        (ex : x ≡ held (acc + sum (valuesFrom n 0 (fields (part file v e))))) where
+      day-more : sumAt file at n ≡ sum (valuesFrom n 0 (fields (part file v e))) + sumAt file (e + 2) n
+      unfolding sumFrom kindIn
+      day-more = rw (line-more file at e s go, ← ek, h, day-sum file at e v n z)
+
+      pub days-over : x ≡ Bad → Bad ≡ held whole
+      days-over q = held-not whole (omega (arith, got-bad _ (sym ex ∙ q), day-more))
+
+      pub days-on : {y : ℕ} → x ≡ Is y → y + sumAt file (e + 2) n ≡ whole
+      days-on {y} q = omega (arith, got-is (acc + sum (valuesFrom n 0 (fields (part file v e)))) y (sym ex ∙ q), day-more)
+
+pub ruleset days = (days-none, days-end, days-skip, days-over, days-on)
+
+-- ---- the answer
+
+module _ (w : ℕ) {x : Number} (ex : x ≡ held w) where
+  pub total-is : {v : ℕ} → x ≡ Is v → accepted (v ∷ []) ≡ totalFirst (w ∷ [])
+  total-is {v} h =
+      let q : w ≡ v = got-is w v (sym ex ∙ h) in
+      let l : w < 2 ^ 64 = rw (← q) at (got-fits w ex h) in
+      rw (lt-ltb _ _ l, q)
+
+  pub total-over : (r : Answer) → x ≡ Bad → r ≡ refusal 17 → r ≡ totalFirst (w ∷ [])
+  total-over r h er = rw (le-ltb _ _ (got-bad w (sym ex ∙ h))) er
+
+-- c is what the walk to the channel answers, and a what is to be answered
+module _ (file : List ℕ) (a : Answer) (c : Channel) (ec : channelAs file c ≡ a) where
+  pub channel-days : (p n : ℕ) (r : Answer) → c ≡ Days p n → r ≡ totalFirst (sumAt file p n ∷ []) → r ≡ a
+  channel-days p n r h er = er ∙ sym (ap (channelAs file) h) ∙ ec
+
+  pub channel-quantity : (v : ℕ) → c ≡ Quantity v → accepted (v ∷ []) ≡ a
+  channel-quantity v h = sym (ap (channelAs file) h) ∙ ec
+
+  pub channel-missing : (r : Answer) → c ≡ Missing → r ≡ refusal 14 → r ≡ a
+  channel-missing r h er = er ∙ sym (ap (channelAs file) h) ∙ ec
+
+  pub channel-inside : (p n : ℕ) → c ≡ Days p n → within file c → p ≤ length file
+  channel-inside p n h i = rw h at i
+
+pub ruleset totals = (total-is, total-over, channel-days, channel-quantity, channel-missing, channel-inside)

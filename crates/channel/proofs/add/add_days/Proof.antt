@@ -1,0 +1,85 @@
+-- `channel::add::add_days` meets its contract. Assumes nothing.
+use Prim.Native.Nat.{_+_, _≤_, _-_, _<_, _^_}
+use Rattle.channel.proofs.Sums.{days, got-fits}
+use Rattle.channel.specs.Places.{sumAt}
+use Rattle.record.proofs.Ends.{line-room}
+use borrow.Author.Needs.{needs}
+use lib.ListN.{length}
+use mathlib.Core.Path.{_≡_}
+use native.Mathlib.Nat.{zero-add}
+use native.Mathlib.Omega.{arith}
+use Rattle.channel.proofs.add.add_days.Statement.{statement}
+use Rattle.channel.proofs.add.add_days.Tie as tie
+
+abbrev Inv-loop : tie.InvT-loop
+Inv-loop file start n acc₀ at₀ acc at = (at ≤ length file) × (acc < 2 ^ 64) × (acc + sumAt file at n ≡ sumAt file start n)
+
+abbrev μ-loop : tie.MeasureT-loop
+μ-loop file start n acc₀ at₀ acc at = length file - at
+
+loop-holds : tie.Need-loop-holds Inv-loop μ-loop
+loop-holds c = (omega arith, omega arith, zero-add _)
+
+scan-requires : tie.Need-scan-requires Inv-loop μ-loop
+scan-requires c κs = search needs
+
+returns : tie.Need-returns Inv-loop μ-loop
+returns c = search days
+
+kind-at-requires : tie.Need-kind-at-requires Inv-loop μ-loop
+kind-at-requires c κs = search needs
+
+returns-2 : tie.Need-returns-2 Inv-loop μ-loop
+returns-2 c = search days
+
+add-at : tie.Need-add-at Inv-loop μ-loop
+add-at c = let r : c .before .before .before .scan .result .end + 2 ≤ length (c .before .before .before .before .before .before .args .file .now) = search line-room in omega arith
+
+skip-requires : tie.Need-skip-requires Inv-loop μ-loop
+skip-requires c κs = search needs
+
+add-values-requires : tie.Need-add-values-requires Inv-loop μ-loop
+add-values-requires c κs = search needs
+
+enum-known-x : tie.Need-enum-known-x Inv-loop μ-loop
+enum-known-x c = search needs
+
+loop-less : tie.Need-loop-less Inv-loop μ-loop
+loop-less c = let r : c .before .before .before .before .before .before .before .before .before .scan .result .end + 2 ≤ length (c .before .before .before .before .before .before .before .before .before .before .before .before .args .file .now) = search line-room in omega arith
+
+loop-again : tie.Need-loop-again Inv-loop μ-loop
+loop-again c = let r : c .before .before .before .before .before .before .before .before .before .scan .result .end + 2 ≤ length (c .before .before .before .before .before .before .before .before .before .before .before .before .args .file .now) = search line-room in (r, search got-fits, search days)
+
+enum-told : tie.Need-enum-told Inv-loop μ-loop
+enum-told c = search needs
+
+returns-3 : tie.Need-returns-3 Inv-loop μ-loop
+returns-3 c = search days
+
+loop-less-2 : tie.Need-loop-less-2 Inv-loop μ-loop
+loop-less-2 c = let r : c .before .before .before .before .scan .result .end + 2 ≤ length (c .before .before .before .before .before .before .before .args .file .now) = search line-room in omega arith
+
+loop-again-2 : tie.Need-loop-again-2 Inv-loop μ-loop
+loop-again-2 c = let r : c .before .before .before .before .scan .result .end + 2 ≤ length (c .before .before .before .before .before .before .before .args .file .now) = search line-room in (r, search needs, search days)
+
+pub add-days-spec : {M : Type 1} → statement M
+add-days-spec =
+    tie.close
+    (tie.spec
+    Inv-loop
+    μ-loop
+    loop-holds
+    scan-requires
+    returns
+    kind-at-requires
+    returns-2
+    add-at
+    skip-requires
+    add-values-requires
+    enum-known-x
+    loop-less
+    loop-again
+    enum-told
+    returns-3
+    loop-less-2
+    loop-again-2)

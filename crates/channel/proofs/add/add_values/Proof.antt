@@ -1,0 +1,79 @@
+-- `channel::add::add_values` meets its contract. Assumes nothing.
+use Prim.Native.Nat.{_+_, _≤_, _-_, _<_, _^_}
+use Rattle.channel.proofs.Sums.{sum-on, sum-over, sum-end}
+use Rattle.day.specs.Places.{valuesFrom}
+use Rattle.format.specs.Cut.{fields}
+use Rattle.ground.specs.Lists.{part, sum}
+use Rattle.record.proofs.Cuts.{rest-whole, rest-next}
+use Rattle.record.specs.Places.{Rest}
+use borrow.Author.Needs.{needs}
+use mathlib.Core.Path.{_≡_}
+use native.Mathlib.Nat.{sub-zero}
+use native.Mathlib.Omega.{arith}
+use Rattle.channel.proofs.add.add_values.Statement.{statement}
+use Rattle.channel.proofs.add.add_values.Tie as tie
+
+abbrev Inv-loop : tie.InvT-loop
+Inv-loop file a e n before acc₀ x₀ i₀ acc x i = (i ≤ n) × (acc < 2 ^ 64) × Rest file (fields (part file a e)) a i x e × (acc + sum (valuesFrom (n - i) i (fields (part file a e))) ≡ before + sum (valuesFrom n 0 (fields (part file a e))))
+
+abbrev μ-loop : tie.MeasureT-loop
+μ-loop file a e n before acc₀ x₀ i₀ acc x i = n - i
+
+loop-holds : tie.Need-loop-holds Inv-loop μ-loop
+loop-holds c = (omega arith, omega arith, rest-whole _ _ _ (omega arith) (omega arith), rw sub-zero)
+
+field-at-requires : tie.Need-field-at-requires Inv-loop μ-loop
+field-at-requires c κs = search needs
+
+sub-value-of : tie.Need-sub-value-of Inv-loop μ-loop
+sub-value-of c = search needs
+
+part-value-of-start : tie.Need-part-value-of-start Inv-loop μ-loop
+part-value-of-start c = search needs
+
+part-value-of-end : tie.Need-part-value-of-end Inv-loop μ-loop
+part-value-of-end c = search needs
+
+value-of-requires : tie.Need-value-of-requires Inv-loop μ-loop
+value-of-requires c κs = search needs
+
+sub-if1 : tie.Need-sub-if1 Inv-loop μ-loop
+sub-if1 c = search needs
+
+returns : tie.Need-returns Inv-loop μ-loop
+returns c = search sum-over
+
+add-acc : tie.Need-add-acc Inv-loop μ-loop
+add-acc c = search needs
+
+add-i : tie.Need-add-i Inv-loop μ-loop
+add-i c = search needs
+
+loop-less : tie.Need-loop-less Inv-loop μ-loop
+loop-less c = search needs
+
+loop-again : tie.Need-loop-again Inv-loop μ-loop
+loop-again c = (omega arith, omega arith, search rest-next, search sum-on)
+
+returns-2 : tie.Need-returns-2 Inv-loop μ-loop
+returns-2 c = search sum-end
+
+pub add-values-spec : {M : Type 1} → statement M
+add-values-spec =
+    tie.close
+    (tie.spec
+    Inv-loop
+    μ-loop
+    loop-holds
+    field-at-requires
+    sub-value-of
+    part-value-of-start
+    part-value-of-end
+    value-of-requires
+    sub-if1
+    returns
+    add-acc
+    add-i
+    loop-less
+    loop-again
+    returns-2)

@@ -1,0 +1,36 @@
+-- A channel as places of the file, for the contracts of the inner functions.
+use Prim.Native.Nat.{ℕ, _^_, _≤_}
+use mathlib.Core.List.{List, [], _∷_}
+use mathlib.Core.Bool.{cond}
+use lib.ListN.{length, drop}
+use lib.Dec.{ltb}
+use Rattle.format.specs.Cut.{lines}
+use Rattle.format.specs.Answers.{Answer, accepted, refusal}
+use Rattle.format.specs.Total.{sumFrom, totalsFrom, totalFirst}
+use Rattle.format.specs.declared.Number.{Number}
+use Rattle.format.specs.declared.Number.the-variants.{Is, Bad}
+use Rattle.channel.specs.declared.Channel.{Channel}
+use Rattle.channel.specs.declared.Channel.the-variants.{Days, Quantity, Missing}
+
+-- a sum, if 64 bits hold it
+unfoldable pub held : ℕ → Number
+held v = cond (ltb v (2 ^ 64)) (Is v) Bad
+
+-- the values of the days from place p on, up to the next channel
+abbrev pub sumAt : List ℕ → ℕ → ℕ → ℕ
+sumAt file p n = sumFrom n (lines (drop p file))
+
+-- the totals of the channels from place p on
+abbrev pub totalsAt : List ℕ → ℕ → List ℕ
+totalsAt file p = totalsFrom (lines (drop p file))
+
+-- what is to be answered of a channel that was found
+abbrev pub channelAs : List ℕ → Channel → Answer
+channelAs file (Days p n) = totalFirst (sumAt file p n ∷ [])
+channelAs file (Quantity v) = accepted (v ∷ [])
+channelAs file Missing = refusal 14
+
+abbrev pub within : List ℕ → Channel → Type 0
+within file (Days p n) = p ≤ length file
+within file (Quantity v) = Unit
+within file Missing = Unit

@@ -1,0 +1,54 @@
+-- A day as places of the file, for the contracts of the inner functions: its 300 stands from a to e, its values start at v, its quality at q.
+use Prim.Native.Nat.{ℕ, zero, suc, _+_, _≤_}
+use mathlib.Core.List.{List, [], _∷_}
+use mathlib.Core.Bool.{Bool, true, cond}
+use lib.ListN.{length, drop, replicate}
+use lib.Dec.{eqb}
+use Rattle.ground.specs.Lists.{part}
+use Rattle.format.specs.Cut.{lines, field}
+use Rattle.format.specs.Records.{millionths}
+use Rattle.format.specs.Day.{Row, rowAt, DayRows, runsFrom, daysFrom, coverOf, tagAt}
+use Rattle.format.specs.declared.Tag.{Tag}
+use Rattle.bridge.specs.Sound.{coversFrom}
+use Rattle.day.specs.declared.Place.{Place}
+use Rattle.day.specs.declared.Place.the-variants.{At, Missing}
+
+-- the values of n fields from field i on; one that is not there reads as 0
+unfoldable pub valuesFrom : ℕ → ℕ → List (List ℕ) → List ℕ
+valuesFrom zero i fs = []
+valuesFrom (suc n) i fs = millionths (field i fs) ∷ valuesFrom n (suc i) fs
+
+-- the 400s at place p
+abbrev pub runsAt : List ℕ → ℕ → List Row
+runsAt file p = runsFrom p (lines (drop p file))
+
+-- the tags of the intervals, by the 400s
+unfoldable pub runTags : List Row → List Tag
+runTags xs = coverOf (λ x. tagAt 400 x 3) xs
+
+-- the tags of a day whose 300 has the tag t: on a V day those of its 400s, else t itself
+unfoldable pub tagsFor : Tag → ℕ → List Row → List Tag
+tagsFor t n xs = cond (eqb (t .flag) 86) (runTags xs) (replicate n t)
+
+-- the 400s of such a day cover it, where they have to
+unfoldable pub isCovered : Tag → ℕ → List Row → Bool
+isCovered t n xs = cond (eqb (t .flag) 86) (coversFrom 0 n xs) true
+
+-- the day of n intervals whose 300 stands from a to e
+abbrev pub dayAt : List ℕ → ℕ → ℕ → ℕ → DayRows
+dayAt file a e n = record { n = n; top = rowAt a (part file a e); runs = runsAt file (e + 2) }
+
+-- ---- where a day stands
+
+-- the days from place p on, where n is that of the 200 before
+abbrev pub daysAt : List ℕ → ℕ → ℕ → List DayRows
+daysAt file p n = daysFrom p n (lines (drop p file))
+
+-- the days from the one that was found
+abbrev pub located : List ℕ → Place → List DayRows
+located file (At a e n) = dayAt file a e n ∷ daysAt file (e + 2) n
+located file Missing = []
+
+abbrev pub inside : List ℕ → Place → Type 0
+inside file (At a e n) = (a ≤ e) × (e + 2 ≤ length file)
+inside file Missing = Unit

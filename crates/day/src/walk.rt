@@ -1,0 +1,51 @@
+// The walk to a day.
+use super::Place;
+use super::fields::skip;
+use record::lines::scan;
+use record::says::intervals_at;
+use record::says::kind_at;
+ghost use mathlib.Core.Path.{_≡_};
+ghost use Prim.Native.Nat.{_≤_};
+ghost use lib.ListN.{length, drop};
+ghost use Rattle.ground.specs.Lists.{part};
+ghost use Rattle.format.specs.Cut.{fields};
+ghost use Rattle.format.specs.Records.{intervalsIn};
+ghost use Rattle.format.specs.Day.{daysOf};
+ghost use Rattle.day.specs.Places.{located, inside};
+
+// How many intervals the days of a 200 have.
+pub fn intervals_of(file: &[u8], a: usize, e: usize) -> usize
+    requires { ⌜ (a ≤ e) × (e ≤ length (now file)) ⌝ }
+    ensures { λ r. ⌜ r ≡ intervalsIn (fields (part (now (file .entry)) a e)) ⌝ }
+{
+    let x = skip(file, a, e, 8);
+    intervals_at(file, x, e)
+}
+
+// The day of a number from 0, with the n of the last 200 before it.
+pub fn find_day(file: &[u8], day: usize) -> Place
+    ensures is { λ r. ⌜ located (now (file .entry)) r ≡ drop day (daysOf (now (file .entry))) ⌝ }
+    ensures inside { λ r. ⌜ inside (now (file .entry)) r ⌝ }
+{
+    let mut at: usize = 0;
+    let mut left = day;
+    let mut n: usize = 0;
+    loop {
+        let s = scan(file, at);
+        let e = s.end;
+        if e == file.len() {
+            return Place::Missing;
+        }
+        let a = at;
+        at = e + 2;
+        let k = kind_at(file, a, e);
+        if k == 300 {
+            if left == 0 {
+                return Place::At(a, e, n);
+            }
+            left -= 1;
+        } else if k == 200 {
+            n = intervals_of(file, a, e);
+        }
+    }
+}

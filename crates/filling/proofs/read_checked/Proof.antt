@@ -1,0 +1,62 @@
+-- `filling::read_checked` meets its contract. Assumes nothing.
+use Rattle.filling.proofs.Cases.{day-here, day-missing, day-found}
+use borrow.Author.Needs.{needs}
+use Rattle.filling.proofs.read_checked.Statement.{statement}
+use Rattle.filling.proofs.read_checked.Tie as tie
+
+find-day-requires : tie.Need-find-day-requires
+find-day-requires c κs = search needs
+
+enum-told : tie.Need-enum-told
+enum-told c = search needs
+
+no-day-requires : tie.Need-no-day-requires
+no-day-requires c κs = search needs
+
+enum-known-p : tie.Need-enum-known-p
+enum-known-p c = search needs
+
+read-at-requires : tie.Need-read-at-requires
+read-at-requires c κs = search day-here
+
+returns : tie.Need-returns
+returns c = search day-missing
+
+same-length : tie.Need-same-length
+same-length c = search needs
+
+same-length-2 : tie.Need-same-length-2
+same-length-2 c = search needs
+
+same-length-3 : tie.Need-same-length-3
+same-length-3 c = search needs
+
+same-length-4 : tie.Need-same-length-4
+same-length-4 c = search needs
+
+same-length-5 : tie.Need-same-length-5
+same-length-5 c = search needs
+
+same-length-6 : tie.Need-same-length-6
+same-length-6 c = search needs
+
+returns-2 : tie.Need-returns-2
+returns-2 c = search day-found
+
+pub read-checked-spec : {M : Type 1} → statement M
+read-checked-spec =
+    tie.close
+    (tie.spec
+    find-day-requires
+    enum-told
+    no-day-requires
+    enum-known-p
+    read-at-requires
+    returns
+    same-length
+    same-length-2
+    same-length-3
+    same-length-4
+    same-length-5
+    same-length-6
+    returns-2)

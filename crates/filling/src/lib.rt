@@ -1,0 +1,158 @@
+// Reads the day of a number into six lent lists, where the file was accepted.
+use day::Place;
+use day::cover::put_marks;
+use day::fields::fill_values;
+use day::head::head_at;
+use day::head::times_at;
+use day::walk::find_day;
+use format::DayRead;
+use format::Refusal;
+use record::says::tag_at;
+ghost use mathlib.Core.Path.{_≡_};
+ghost use mathlib.Core.Bool.{true, cond};
+ghost use Prim.Native.Nat.{_+_, _≤_};
+ghost use lib.ListN.{length, drop};
+ghost use Rattle.ground.specs.Lists.{all};
+ghost use Rattle.format.specs.Answers.{refusal, dayReadAs};
+ghost use Rattle.format.specs.Day.{daysOf, five, outcome, enoughFor, roomFor, readInto, readFirst};
+ghost use Rattle.bridge.specs.Sound.{isSound};
+ghost use Rattle.day.specs.Places.{dayAt};
+ghost use Rattle.filling.specs.Ready.{Here, Ready, dayInto};
+
+// A refusal without a place of its own.
+fn no_day(number: u64) -> DayRead
+    ensures { λ r. ⌜ dayReadAs r ≡ refusal number ⌝ }
+{
+    DayRead::Refused(Refusal {
+        number,
+        place: 0,
+        record: 0,
+        field: 0,
+    })
+}
+
+// None of six lists of these lengths is shorter than n. It takes the lengths and not the lists, so that no list is lent before all are known to be long enough.
+fn enough(n: usize, v: usize, f: usize, m: usize, r: usize, s: usize, l: usize) -> bool
+    ensures { λ x. ⌜ x ≡ enoughFor n v f m r s l ⌝ }
+{
+    if v < n {
+        return false;
+    }
+    if f < n {
+        return false;
+    }
+    if m < n {
+        return false;
+    }
+    if r < n {
+        return false;
+    }
+    if s < n {
+        return false;
+    }
+    n <= l
+}
+
+// Fills the lists with the day of n intervals whose 300 stands at a..e: nothing is left here that could fail.
+fn fill_day(
+    file: &[u8],
+    a: usize,
+    e: usize,
+    n: usize,
+    values: &mut [u64],
+    flags: &mut [u8],
+    methods: &mut [u8],
+    reasons: &mut [u16],
+    starts: &mut [usize],
+    lengths: &mut [usize],
+) -> DayRead
+    requires { ⌜ Ready (now file) a e n (now values) (five (now flags) (now methods) (now reasons) (now starts) (now lengths)) ⌝ }
+    ensures { λ r. ⌜ outcome (dayReadAs r) (now (values .exit)) (five (now (flags .exit)) (now (methods .exit)) (now (reasons .exit)) (now (starts .exit)) (now (lengths .exit))) ≡ readInto (dayAt (now (file .entry)) a e n) (now (values .entry)) (five (now (flags .entry)) (now (methods .entry)) (now (reasons .entry)) (now (starts .entry)) (now (lengths .entry))) ⌝ }
+{
+    let h = head_at(file, a, e);
+    let date = h.date;
+    let v = h.next;
+    let q = fill_values(file, v, e, n, values);
+    let t = tag_at(file, q, e, 300);
+    put_marks(file, t, e + 2, n, flags, methods, reasons, starts, lengths);
+    let w = times_at(file, q, e);
+    DayRead::Read {
+        date,
+        n,
+        update: w.update,
+        load: w.load,
+    }
+}
+
+// The same day, if the lists are long enough.
+fn read_at(
+    file: &[u8],
+    a: usize,
+    e: usize,
+    n: usize,
+    values: &mut [u64],
+    flags: &mut [u8],
+    methods: &mut [u8],
+    reasons: &mut [u16],
+    starts: &mut [usize],
+    lengths: &mut [usize],
+) -> DayRead
+    requires { ⌜ Here (now file) a e n ⌝ }
+    ensures { λ r. ⌜ outcome (dayReadAs r) (now (values .exit)) (five (now (flags .exit)) (now (methods .exit)) (now (reasons .exit)) (now (starts .exit)) (now (lengths .exit))) ≡ dayInto (dayAt (now (file .entry)) a e n) (now (values .entry)) (five (now (flags .entry)) (now (methods .entry)) (now (reasons .entry)) (now (starts .entry)) (now (lengths .entry))) ⌝ }
+{
+    if !enough(
+        n,
+        values.len(),
+        flags.len(),
+        methods.len(),
+        reasons.len(),
+        starts.len(),
+        lengths.len(),
+    ) {
+        return no_day(15);
+    }
+    fill_day(
+        file,
+        a,
+        e,
+        n,
+        values,
+        flags,
+        methods,
+        reasons,
+        starts,
+        lengths,
+    )
+}
+
+// The day of a number from 0, in a file whose days are sound.
+pub fn read_checked(
+    file: &[u8],
+    day: usize,
+    values: &mut [u64],
+    flags: &mut [u8],
+    methods: &mut [u8],
+    reasons: &mut [u16],
+    starts: &mut [usize],
+    lengths: &mut [usize],
+) -> DayRead
+    requires { ⌜ all isSound (daysOf (now file)) ≡ true ⌝ }
+    ensures { λ r. ⌜ outcome (dayReadAs r) (now (values .exit)) (five (now (flags .exit)) (now (methods .exit)) (now (reasons .exit)) (now (starts .exit)) (now (lengths .exit))) ≡ readFirst (drop day (daysOf (now (file .entry)))) (now (values .entry)) (five (now (flags .entry)) (now (methods .entry)) (now (reasons .entry)) (now (starts .entry)) (now (lengths .entry))) ⌝ }
+{
+    let p = find_day(file, day);
+    match p {
+        Place::Missing => no_day(14),
+        Place::At(a, e, n) => read_at(
+            file,
+            a,
+            e,
+            n,
+            values,
+            flags,
+            methods,
+            reasons,
+            starts,
+            lengths,
+        ),
+    }
+}
