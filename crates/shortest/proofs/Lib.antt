@@ -1,0 +1,4 @@
+pub mod Sizes
+pub mod Shapes
+pub mod Steps
+pub mod Least

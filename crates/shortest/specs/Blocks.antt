@@ -1,0 +1,76 @@
+-- 01: "A day block is a 300 record with the 400 and 500 records under it." When bytes are accepted as one, by the very steps that the check of a file
+-- takes, and which day a reading finds in them.
+use Prim.Native.Nat.{ℕ, _≤_, _<_}
+use mathlib.Core.Path.{_≡_}
+use mathlib.Core.Bool.{Bool, true, false, _&&_, _||_}
+use mathlib.Core.Logic.{_≢_}
+use mathlib.Core.List.{List, [], _∷_, map}
+use lib.ListN.{length}
+use lib.Dec.{eqb}
+use Rattle.ground.specs.Lists.{all}
+use Rattle.format.specs.Cut.{Lines, line, rest, lines, fields}
+use Rattle.format.specs.Records.{kindIn}
+use Rattle.format.specs.Order.{Due, mayCome}
+use Rattle.format.specs.Faults.{isOpen, faultOf}
+use Rattle.format.specs.File.{after}
+use Rattle.format.specs.Day.{Day, dayOf, daysFrom, enoughFor}
+use Rattle.format.specs.Block.{Given, intervalsGiven, dayGiven, fitGiven, blockOf, recordsOf}
+use Rattle.format.specs.declared.Fault.the-variants.{Fine}
+
+-- ---- accepted as a block
+
+-- from the state a on, no record is at fault, nothing is left behind the last CR LF, and there the state is e
+abbrev pub Passes : Due → Lines → Due → Type 0
+Passes a (rest t) e = (t ≡ []) × (a ≡ e)
+Passes a (line r ls) e = (faultOf a r ≡ Fine) × Passes (after a r) ls e
+
+-- the kinds of the records, in their order
+abbrev pub kindsOf : Lines → List ℕ
+kindsOf (rest t) = []
+kindsOf (line r ls) = kindIn (fields r) ∷ kindsOf ls
+
+-- a 300, and under it 400s and 500s
+abbrev pub isBlock : List ℕ → Bool
+isBlock [] = false
+isBlock (k ∷ ks) = eqb k 300 && all (λ x. eqb x 400 || eqb x 500) ks
+
+-- a 300 may come here, and no V day is open: behind a 200, or where a day may end
+abbrev pub Free : Due → Type 0
+Free st = (mayCome (st .expect) 300 ≡ true) × (isOpen st 300 ≡ false)
+
+-- the bytes b are accepted as a block where the state is st
+pub record Accepted (st : Due) (b : List ℕ) : Type 0 where
+  pub kinds : isBlock (kindsOf (lines b)) ≡ true
+  pub end : Due
+  pub passes : Passes st (lines b) end
+  pub free : Free end
+
+-- read at the place p of a file, under a 200 of n intervals, the bytes b are one day, and it is d
+abbrev pub Reads : ℕ → ℕ → List ℕ → Day → Type 0
+Reads p n b d = map dayOf (daysFrom p n (lines b)) ≡ d ∷ []
+
+-- ---- where a block may stand
+
+-- a block of n intervals with this date may stand here: behind a 200 of that n, or under it behind another day of an earlier date
+pub record Awaits (st : Due) (n date : ℕ) : Type 0 where
+  pub free : Free st
+  pub intervals : st .n ≡ n
+  pub earlier : st .date < date
+
+-- ---- what the theorems say
+
+-- nothing is wrong with what was handed in: the interval length, the lists' lengths, and all else that a fit day asks
+pub record Writable (g : Given) : Type 0 where
+  pub length-known : intervalsGiven g ≢ 0
+  pub enough : enoughFor (intervalsGiven g) (length (g .values)) (length (g .flags)) (length (g .methods)) (length (g .reasons)) (length (g .starts)) (length (g .lengths)) ≡ true
+  pub fit : fitGiven g ≡ true
+
+-- the block that is written for the day d is accepted where the state is st, and the day that is read from it, at any place, is the same
+pub record ReadsBack (d : Day) (st : Due) : Type 0 where
+  pub accepted : Accepted st (blockOf d)
+  pub same : (p : ℕ) → Reads p (st .n) (blockOf d) d
+
+-- the block that is written for the day d has no more records than the bytes b, and no more bytes
+pub record NoLonger (d : Day) (b : List ℕ) : Type 0 where
+  pub records : recordsOf d ≤ length (kindsOf (lines b))
+  pub bytes : length (blockOf d) ≤ length b
