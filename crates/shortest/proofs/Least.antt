@@ -36,6 +36,7 @@ use Rattle.theorems.proofs.Fit.{Fit, fine-fit}
 use Rattle.shortest.specs.Blocks.{Passes, kindsOf, isBlock, Accepted, Reads, NoLonger}
 use Rattle.shortest.proofs.Sizes.{size, size-append, length-record}
 use Rattle.shortest.proofs.Shapes.{number-is, graded-is, Marking, Top, top-of, Stretch, stretch-of, said, topRow, top-date, top-values, top-mark, top-varied, top-update, top-load, runRow, run-first, run-last, run-mark}
+use Rattle.shortest.proofs.Forms.{uniform-top, uniform-tail, varied-top, varied-tail}
 use Rattle.shortest.proofs.Steps.{fit-record, fit-cover, after-300, after-400, runs-more, runs-end, dayAt, days-more}
 
 -- ---- how long the written block is
@@ -141,22 +142,6 @@ covered a p st end (line r ls) e h =
     (λ t. none a p (line r ls) (runs-end p r ls (eqb-false _ _ t)))
 
 -- ---- the marks, in the 300 and in the 400s
-
-uniform-top : (ms : List Mark) → isUniform ms ≡ true → topText ms ≡ markText (getD ms 0 noMark)
-unfolding topText
-uniform-top ms e = rw e
-
-uniform-tail : (ms : List Mark) → isUniform ms ≡ true → tailText ms ≡ []
-unfolding tailText
-uniform-tail ms e = rw e
-
-varied-top : (ms : List Mark) → isUniform ms ≡ false → topText ms ≡ bytes "V,,"
-unfolding topText
-varied-top ms e = rw e
-
-varied-tail : (ms : List Mark) → isUniform ms ≡ false → tailText ms ≡ coverText 0 (runsIn ms)
-unfolding tailText
-varied-tail ms e = rw e
 
 -- one run has a 400 that is longer than its mark
 one-run : (c : List (Run Mark)) (ms : List Mark) → spell c ≡ ms → proper c ≡ true → length c ≡ 1 → length (markText (getD ms 0 noMark)) ≤ length (coverText 0 c)

@@ -1,4 +1,9 @@
 pub mod Sizes
 pub mod Shapes
+pub mod Forms
 pub mod Steps
 pub mod Least
+pub mod Pass
+pub mod Texts
+pub mod Written
+pub mod Back

@@ -204,36 +204,39 @@ stretch-of fs r = go fs (r .indicator) (r .meets)
 abbrev pub said : ℕ → List ℕ → List ℕ → List ℕ → Mark
 said k q s x = record { flag = flagIn (qualityOf k q); method = methodIn (qualityOf k q); reason = numberIn (reasonOf s); text = x }
 
-module _ (i t : List ℕ) (vs : List (List ℕ)) (q s x u l : List ℕ) (n : ℕ) (e : length vs ≡ n) where
-  abbrev pub topRow : Record
-  topRow = i ∷ t ∷ (vs ++ (q ∷ s ∷ x ∷ u ∷ l ∷ []))
+abbrev pub topRow : List ℕ → List ℕ → List (List ℕ) → List ℕ → List ℕ → List ℕ → List ℕ → List ℕ → Record
+topRow i t vs q s x u l = i ∷ t ∷ (vs ++ (q ∷ s ∷ x ∷ u ∷ l ∷ []))
 
-  behind : (k j : ℕ) → k ≡ n + 2 + j → field k topRow ≡ field j (q ∷ s ∷ x ∷ u ∷ l ∷ [])
+module _ (i t : List ℕ) (vs : List (List ℕ)) (q s x u l : List ℕ) (n : ℕ) (e : length vs ≡ n) where
+  abbrev row : Record
+  row = topRow i t vs q s x u l
+
+  behind : (k j : ℕ) → k ≡ n + 2 + j → field k row ≡ field j (q ∷ s ∷ x ∷ u ∷ l ∷ [])
   behind k j h =
       let g : k ≡ suc (suc (length vs + j)) = omega arith in
       rw g (getD-append-add vs (q ∷ s ∷ x ∷ u ∷ l ∷ []) j [])
 
-  pub top-date : dateIn topRow ≡ numberIn (dateOf t)
+  pub top-date : dateIn row ≡ numberIn (dateOf t)
   unfolding dateIn
   top-date = refl
 
-  pub top-values : valuesIn n topRow ≡ map millionths vs
+  pub top-values : valuesIn n row ≡ map millionths vs
   unfolding valuesIn
   top-values = ap (map millionths) (take-at vs (q ∷ s ∷ x ∷ u ∷ l ∷ []) n e)
 
-  pub top-mark : markAt 300 (n + 2) topRow ≡ said 300 q s x
+  pub top-mark : markAt 300 (n + 2) row ≡ said 300 q s x
   unfolding markAt
   top-mark = rw (behind (n + 2) 0 (omega arith), behind (n + 2 + 1) 1 refl, behind (n + 2 + 2) 2 refl)
 
-  pub top-varied : isVaried n topRow ≡ eqb (flagIn (qualityOf 300 q)) 86
+  pub top-varied : isVaried n row ≡ eqb (flagIn (qualityOf 300 q)) 86
   unfolding isVaried
   top-varied = rw (behind (n + 2) 0 (omega arith))
 
-  pub top-update : updateIn n topRow ≡ numberIn (timeOf u)
+  pub top-update : updateIn n row ≡ numberIn (timeOf u)
   unfolding updateIn
   top-update = rw (behind (n + 5) 3 (omega arith))
 
-  pub top-load : loadIn n topRow ≡ numberIn (loadOf l)
+  pub top-load : loadIn n row ≡ numberIn (loadOf l)
   unfolding loadIn
   top-load = rw (behind (n + 6) 4 (omega arith))
 
