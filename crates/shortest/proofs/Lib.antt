@@ -7,3 +7,6 @@ pub mod Pass
 pub mod Texts
 pub mod Written
 pub mod Back
+pub mod Handed
+pub mod Files
+pub mod Inside

@@ -2,7 +2,7 @@
 use Prim.Native.Nat.{ℕ, _+_, _≤_, _<_}
 use mathlib.Core.Path.{_≡_, refl, subst}
 use mathlib.Core.Logic.{_≢_}
-use mathlib.Core.Bool.{Bool, true, false, _&&_}
+use mathlib.Core.Bool.{Bool, true, false, cond, _&&_}
 use mathlib.Core.List.{List, [], _∷_}
 use native.Mathlib.Omega.{arith}
 use lib.ListN.{length}
@@ -10,7 +10,7 @@ use lib.Dec.{eqb, leb}
 use borrow.Author.Tests.{eqb-true, ne-eqb, leb-true, leb-false, not-false}
 use Rattle.ground.proofs.Tests.{and-true}
 use Rattle.format.specs.Cut.{Lines, line, fields}
-use Rattle.format.specs.Records.{kindIn, dateIn, firstIn, lastIn}
+use Rattle.format.specs.Records.{kindIn, intervalsIn, dateIn, firstIn, lastIn}
 use Rattle.format.specs.Order.{Due, on300, on400, on500, afterOf}
 use Rattle.format.specs.Faults.{size, isLate, covers, isOff}
 use Rattle.format.specs.File.{after}
@@ -69,3 +69,7 @@ module _ (p : ℕ) (r : List ℕ) (ls : Lines) where
   pub days-more : (n : ℕ) → kindIn (fields r) ≡ 300 → daysFrom p n (line r ls) ≡ dayAt n ∷ daysFrom (p + length r + 2) n ls
   unfolding daysFrom
   days-more n e = rw e
+
+  pub days-skip : (n : ℕ) → kindIn (fields r) ≢ 300 → daysFrom p n (line r ls) ≡ daysFrom (p + length r + 2) (cond (eqb (kindIn (fields r)) 200) (intervalsIn (fields r)) n) ls
+  unfolding daysFrom
+  days-skip n e = rw (ne-eqb _ _ e)

@@ -4,16 +4,17 @@ use Prim.Native.Nat.{ℕ, _≤_, _<_}
 use mathlib.Core.Path.{_≡_}
 use mathlib.Core.Bool.{Bool, true, false, _&&_, _||_}
 use mathlib.Core.Logic.{_≢_}
-use mathlib.Core.List.{List, [], _∷_, map}
-use lib.ListN.{length}
+use mathlib.Core.List.{List, [], _∷_, _++_, map}
+use lib.ListN.{length, drop}
 use lib.Dec.{eqb}
 use Rattle.ground.specs.Lists.{all}
 use Rattle.format.specs.Cut.{Lines, line, rest, lines, fields}
 use Rattle.format.specs.Records.{kindIn}
-use Rattle.format.specs.Order.{Due, mayCome}
+use Rattle.format.specs.Answers.{Answer, accepted}
+use Rattle.format.specs.Order.{Due, begun, mayCome}
 use Rattle.format.specs.Faults.{isOpen, faultOf}
-use Rattle.format.specs.File.{after}
-use Rattle.format.specs.Day.{Day, dayOf, daysFrom, enoughFor}
+use Rattle.format.specs.File.{after, walkOf, checkOf}
+use Rattle.format.specs.Day.{DayRows, Day, dayOf, daysFrom, daysOf, enoughFor}
 use Rattle.format.specs.Block.{Given, intervalsGiven, dayGiven, fitGiven, blockOf, recordsOf}
 use Rattle.format.specs.declared.Fault.the-variants.{Fine}
 
@@ -74,3 +75,22 @@ pub record ReadsBack (d : Day) (st : Due) : Type 0 where
 pub record NoLonger (d : Day) (b : List ℕ) : Type 0 where
   pub records : recordsOf d ≤ length (kindsOf (lines b))
   pub bytes : length (blockOf d) ≤ length b
+
+-- ---- in a file
+
+-- the check of a file comes through these bytes, with no fault, to the state st
+abbrev pub Leads : List ℕ → Due → Type 0
+Leads before st = Passes begun (lines before) st
+
+-- the day of this number is d: what a reading of it finds first (`readOf`)
+pub record Found (file : List ℕ) (number : ℕ) (d : Day) : Type 0 where
+  pub rows : DayRows
+  pub others : List DayRows
+  pub is : drop number (daysOf file) ≡ rows ∷ others
+  pub day : dayOf rows ≡ d
+
+-- a block b that says the day d stands in a file: the check goes on behind it, from the state `end`, with the place and the record number that follow;
+-- and where the file is accepted, d is the day that comes next after those before it
+pub record Stands (before b behind : List ℕ) (st end : Due) (d : Day) : Type 0 where
+  pub goes-on : walkOf begun 0 0 (lines (before ++ b ++ behind)) ≡ walkOf end (length (before ++ b)) (length (kindsOf (lines (before ++ b)))) (lines behind)
+  pub found : (xs : List ℕ) → checkOf (before ++ b ++ behind) ≡ accepted xs → Found (before ++ b ++ behind) (st .days) d
