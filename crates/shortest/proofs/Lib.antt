@@ -10,3 +10,4 @@ pub mod Back
 pub mod Handed
 pub mod Files
 pub mod Inside
+pub mod Said

@@ -13,7 +13,7 @@ use Rattle.ground.specs.Lists.{all}
 use Rattle.ground.specs.Digits.{isDigit}
 use Rattle.ground.proofs.Tests.{and-true}
 use Rattle.ground.proofs.Cases.{by}
-use Rattle.format.specs.Bytes.{areAll}
+use Rattle.format.specs.Bytes.{fieldByte, areAll}
 use Rattle.format.specs.Texts.{isDescription}
 use Rattle.format.specs.Numbers.{isNumber, numberIn, that, numberOf, intervalOf, reasonOf, decimals, valueOf}
 use Rattle.format.specs.Dates.{dateOf, timeOf, loadOf}
@@ -75,6 +75,7 @@ pub record Marking (k : ℕ) (quality reason text : List ℕ) : Type 0 where
   pub graded : isGraded (qualityOf k quality) ≡ true
   pub reasoned : isNumber (reasonOf reason) ≡ true
   pub described : isDescription text ≡ true
+  pub bytes : all fieldByte text ≡ true
 
 pub record Top (n : ℕ) (fs : Record) : Type 0 where
   pub indicator : List ℕ
@@ -121,7 +122,7 @@ last (a ∷ b ∷ c ∷ d ∷ e ∷ []) h =
       update = d;
       load = e;
       is = refl;
-      marking = record { graded = h .1; reasoned = h .2 .1; described = h .2 .2 .1 };
+      marking = record { graded = h .1; reasoned = h .2 .1; described = h .2 .2 .1; bytes = h .2 .2 .0 .0 };
       updated = h .2 .2 .2 .1;
       loaded = h .2 .2 .2 .2 .1;
     }
@@ -194,7 +195,7 @@ stretch-of fs r = go fs (r .indicator) (r .meets)
           long = indicator-long a (b ∷ c ∷ d ∷ e ∷ f ∷ []) 400 i (λ z. omega arith);
           started = h .2 .1;
           ended = h .2 .2 .1;
-          marking = record { graded = h .2 .2 .2 .1; reasoned = h .2 .2 .2 .2 .1; described = h .2 .2 .2 .2 .2 .1 };
+          marking = record { graded = h .2 .2 .2 .1; reasoned = h .2 .2 .2 .2 .1; described = h .2 .2 .2 .2 .2 .1; bytes = h .2 .2 .2 .2 .2 .0 .0 };
         }
     go (a ∷ b ∷ c ∷ d ∷ e ∷ f ∷ g ∷ fs) i h = absurd (h .2 .2 .2 .2 .2 .2)
 

@@ -88,7 +88,6 @@ pub record Carried (k : ℕ) (q s x : List ℕ) : Type 0 where
   pub marking : Marking k q s x
   pub quality-bytes : Bytes q
   pub reason-bytes : Bytes s
-  pub text-bytes : Bytes x
   pub together : agrees (said k q s x) ≡ true
 
 module _ (k : ℕ) (m : Mark) (h : fitMark m ≡ true) where
@@ -119,10 +118,10 @@ module _ (k : ℕ) (m : Mark) (h : fitMark m ≡ true) where
           graded = rw (quality-back k (m .flag) (m .method) (fit .quality));
           reasoned = rw (reason-back (m .reason) (fit .reason));
           described = fit .described;
+          bytes = fit .bytes;
         };
         quality-bytes = quality-bytes (m .flag) (m .method) (fit .quality);
         reason-bytes = reason-bytes (m .reason);
-        text-bytes = fit .bytes;
         together = rw mark-said (fit .together);
       }
 
@@ -131,9 +130,8 @@ pub v-carried : Carried 300 (86 ∷ []) [] []
 unfolding fieldByte qualityOf standsAlone reasonOf isDescription isText endSpace agrees across needsReason
 v-carried =
     record {
-      marking = record { graded = refl; reasoned = refl; described = refl };
+      marking = record { graded = refl; reasoned = refl; described = refl; bytes = refl };
       quality-bytes = refl;
       reason-bytes = refl;
-      text-bytes = refl;
       together = refl;
     }

@@ -79,7 +79,7 @@ module _ (t u l : ℕ) (vs : List ℕ) (q s x : List ℕ) (n : ℕ) (e : length 
       let five : Good 300 (Quality ∷ Reason ∷ Description ∷ Time ∷ Load ∷ []) (q ∷ s ∷ x ∷ padded 14 u ∷ loadText l ∷ []) =
       (c .quality-bytes, c .marking .graded,
       (c .reason-bytes, c .marking .reasoned,
-      (c .text-bytes, c .marking .described,
+      (c .marking .bytes, c .marking .described,
       (padded-bytes 14 u, rw (time-back u h),
       (load-bytes l, rw (load-back l g), tt))))) in
       let w : Good 300 (replicate n Value ++ (Quality ∷ Reason ∷ Description ∷ Time ∷ Load ∷ [])) (map valueText vs ++ (q ∷ s ∷ x ∷ padded 14 u ∷ loadText l ∷ [])) =
@@ -184,7 +184,7 @@ module _ (a k : ℕ) (m : Mark) (s : 1 ≤ k) (b : a + k < 10 ^ 4) (h : fitMark 
       (dec-bytes (a + k), rw (interval-back (a + k) b),
       (c .quality-bytes, c .marking .graded,
       (c .reason-bytes, c .marking .reasoned,
-      (c .text-bytes, c .marking .described, tt)))))
+      (c .marking .bytes, c .marking .described, tt)))))
       (rw (run-mark four (dec (a + 1)) (dec (a + k)) (qualityText (m .flag) (m .method)) (reasonText (m .reason)) (m .text), c .together))
 
 pub cover-records : (a : ℕ) (c : List (Run Mark)) → Fitting a c → Each (IsRecord 400 0) (coverWritten a c)
