@@ -28,8 +28,9 @@ use Rattle.format.proofs.CoverText.{runs-spell, runs-are-proper, uniform-is, Un
 use Rattle.theorems.specs.Grammar.{Each, Record, join, text, IsRecord, Block, Covers, Marked, Alike, IsBlock}
 use Rattle.theorems.proofs.Rows.{record-fields}
 use Rattle.theorems.proofs.Takes.{fields-of}
-use Rattle.shortest.specs.Blocks.{Passes, Free, Accepted, Reads, Awaits, ReadsBack}
-use Rattle.shortest.proofs.Shapes.{said, topRow, top-date, top-values, top-mark, top-varied, top-update, top-load}
+use Rattle.shortest.specs.Blocks.{Accepted, Reads, Awaits}
+use Rattle.shortest.specs.Writer.{ReadsBack}
+use Rattle.shortest.proofs.Shapes.{TopSays, top-says}
 use Rattle.shortest.proofs.Forms.{uniform-top, uniform-tail, varied-top, varied-tail}
 use Rattle.shortest.proofs.Steps.{runs-more, dayAt, days-more}
 use Rattle.shortest.proofs.Pass.{cut, kind-of, block-lines, block-accepted}
@@ -110,40 +111,12 @@ module _ (d : Day) (w : Whole d) (q s x : List ℕ) (c : Carried 300 q s x) wher
   cells : fields (join top) ≡ top
   cells = fields-of top (record-fields 300 (d .n) top top-is) .0
 
-  count : length (map valueText (d .values)) ≡ d .n
-  count = length-map (d .values) valueText ∙ w .values
-
-  varied-by : isVaried (d .n) top ≡ eqb (flagIn (qualityOf 300 q)) 86
+  says : TopSays (d .n) top (padded 8 (d .date)) (map valueText (d .values)) q s x (padded 14 (d .update)) (loadText (d .load))
   unfolding top
-  varied-by = top-varied three (padded 8 (d .date)) (map valueText (d .values)) q s x (padded 14 (d .update)) (loadText (d .load)) (d .n) count
-
-  mark-by : markAt 300 (d .n + 2) top ≡ said 300 q s x
-  unfolding top
-  mark-by = top-mark three (padded 8 (d .date)) (map valueText (d .values)) q s x (padded 14 (d .update)) (loadText (d .load)) (d .n) count
+  says = top-says three (padded 8 (d .date)) (map valueText (d .values)) q s x (padded 14 (d .update)) (loadText (d .load)) (d .n) (length-map (d .values) valueText ∙ w .values)
 
   date-by : dateIn top ≡ d .date
-  unfolding top
-  date-by =
-      top-date three (padded 8 (d .date)) (map valueText (d .values)) q s x (padded 14 (d .update)) (loadText (d .load)) (d .n) count
-      ∙ ap numberIn (date-back (d .date) (parts d (w .fit) .date))
-
-  update-by : updateIn (d .n) top ≡ d .update
-  unfolding top
-  update-by =
-      top-update three (padded 8 (d .date)) (map valueText (d .values)) q s x (padded 14 (d .update)) (loadText (d .load)) (d .n) count
-      ∙ ap numberIn (time-back (d .update) (parts d (w .fit) .update))
-
-  load-by : loadIn (d .n) top ≡ d .load
-  unfolding top
-  load-by =
-      top-load three (padded 8 (d .date)) (map valueText (d .values)) q s x (padded 14 (d .update)) (loadText (d .load)) (d .n) count
-      ∙ ap numberIn (load-back (d .load) (parts d (w .fit) .load))
-
-  values-by : valuesIn (d .n) top ≡ d .values
-  unfolding top
-  values-by =
-      top-values three (padded 8 (d .date)) (map valueText (d .values)) q s x (padded 14 (d .update)) (loadText (d .load)) (d .n) count
-      ∙ values-back (d .values) (parts d (w .fit) .values)
+  date-by = says .date ∙ ap numberIn (date-back (d .date) (parts d (w .fit) .date))
 
   bytes-by : (rows : List Record) → q ++ comma ++ s ++ comma ++ x ≡ topText (d .marks) → text rows ≡ tailText (d .marks) → text (top ∷ rows) ≡ blockOf d
   unfolding top blockOf
@@ -161,9 +134,9 @@ module _ (d : Day) (w : Whole d) (q s x : List ℕ) (c : Carried 300 q s x) wher
       let g : dayOf (dayAt p (join top) (cut runs) (d .n)) ≡ d =
       day-is
       (ap dateIn cells ∙ date-by)
-      (ap (updateIn (d .n)) cells ∙ update-by)
-      (ap (loadIn (d .n)) cells ∙ load-by)
-      (ap (valuesIn (d .n)) cells ∙ values-by)
+      (ap (updateIn (d .n)) cells ∙ says .update ∙ ap numberIn (time-back (d .update) (parts d (w .fit) .update)))
+      (ap (loadIn (d .n)) cells ∙ says .load ∙ ap numberIn (load-back (d .load) (parts d (w .fit) .load)))
+      (ap (valuesIn (d .n)) cells ∙ says .values ∙ values-back (d .values) (parts d (w .fit) .values))
       (ap (λ (x : Record). cond (isVaried (d .n) x) (coverOf (λ x. markAt 400 3 (x .cells)) (runsFrom p′ (cut runs))) (replicate (d .n) (markAt 300 (d .n + 2) x))) cells ∙ e p′) in
       ap (map dayOf) (days-more p (join top) (cut runs) (d .n) (kind-of 300 (d .n) top top-is))
       ∙ ap (λ (x : List DayRows). dayOf (dayAt p (join top) (cut runs) (d .n)) ∷ map dayOf x) (days-none p′ (d .n) runs h)
@@ -211,7 +184,7 @@ module _ (d : Day) (w : Whole d) where
       let x : List ℕ = m .text in
       let c : Carried 300 q s x = mark-carried 300 m f in
       let no : isVaried (d .n) (top d w q s x c) ≡ false =
-      varied-by d w q s x c ∙ ap (λ (y : Mark). eqb (y .flag) 86) (mark-said 300 m f) ∙ ne-eqb (m .flag) 86 (no-v m f) in
+      says d w q s x c .varied ∙ ap (λ (y : Mark). eqb (y .flag) 86) (mark-said 300 m f) ∙ ne-eqb (m .flag) 86 (no-v m f) in
       record {
         first = top d w q s x c;
         runs = [];
@@ -225,7 +198,7 @@ module _ (d : Day) (w : Whole d) where
           unlike = λ e. absurd (true≢false (sym e ∙ no));
         };
         date = date-by d w q s x c;
-        day = λ p. day-by d w q s x c p [] tt (λ p′. rw (no, mark-by d w q s x c, mark-said 300 m f) (ap (replicate (d .n)) k ∙ sym g));
+        day = λ p. day-by d w q s x c p [] tt (λ p′. rw (no, says d w q s x c .mark, mark-said 300 m f) (ap (replicate (d .n)) k ∙ sym g));
       }
 
   varied-rows : isUniform (d .marks) ≡ false → Rows d
@@ -236,7 +209,7 @@ module _ (d : Day) (w : Whole d) where
       let l : length (spell c) ≡ d .n = ap length s ∙ w .marks in
       let f : Fitting 0 c =
       fitting 0 c (runs-are-proper (d .marks)) (subst (λ (ms : List Mark). all fitMark ms ≡ true) (sym s) (parts d (w .fit) .marks)) (omega (arith, w .few)) in
-      let yes-v : isVaried (d .n) (top d w (86 ∷ []) [] [] v-carried) ≡ true = varied-by d w (86 ∷ []) [] [] v-carried in
+      let yes-v : isVaried (d .n) (top d w (86 ∷ []) [] [] v-carried) ≡ true = says d w (86 ∷ []) [] [] v-carried .varied in
       record {
         first = top d w (86 ∷ []) [] [] v-carried;
         runs = coverWritten 0 c;
@@ -255,8 +228,8 @@ module _ (d : Day) (w : Whole d) where
 
 -- ---- the theorem
 
-pub reads-back : (d : Day) → Whole d → (st : Due) → Awaits st (d .n) (d .date) → ReadsBack d st
-reads-back d w st a =
+pub back : (d : Day) → Whole d → (st : Due) → Awaits st (d .n) (d .date) → ReadsBack d st
+back d w st a =
     let r : Rows d = by (isUniform (d .marks)) (alike-rows d w) (varied-rows d w) in
     let b : IsBlock (st .n) (record { top = r .first; runs = r .runs; extra = [] }) =
     subst (λ (n : ℕ). IsBlock n (record { top = r .first; runs = r .runs; extra = [] })) (sym (a .intervals)) (r .block) in

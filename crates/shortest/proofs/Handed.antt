@@ -16,7 +16,7 @@ use Rattle.ground.proofs.From.{length-from}
 use Rattle.format.specs.Numbers.{isLength, intervalsOf}
 use Rattle.format.specs.Day.{enoughFor}
 use Rattle.format.specs.Block.{Given, intervalsGiven, markGiven, dayGiven, isInside, fitGiven, fitDay}
-use Rattle.shortest.specs.Blocks.{Writable}
+use Rattle.shortest.specs.Writer.{Writable}
 use Rattle.shortest.proofs.Back.{Whole}
 
 few : (m : ℕ) → intervalsOf m < 10 ^ 4
@@ -42,7 +42,7 @@ whole g w =
     let z : n ≢ 0 = w .length-known in
     record {
       fit = and-true (all (isInside g) (from (λ i. i) 0 n)) (fitDay (dayGiven g)) (w .fit) .1;
-      values = length-take-le n (g .values) (enough-values n _ _ _ _ _ _ (w .enough));
+      values = length-take-le n (g .values) (enough-values n _ _ _ _ _ _ (w .lists-long));
       marks = length-from (markGiven g) 0 n;
       some = omega arith;
       few = few (g .head .length);

@@ -28,7 +28,7 @@ use Rattle.format.specs.declared.Fault.the-variants.{Fine, Stop}
 use Rattle.theorems.proofs.Fit.{Fit, fine-fit, fit-fine, free-of, free-if}
 use Rattle.theorems.proofs.Format.{walk-of, of-walk}
 use Rattle.shortest.specs.Blocks.{Passes, kindsOf, isBlock, Free, Accepted, Reads, Awaits, Leads, Found, Stands}
-use Rattle.shortest.proofs.Steps.{fit-cover, after-300, after-400, after-500, runs-end, dayAt, days-more}
+use Rattle.shortest.proofs.Steps.{fit-cover, after-300, after-400, after-500, runs-end, dayAt, days-more, Headed, headed}
 use Rattle.shortest.proofs.Files.{onto, lines-behind, passes-append, walk-append, days-append, runs-lines}
 
 -- ---- what a block keeps of the state
@@ -66,26 +66,6 @@ under-kept st end (line r ls) b h =
         (λ u. subst (Kept st) (sym (after-500 st r (eqb-true _ _ (let v : eqb (kindIn (fields r)) 500 ≡ true = (rw u at t) in v))))
         (record { n = refl; date = refl; version = refl; channels = refl; days = refl; under = λ z. omega arith }))
 
--- a block's first record, and what is under it
-record Headed (st end : Due) (bl : Lines) : Type 0 where
-  first : List ℕ
-  others : Lines
-  is : bl ≡ line first others
-  kind : kindIn (fields first) ≡ 300
-  fine : faultOf st first ≡ Fine
-  passes : Passes (after st first) others end
-  under : all (λ x. eqb x 400 || eqb x 500) (kindsOf others) ≡ true
-
-headed : (st end : Due) (bl : Lines) → isBlock (kindsOf bl) ≡ true → Passes st bl end → Headed st end bl
-headed st end (rest t) b h = absurd (false≢true b)
-headed st end (line r ls) b h =
-    let w = and-true (eqb (kindIn (fields r)) 300) (all (λ x. eqb x 400 || eqb x 500) (kindsOf ls)) b in
-    record { first = r; others = ls; is = refl; kind = eqb-true _ _ (w .0); fine = h .0; passes = h .1; under = w .1 }
-
--- the 300 of a block, read with what is under it
-read-first : (p n : ℕ) (bl : Lines) (r : List ℕ) (ls : Lines) (d : Day) → bl ≡ line r ls → kindIn (fields r) ≡ 300 → map dayOf (daysFrom p n bl) ≡ d ∷ [] → dayOf (dayAt p r ls n) ≡ d
-read-first p n bl r ls d e k h = head-eq-of-cons-eq (ap (map dayOf) (sym (ap (daysFrom p n) e ∙ days-more p r ls n k)) ∙ h)
-
 -- behind a block that says the day d
 record Ended (st end : Due) (d : Day) : Type 0 where
   n : end .n ≡ st .n
@@ -105,22 +85,19 @@ varied-low true = omega arith
 varied-low false = omega arith
 
 module _ (st : Due) (b : List ℕ) (a : Accepted st b) where
-  abbrev hd : Headed st (a .end) (lines b)
-  hd = headed st (a .end) (lines b) (a .kinds) (a .passes)
-
   ended : (p : ℕ) (d : Day) → Reads p (st .n) b d → Ended st (a .end) d
   unfolding dayOf
   ended p d h =
-      let s : Due = on300 st (fields (hd .first)) in
-      let k : Kept s (a .end) = subst (λ (x : Due). Kept x (a .end)) (after-300 st (hd .first) (hd .kind)) (under-kept (after st (hd .first)) (a .end) (hd .others) (hd .under) (hd .passes)) in
-      let e : dateIn (fields (hd .first)) ≡ d .date = ap (λ (x : Day). x .date) (read-first p (st .n) (lines b) (hd .first) (hd .others) d (hd .is) (hd .kind) h) in
+      let w = headed st b a in
+      let k : Kept (on300 st (fields (w .first))) (a .end) =
+      subst (λ (x : Due). Kept x (a .end)) (after-300 st (w .first) (w .kind)) (under-kept (after st (w .first)) (a .end) (w .others) (w .under) (w .passes)) in
       record {
         n = k .n;
-        date = k .date ∙ e;
+        date = k .date ∙ ap (λ (x : Day). x .date) (w .day p d h);
         version = k .version;
         channels = k .channels;
         days = k .days;
-        low = k .under (varied-low (isVaried (st .n) (fields (hd .first))));
+        low = k .under (varied-low (isVaried (st .n) (fields (w .first))));
         high = may-high (a .end .expect) (a .free .0);
       }
 
@@ -178,8 +155,8 @@ module _ (before b behind : List ℕ) (st : Due) (d : Day) (h : Leads before st)
 
   finds : ((q : ℕ) → runsFrom q (lines behind) ≡ []) → Found (before ++ b ++ behind) (st .days) d
   finds n =
-      let w = hd st b a in
-      let m : mayCome (st .expect) 300 ≡ true = rw (w .kind) at (fine-fit st (w .first) (w .fine) .may) in
+      let w = headed st b a in
+      let m : mayCome (st .expect) 300 ≡ true = rw (w .kind) at (w .fit .may) in
       let p : ℕ = length before in
       let ls : Lines = onto (w .others) (lines behind) in
       record {
@@ -192,13 +169,15 @@ module _ (before b behind : List ℕ) (st : Due) (d : Day) (h : Leads before st)
             ∙ days-more p (w .first) ls (st .n) (w .kind);
         day =
             ap (λ (rs : List Row). dayOf (record { n = st .n; top = rowAt p (w .first); runs = rs })) (runs-lines (p + length (w .first) + 2) (w .others) (lines behind) n)
-            ∙ read-first p (st .n) (lines b) (w .first) (w .others) d (w .is) (w .kind) s;
+            ∙ w .day p d s;
       }
 
-  pub stands : Stands before b behind st (a .end) d
+  pub stands : Stands before b behind st d
   stands =
       record {
+        end = a .end;
         goes-on = walks;
+        awaits = behind-day st b a (length before) d s;
         found = λ xs e.
           (let w = walk-of (before ++ b ++ behind) (accepted xs) e (accepted-not 1 0 0 0 xs) in
           finds (none-behind (a .end) (length (before ++ b)) (length (kindsOf (lines (before ++ b)))) (lines behind) xs (a .free) (sym walks ∙ w .1)));

@@ -33,11 +33,12 @@ use Rattle.format.specs.declared.Number.the-variants.{Is}
 use Rattle.theorems.specs.Grammar.{Each, Record}
 use Rattle.theorems.proofs.Bytes.{bytesOf, bytes-lines}
 use Rattle.theorems.proofs.Fit.{Fit, fine-fit}
-use Rattle.shortest.specs.Blocks.{Passes, kindsOf, isBlock, Accepted, Reads, NoLonger}
+use Rattle.shortest.specs.Blocks.{Passes, kindsOf, Accepted, Says}
+use Rattle.shortest.specs.Writer.{NoLonger}
 use Rattle.shortest.proofs.Sizes.{size, size-append, length-record}
-use Rattle.shortest.proofs.Shapes.{number-is, graded-is, Marking, Top, top-of, Stretch, stretch-of, said, topRow, top-date, top-values, top-mark, top-varied, top-update, top-load, runRow, run-first, run-last, run-mark}
+use Rattle.shortest.proofs.Shapes.{number-is, graded-is, said, Marking, Top, top-of, Stretch, stretch-of}
 use Rattle.shortest.proofs.Forms.{uniform-top, uniform-tail, varied-top, varied-tail}
-use Rattle.shortest.proofs.Steps.{fit-record, fit-cover, after-300, after-400, runs-more, runs-end, dayAt, days-more}
+use Rattle.shortest.proofs.Steps.{fit-record, fit-cover, after-300, after-400, runs-more, runs-end, dayAt, headed}
 
 -- ---- how long the written block is
 
@@ -91,17 +92,12 @@ none a p ls e = record { cover = []; no-empty = refl; says = rw e; bytes = zero-
 stretch-least : (a k : ℕ) (fs : Record) (s : Stretch fs) → firstIn fs ≡ a + 1 → lastIn fs ≡ a + k → length (runText a (a + k) (markIn fs)) ≤ size fs + 1
 unfolding size
 stretch-least a k fs s f l =
-    let row : Record = runRow (s .indicator) (s .start) (s .end) (s .quality) (s .reason) (s .text) in
-    let m : Mark = said 400 (s .quality) (s .reason) (s .text) in
-    let e : markIn fs ≡ m = ap markIn (s .is) ∙ run-mark (s .indicator) (s .start) (s .end) (s .quality) (s .reason) (s .text) in
-    let g : numberIn (intervalOf (s .start)) ≡ a + 1 = sym (ap firstIn (s .is) ∙ run-first (s .indicator) (s .start) (s .end) (s .quality) (s .reason) (s .text)) ∙ f in
-    let h : numberIn (intervalOf (s .end)) ≡ a + k = sym (ap lastIn (s .is) ∙ run-last (s .indicator) (s .start) (s .end) (s .quality) (s .reason) (s .text)) ∙ l in
     omega (
       arith,
-      ap (λ (x : Mark). length (runText a (a + k) x)) e,
-      length-run a (a + k) m,
-      interval-least (s .start) (a + 1) (s .started) g,
-      interval-least (s .end) (a + k) (s .ended) h,
+      ap (λ (x : Mark). length (runText a (a + k) x)) (s .says .mark),
+      length-run a (a + k) (said 400 (s .quality) (s .reason) (s .text)),
+      interval-least (s .start) (a + 1) (s .started) (sym (s .says .first) ∙ f),
+      interval-least (s .end) (a + k) (s .ended) (sym (s .says .last) ∙ l),
       mark-least 400 (s .quality) (s .reason) (s .text) (s .marking),
       ap size (s .is),
       s .long,
@@ -207,10 +203,6 @@ top-least : (n : ℕ) (fs : Record) (t : Top n fs)
 unfolding size
 top-least n fs t =
     let tail : Record = t .quality ∷ t .reason ∷ t .text ∷ t .update ∷ t .load ∷ [] in
-    let v : valuesIn n fs ≡ map millionths (t .values) =
-    ap (valuesIn n) (t .is) ∙ top-values (t .indicator) (t .date) (t .values) (t .quality) (t .reason) (t .text) (t .update) (t .load) n (t .count) in
-    let l : loadIn n fs ≡ numberIn (loadOf (t .load)) =
-    ap (loadIn n) (t .is) ∙ top-load (t .indicator) (t .date) (t .values) (t .quality) (t .reason) (t .text) (t .update) (t .load) n (t .count) in
     omega (
       arith,
       ap size (t .is),
@@ -218,9 +210,9 @@ top-least n fs t =
       t .long,
       date-length (t .date) (numberIn (dateOf (t .date))) (number-is (dateOf (t .date)) (t .dated)),
       time-length (t .update) (numberIn (timeOf (t .update))) (number-is (timeOf (t .update)) (t .updated)),
-      ap (λ (x : List ℕ). length (valuesText x)) v,
+      ap (λ (x : List ℕ). length (valuesText x)) (t .says .values),
       values-least (t .values) (t .valued),
-      ap (λ (x : ℕ). length (loadText x)) l,
+      ap (λ (x : ℕ). length (loadText x)) (t .says .load),
       load-shortest (t .load) (numberIn (loadOf (t .load))) (number-is (loadOf (t .load)) (t .loaded)),
     )
 
@@ -233,12 +225,10 @@ module _ (st end : Due) (p : ℕ) (r : List ℕ) (ls : Lines) (k : kindIn (field
   marks-least : (t : Top (st .n) (fields r)) → Marked (marksOf day) (t .quality) (t .reason) (t .text) ls
   unfolding marksOf eachOf
   marks-least t =
-      let m : markAt 300 (st .n + 2) (fields r) ≡ said 300 (t .quality) (t .reason) (t .text) =
-      ap (markAt 300 (st .n + 2)) (t .is) ∙ top-mark (t .indicator) (t .date) (t .values) (t .quality) (t .reason) (t .text) (t .update) (t .load) (st .n) (t .count) in
       by (isVaried (st .n) (fields r))
       (λ e. rw e (marked-varied (p + length r + 2) (t .quality) (t .reason) (t .text) ls (t .marking)
       (covered 0 (p + length r + 2) (after st r) end ls (ap (λ (x : Due). x .next) (after-300 st r k) ∙ omega arith) h)))
-      (λ e. rw e (subst (λ (x : Mark). Marked (replicate (st .n) x) (t .quality) (t .reason) (t .text) ls) (sym m) (marked-alike (st .n) (t .quality) (t .reason) (t .text) ls some (t .marking))))
+      (λ e. rw e (subst (λ (x : Mark). Marked (replicate (st .n) x) (t .quality) (t .reason) (t .text) ls) (sym (t .says .mark)) (marked-alike (st .n) (t .quality) (t .reason) (t .text) ls some (t .marking))))
 
   least : (recordsOf (dayOf day) ≤ length (kindsOf (line r ls))) × (length (blockOf (dayOf day)) ≤ length (bytesOf (line r ls)))
   unfolding dayOf valuesOf
@@ -248,19 +238,15 @@ module _ (st end : Due) (p : ℕ) (r : List ℕ) (ls : Lines) (k : kindIn (field
       (omega (arith, m .records (dayOf day) refl),
       omega (arith, length-block (dayOf day), m .bytes, top-least (st .n) (fields r) t, length-record r, length-append r (13 ∷ 10 ∷ bytesOf ls)))
 
-lines-least : (st end : Due) (p : ℕ) (ls : Lines) (d : Day) → d .n ≢ 0 → isBlock (kindsOf ls) ≡ true → Passes st ls end → map dayOf (daysFrom p (st .n) ls) ≡ d ∷ []
-    → (recordsOf d ≤ length (kindsOf ls)) × (length (blockOf d) ≤ length (bytesOf ls))
+pub no-longer : (d : Day) → d .n ≢ 0 → (b : List ℕ) → Says b d → NoLonger d b
 unfolding dayOf
-lines-least st end p (rest t) d z b h e = absurd (false≢true b)
-lines-least st end p (line r ls) d z b h e =
-    let k : kindIn (fields r) ≡ 300 = eqb-true _ _ (and-true (eqb (kindIn (fields r)) 300) (all (λ x. eqb x 400 || eqb x 500) (kindsOf ls)) b .0) in
-    let q : dayOf (dayAt p r ls (st .n)) ≡ d = head-eq-of-cons-eq (ap (map dayOf) (sym (days-more p r ls (st .n) k)) ∙ e) in
+no-longer d z b h =
+    let st : Due = h .st in
+    let w = headed st b (h .accepted) in
+    let q : dayOf (dayAt (h .place) (w .first) (w .others) (st .n)) ≡ d = w .day (h .place) d (h .reads) in
     let n : st .n ≡ d .n = ap (λ (x : Day). x .n) q in
-    subst (λ (x : Day). (recordsOf x ≤ length (kindsOf (line r ls))) × (length (blockOf x) ≤ length (bytesOf (line r ls)))) q
-    (least st end p r ls k (fine-fit st r (h .0)) (h .1) (omega arith))
-
--- every accepted block that says the day d, 500s or not, has at least as many records and bytes as the one that is written
-pub shortest : (d : Day) → d .n ≢ 0 → (st : Due) (b : List ℕ) (p : ℕ) → Accepted st b → Reads p (st .n) b d → NoLonger d b
-shortest d z st b p a e =
-    let w = lines-least st (a .end) p (lines b) d z (a .kinds) (a .passes) e in
-    record { records = w .0; bytes = omega (arith, w .1, ap length (bytes-lines b)) }
+    let l = least st (h .accepted .end) (h .place) (w .first) (w .others) (w .kind) (w .fit) (w .passes) (omega arith) in
+    record {
+      records = omega (arith, l .0, ap recordsOf q, ap (λ (x : Lines). length (kindsOf x)) (w .is));
+      bytes = omega (arith, l .1, ap (λ (x : Day). length (blockOf x)) q, ap (λ (x : Lines). length (bytesOf x)) (w .is), ap length (bytes-lines b));
+    }

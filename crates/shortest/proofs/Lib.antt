@@ -11,3 +11,5 @@ pub mod Handed
 pub mod Files
 pub mod Inside
 pub mod Said
+pub mod Refuses
+pub mod Theorems

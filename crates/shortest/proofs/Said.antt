@@ -33,9 +33,9 @@ use Rattle.format.proofs.MarkText.{method-flag}
 use Rattle.theorems.specs.Grammar.{Each, Record, IsRecord}
 use Rattle.theorems.proofs.Across.{together-unbroken}
 use Rattle.theorems.proofs.Fit.{Fit, fine-fit}
-use Rattle.shortest.specs.Blocks.{Passes, kindsOf, isBlock, Accepted, Reads}
-use Rattle.shortest.proofs.Shapes.{number-is, Marking, Top, top-of, Stretch, stretch-of, said, top-date, top-values, top-mark, top-varied, top-update, top-load, run-mark}
-use Rattle.shortest.proofs.Steps.{fit-record, runs-more, runs-end, dayAt}
+use Rattle.shortest.specs.Blocks.{Passes, Says}
+use Rattle.shortest.proofs.Shapes.{number-is, said, Marking, Top, top-of, Stretch, stretch-of}
+use Rattle.shortest.proofs.Steps.{fit-record, dayAt, headed}
 
 -- ---- single fields
 
@@ -145,8 +145,7 @@ agrees-400 fs r =
 stretch-fit : (fs : Record) → IsRecord 400 0 fs → fitMark (markIn fs) ≡ true
 stretch-fit fs r =
     let s = stretch-of fs r in
-    let e : markIn fs ≡ said 400 (s .quality) (s .reason) (s .text) = ap markIn (s .is) ∙ run-mark (s .indicator) (s .start) (s .end) (s .quality) (s .reason) (s .text) in
-    rw e (mark-fit 400 (s .quality) (s .reason) (s .text) (s .marking) (no-v (s .quality)) (rw e at (agrees-400 fs r)))
+    rw (s .says .mark) (mark-fit 400 (s .quality) (s .reason) (s .text) (s .marking) (no-v (s .quality)) (rw (s .says .mark) at (agrees-400 fs r)))
 
 all-replicate : (k : ℕ) (m : Mark) → fitMark m ≡ true → all fitMark (replicate k m) ≡ true
 all-replicate zero m h = refl
@@ -171,27 +170,28 @@ module _ (st end : Due) (p : ℕ) (r : List ℕ) (ls : Lines) (k : kindIn (field
   unfolding marksOf eachOf
   marks-fit t =
       let i : IsRecord 300 (st .n) (fields r) = fit-record st r f 300 (λ z. omega arith) k in
-      let m : markAt 300 (st .n + 2) (fields r) ≡ said 300 (t .quality) (t .reason) (t .text) =
-      ap (markAt 300 (st .n + 2)) (t .is) ∙ top-mark (t .indicator) (t .date) (t .values) (t .quality) (t .reason) (t .text) (t .update) (t .load) (st .n) (t .count) in
-      let v : isVaried (st .n) (fields r) ≡ eqb (flagIn (qualityOf 300 (t .quality))) 86 =
-      ap (isVaried (st .n)) (t .is) ∙ top-varied (t .indicator) (t .date) (t .values) (t .quality) (t .reason) (t .text) (t .update) (t .load) (st .n) (t .count) in
       by (isVaried (st .n) (fields r))
       (λ e. rw e (cover-fit (p + length r + 2) (after st r) end ls h))
       (λ e. rw e (all-replicate (st .n) (markAt 300 (st .n + 2) (fields r))
-      (rw m (mark-fit 300 (t .quality) (t .reason) (t .text) (t .marking) (eqb-false _ _ (sym v ∙ e)) (rw m at (agrees-300 (st .n) (fields r) i))))))
+      (rw (t .says .mark) (mark-fit 300 (t .quality) (t .reason) (t .text) (t .marking) (eqb-false _ _ (sym (t .says .varied) ∙ e)) (rw (t .says .mark) at (agrees-300 (st .n) (fields r) i))))))
 
   day-fit : fitDay (dayOf (dayAt p r ls (st .n))) ≡ true
   unfolding fitDay dayOf valuesOf
   day-fit =
       let t = top-of (st .n) (fields r) (fit-record st r f 300 (λ z. omega arith) k) in
       rw (
-        ap dateIn (t .is) ∙ top-date (t .indicator) (t .date) (t .values) (t .quality) (t .reason) (t .text) (t .update) (t .load) (st .n) (t .count),
+        t .says .date,
         date-fit (t .date) (t .dated),
-        ap (updateIn (st .n)) (t .is) ∙ top-update (t .indicator) (t .date) (t .values) (t .quality) (t .reason) (t .text) (t .update) (t .load) (st .n) (t .count),
+        t .says .update,
         time-fit (t .update) (t .updated),
-        ap (loadIn (st .n)) (t .is) ∙ top-load (t .indicator) (t .date) (t .values) (t .quality) (t .reason) (t .text) (t .update) (t .load) (st .n) (t .count),
+        t .says .load,
         load-fit (t .load) (t .loaded),
-        ap (valuesIn (st .n)) (t .is) ∙ top-values (t .indicator) (t .date) (t .values) (t .quality) (t .reason) (t .text) (t .update) (t .load) (st .n) (t .count),
+        t .says .values,
         values-fit (t .values) (t .valued),
         marks-fit t,
       )
+
+pub fit-said : (d : Day) (b : List ℕ) → Says b d → fitDay d ≡ true
+fit-said d b h =
+    let w = headed (h .st) b (h .accepted) in
+    ap fitDay (sym (w .day (h .place) d (h .reads))) ∙ day-fit (h .st) (h .accepted .end) (h .place) (w .first) (w .others) (w .kind) (w .fit) (w .passes)

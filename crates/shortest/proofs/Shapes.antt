@@ -1,6 +1,6 @@
 -- A 300 and a 400 taken apart into their fields, each with what its rule says of it. Assumes nothing.
 use Prim.Native.Nat.{ℕ, zero, suc, _+_, _≤_}
-use mathlib.Core.Path.{_≡_, refl, sym, ap, _∙_}
+use mathlib.Core.Path.{_≡_, refl, sym, ap, _∙_, subst}
 use mathlib.Core.Logic.{_≢_}
 use mathlib.Core.Bool.{Bool, true, false, _&&_, false≢true}
 use mathlib.Core.List.{List, [], _∷_, _++_, map}
@@ -51,6 +51,55 @@ indicator-long f fs k e z =
     omega (arith, leb-true 3 (length f) (v .0), leb-true (length f) 3 (v .1)))
     (λ t. absurd (z (sym e ∙ rw t)))
 
+-- ---- what a 300 and a 400 say, by their fields
+
+-- the mark that these three fields say, in a record of the kind k
+abbrev pub said : ℕ → List ℕ → List ℕ → List ℕ → Mark
+said k q s x = record { flag = flagIn (qualityOf k q); method = methodIn (qualityOf k q); reason = numberIn (reasonOf s); text = x }
+
+-- a 300: indicator, date, values, quality, reason, description, update time, load time
+abbrev pub topRow : List ℕ → List ℕ → List (List ℕ) → List ℕ → List ℕ → List ℕ → List ℕ → List ℕ → Record
+topRow i t vs q s x u l = i ∷ t ∷ (vs ++ (q ∷ s ∷ x ∷ u ∷ l ∷ []))
+
+-- a 400: indicator, start, end, quality, reason, description
+abbrev pub runRow : List ℕ → List ℕ → List ℕ → List ℕ → List ℕ → List ℕ → Record
+runRow i a b q s x = i ∷ a ∷ b ∷ q ∷ s ∷ x ∷ []
+
+pub record TopSays (n : ℕ) (fs : Record) (t : List ℕ) (vs : List (List ℕ)) (q s x u l : List ℕ) : Type 0 where
+  pub date : dateIn fs ≡ numberIn (dateOf t)
+  pub values : valuesIn n fs ≡ map millionths vs
+  pub mark : markAt 300 (n + 2) fs ≡ said 300 q s x
+  pub varied : isVaried n fs ≡ eqb (flagIn (qualityOf 300 q)) 86
+  pub update : updateIn n fs ≡ numberIn (timeOf u)
+  pub load : loadIn n fs ≡ numberIn (loadOf l)
+
+module _ (i t : List ℕ) (vs : List (List ℕ)) (q s x u l : List ℕ) (n : ℕ) (e : length vs ≡ n) where
+  behind : (k j : ℕ) → k ≡ n + 2 + j → field k (topRow i t vs q s x u l) ≡ field j (q ∷ s ∷ x ∷ u ∷ l ∷ [])
+  behind k j h =
+      let g : k ≡ suc (suc (length vs + j)) = omega arith in
+      rw g (getD-append-add vs (q ∷ s ∷ x ∷ u ∷ l ∷ []) j [])
+
+  pub top-says : TopSays n (topRow i t vs q s x u l) t vs q s x u l
+  unfolding dateIn valuesIn markAt isVaried updateIn loadIn
+  top-says =
+      record {
+        date = refl;
+        values = ap (map millionths) (take-at vs (q ∷ s ∷ x ∷ u ∷ l ∷ []) n e);
+        mark = rw (behind (n + 2) 0 (omega arith), behind (n + 2 + 1) 1 refl, behind (n + 2 + 2) 2 refl);
+        varied = rw (behind (n + 2) 0 (omega arith));
+        update = rw (behind (n + 5) 3 (omega arith));
+        load = rw (behind (n + 6) 4 (omega arith));
+      }
+
+pub record RunSays (fs : Record) (a b q s x : List ℕ) : Type 0 where
+  pub first : firstIn fs ≡ numberIn (intervalOf a)
+  pub last : lastIn fs ≡ numberIn (intervalOf b)
+  pub mark : markIn fs ≡ said 400 q s x
+
+pub run-says : (i a b q s x : List ℕ) → RunSays (runRow i a b q s x) a b q s x
+unfolding firstIn lastIn markAt
+run-says i a b q s x = record { first = refl; last = refl; mark = refl }
+
 -- ---- a 300
 
 -- n values, and fields that meet the other rules behind them
@@ -86,7 +135,7 @@ pub record Top (n : ℕ) (fs : Record) : Type 0 where
   pub text : List ℕ
   pub update : List ℕ
   pub load : List ℕ
-  pub is : fs ≡ indicator ∷ date ∷ (values ++ (quality ∷ reason ∷ text ∷ update ∷ load ∷ []))
+  pub is : fs ≡ topRow indicator date values quality reason text update load
   pub count : length values ≡ n
   pub long : length indicator ≡ 3
   pub dated : isNumber (dateOf date) ≡ true
@@ -94,6 +143,7 @@ pub record Top (n : ℕ) (fs : Record) : Type 0 where
   pub marking : Marking 300 quality reason text
   pub updated : isNumber (timeOf update) ≡ true
   pub loaded : isNumber (loadOf load) ≡ true
+  pub says : TopSays n fs date values quality reason text update load
 
 -- the last five fields of a 300
 record Last (fs : Record) : Type 0 where
@@ -135,9 +185,10 @@ top-of n fs r = go fs (r .indicator) (r .meets)
     go : (fs : Record) → kindIn fs ≡ 300 → Meets 300 (rowOf 300 n) fs → Top n fs
     go [] i h = absurd h
     go (a ∷ []) i h = absurd (h .2)
-    go (a ∷ b ∷ fs) i h =
-        let v = valued 300 n (Quality ∷ Reason ∷ Description ∷ Time ∷ Load ∷ []) fs (h .2 .2) in
+    go (a ∷ b ∷ fs′) i h =
+        let v = valued 300 n (Quality ∷ Reason ∷ Description ∷ Time ∷ Load ∷ []) fs′ (h .2 .2) in
         let w = last (v .tail) (v .meets) in
+        let e : fs′ ≡ v .values ++ (w .quality ∷ w .reason ∷ w .text ∷ w .update ∷ w .load ∷ []) = v .is ∙ ap (λ (l : Record). v .values ++ l) (w .is) in
         record {
           indicator = a;
           date = b;
@@ -147,14 +198,17 @@ top-of n fs r = go fs (r .indicator) (r .meets)
           text = w .text;
           update = w .update;
           load = w .load;
-          is = ap (λ (l : Record). a ∷ b ∷ l) (v .is ∙ ap (λ (l : Record). v .values ++ l) (w .is));
+          is = ap (λ (l : Record). a ∷ b ∷ l) e;
           count = v .count;
-          long = indicator-long a (b ∷ fs) 300 i (λ z. omega arith);
+          long = indicator-long a (b ∷ fs′) 300 i (λ z. omega arith);
           dated = h .2 .1;
           valued = v .each;
           marking = w .marking;
           updated = w .updated;
           loaded = w .loaded;
+          says =
+              subst (λ (l : Record). TopSays n (a ∷ b ∷ l) b (v .values) (w .quality) (w .reason) (w .text) (w .update) (w .load)) (sym e)
+              (top-says a b (v .values) (w .quality) (w .reason) (w .text) (w .update) (w .load) n (v .count));
         }
 
 -- ---- a 400
@@ -166,11 +220,12 @@ pub record Stretch (fs : Record) : Type 0 where
   pub quality : List ℕ
   pub reason : List ℕ
   pub text : List ℕ
-  pub is : fs ≡ indicator ∷ start ∷ end ∷ quality ∷ reason ∷ text ∷ []
+  pub is : fs ≡ runRow indicator start end quality reason text
   pub long : length indicator ≡ 3
   pub started : isNumber (intervalOf start) ≡ true
   pub ended : isNumber (intervalOf end) ≡ true
   pub marking : Marking 400 quality reason text
+  pub says : RunSays fs start end quality reason text
 
 pub stretch-of : (fs : Record) → IsRecord 400 0 fs → Stretch fs
 unfolding rowOf obeys
@@ -196,63 +251,6 @@ stretch-of fs r = go fs (r .indicator) (r .meets)
           started = h .2 .1;
           ended = h .2 .2 .1;
           marking = record { graded = h .2 .2 .2 .1; reasoned = h .2 .2 .2 .2 .1; described = h .2 .2 .2 .2 .2 .1; bytes = h .2 .2 .2 .2 .2 .0 .0 };
+          says = run-says a b c d e f;
         }
     go (a ∷ b ∷ c ∷ d ∷ e ∷ f ∷ g ∷ fs) i h = absurd (h .2 .2 .2 .2 .2 .2)
-
--- ---- what they say, by their fields
-
--- the mark that these three fields say, in a record of the kind k
-abbrev pub said : ℕ → List ℕ → List ℕ → List ℕ → Mark
-said k q s x = record { flag = flagIn (qualityOf k q); method = methodIn (qualityOf k q); reason = numberIn (reasonOf s); text = x }
-
-abbrev pub topRow : List ℕ → List ℕ → List (List ℕ) → List ℕ → List ℕ → List ℕ → List ℕ → List ℕ → Record
-topRow i t vs q s x u l = i ∷ t ∷ (vs ++ (q ∷ s ∷ x ∷ u ∷ l ∷ []))
-
-module _ (i t : List ℕ) (vs : List (List ℕ)) (q s x u l : List ℕ) (n : ℕ) (e : length vs ≡ n) where
-  abbrev row : Record
-  row = topRow i t vs q s x u l
-
-  behind : (k j : ℕ) → k ≡ n + 2 + j → field k row ≡ field j (q ∷ s ∷ x ∷ u ∷ l ∷ [])
-  behind k j h =
-      let g : k ≡ suc (suc (length vs + j)) = omega arith in
-      rw g (getD-append-add vs (q ∷ s ∷ x ∷ u ∷ l ∷ []) j [])
-
-  pub top-date : dateIn row ≡ numberIn (dateOf t)
-  unfolding dateIn
-  top-date = refl
-
-  pub top-values : valuesIn n row ≡ map millionths vs
-  unfolding valuesIn
-  top-values = ap (map millionths) (take-at vs (q ∷ s ∷ x ∷ u ∷ l ∷ []) n e)
-
-  pub top-mark : markAt 300 (n + 2) row ≡ said 300 q s x
-  unfolding markAt
-  top-mark = rw (behind (n + 2) 0 (omega arith), behind (n + 2 + 1) 1 refl, behind (n + 2 + 2) 2 refl)
-
-  pub top-varied : isVaried n row ≡ eqb (flagIn (qualityOf 300 q)) 86
-  unfolding isVaried
-  top-varied = rw (behind (n + 2) 0 (omega arith))
-
-  pub top-update : updateIn n row ≡ numberIn (timeOf u)
-  unfolding updateIn
-  top-update = rw (behind (n + 5) 3 (omega arith))
-
-  pub top-load : loadIn n row ≡ numberIn (loadOf l)
-  unfolding loadIn
-  top-load = rw (behind (n + 6) 4 (omega arith))
-
-module _ (i a b q s x : List ℕ) where
-  abbrev pub runRow : Record
-  runRow = i ∷ a ∷ b ∷ q ∷ s ∷ x ∷ []
-
-  pub run-first : firstIn runRow ≡ numberIn (intervalOf a)
-  unfolding firstIn
-  run-first = refl
-
-  pub run-last : lastIn runRow ≡ numberIn (intervalOf b)
-  unfolding lastIn
-  run-last = refl
-
-  pub run-mark : markIn runRow ≡ said 400 q s x
-  unfolding markAt
-  run-mark = refl

@@ -1,24 +1,26 @@
 -- One record that is not at fault, by its kind: what it is, and what it does to the state. Assumes nothing.
 use Prim.Native.Nat.{ℕ, _+_, _≤_, _<_}
-use mathlib.Core.Path.{_≡_, refl, subst}
+use mathlib.Core.Path.{_≡_, refl, sym, ap, _∙_, subst}
 use mathlib.Core.Logic.{_≢_}
-use mathlib.Core.Bool.{Bool, true, false, cond, _&&_}
-use mathlib.Core.List.{List, [], _∷_}
+use mathlib.Core.Bool.{Bool, true, false, cond, _&&_, _||_, false≢true}
+use mathlib.Core.List.{List, [], _∷_, map, head-eq-of-cons-eq}
 use native.Mathlib.Omega.{arith}
 use lib.ListN.{length}
 use lib.Dec.{eqb, leb}
 use borrow.Author.Tests.{eqb-true, ne-eqb, leb-true, leb-false, not-false}
+use Rattle.ground.specs.Lists.{all}
 use Rattle.ground.proofs.Tests.{and-true}
-use Rattle.format.specs.Cut.{Lines, line, fields}
+use Rattle.format.specs.Cut.{Lines, line, rest, lines, fields}
 use Rattle.format.specs.Records.{kindIn, intervalsIn, dateIn, firstIn, lastIn}
 use Rattle.format.specs.Order.{Due, on300, on400, on500, afterOf}
 use Rattle.format.specs.Faults.{size, isLate, covers, isOff}
 use Rattle.format.specs.File.{after}
-use Rattle.format.specs.Day.{rowAt, DayRows, runsFrom, daysFrom}
+use Rattle.format.specs.Day.{rowAt, DayRows, runsFrom, daysFrom, Day, dayOf}
 use Rattle.theorems.specs.Grammar.{Record, IsRecord}
 use Rattle.theorems.proofs.Bytes.{fields-some, fields-bytes}
 use Rattle.theorems.proofs.Rows.{Ok, is-record}
-use Rattle.theorems.proofs.Fit.{Fit}
+use Rattle.theorems.proofs.Fit.{Fit, fine-fit}
+use Rattle.shortest.specs.Blocks.{Passes, kindsOf, isBlock, Accepted}
 
 module _ (st : Due) (r : List ℕ) (f : Fit st r) where
   pub fit-record : (k : ℕ) → k ≢ 0 → kindIn (fields r) ≡ k → IsRecord k (size st k) (fields r)
@@ -73,3 +75,35 @@ module _ (p : ℕ) (r : List ℕ) (ls : Lines) where
   pub days-skip : (n : ℕ) → kindIn (fields r) ≢ 300 → daysFrom p n (line r ls) ≡ daysFrom (p + length r + 2) (cond (eqb (kindIn (fields r)) 200) (intervalsIn (fields r)) n) ls
   unfolding daysFrom
   days-skip n e = rw (ne-eqb _ _ e)
+
+-- ---- a block that is accepted
+
+-- its 300, what is under it, and the day that both say
+pub record Headed (st end : Due) (bl : Lines) : Type 0 where
+  pub first : List ℕ
+  pub others : Lines
+  pub is : bl ≡ line first others
+  pub kind : kindIn (fields first) ≡ 300
+  pub fit : Fit st first
+  pub passes : Passes (after st first) others end
+  pub under : all (λ x. eqb x 400 || eqb x 500) (kindsOf others) ≡ true
+  pub day : (p : ℕ) (d : Day) → map dayOf (daysFrom p (st .n) bl) ≡ d ∷ [] → dayOf (dayAt p first others (st .n)) ≡ d
+
+pub headed : (st : Due) (b : List ℕ) (a : Accepted st b) → Headed st (a .end) (lines b)
+headed st b a = go (lines b) (a .kinds) (a .passes)
+  where
+    go : (bl : Lines) → isBlock (kindsOf bl) ≡ true → Passes st bl (a .end) → Headed st (a .end) bl
+    go (rest t) b h = absurd (false≢true b)
+    go (line r ls) b h =
+        let w = and-true (eqb (kindIn (fields r)) 300) (all (λ x. eqb x 400 || eqb x 500) (kindsOf ls)) b in
+        let k : kindIn (fields r) ≡ 300 = eqb-true _ _ (w .0) in
+        record {
+          first = r;
+          others = ls;
+          is = refl;
+          kind = k;
+          fit = fine-fit st r (h .0);
+          passes = h .1;
+          under = w .1;
+          day = λ p d e. head-eq-of-cons-eq (ap (map dayOf) (sym (days-more p r ls (st .n) k)) ∙ e);
+        }

@@ -29,7 +29,7 @@ use Rattle.format.proofs.ValueText.{value-back}
 use Rattle.theorems.specs.Grammar.{Each, Record, join, text, Meets, IsRecord, Covers, Marked}
 use Rattle.theorems.proofs.Across.{unbroken-together}
 use Rattle.theorems.proofs.Ends.{Tidy, tidied, indicator-tidy}
-use Rattle.shortest.proofs.Shapes.{said, topRow, top-mark, runRow, run-first, run-last, run-mark}
+use Rattle.shortest.proofs.Shapes.{said, topRow, top-says, runRow, run-says}
 use Rattle.shortest.proofs.Texts.{Bytes, padded-bytes, dec-bytes, value-bytes, load-bytes, Carried, mark-said, mark-carried}
 
 -- ---- fields that meet their rules
@@ -87,7 +87,7 @@ module _ (t u l : ℕ) (vs : List ℕ) (q s x : List ℕ) (n : ℕ) (e : length 
       good-record 300 n (Date ∷ (replicate n Value ++ (Quality ∷ Reason ∷ Description ∷ Time ∷ Load ∷ []))) three (padded 8 t ∷ (map valueText vs ++ (q ∷ s ∷ x ∷ padded 14 u ∷ loadText l ∷ [])))
       refl (λ z. omega arith) refl refl
       (padded-bytes 8 t, rw (date-back t d), w)
-      (rw (top-mark three (padded 8 t) (map valueText vs) q s x (padded 14 u) (loadText l) n (length-map vs valueText ∙ e), c .together))
+      (rw (top-says three (padded 8 t) (map valueText vs) q s x (padded 14 u) (loadText l) n (length-map vs valueText ∙ e) .mark, c .together))
 
 join-more : (f : List ℕ) (xs : Record) (q : List ℕ) (fs : Record) → join (f ∷ (xs ++ (q ∷ fs))) ≡ f ++ 44 ∷ join (xs ++ (q ∷ fs))
 unfolding join
@@ -172,7 +172,7 @@ module _ (a k : ℕ) (m : Mark) (s : 1 ≤ k) (b : a + k < 10 ^ 4) (h : fitMark 
 
   pub written-mark : markIn (runWritten a (a + k) m) ≡ m
   written-mark =
-      run-mark four (dec (a + 1)) (dec (a + k)) (qualityText (m .flag) (m .method)) (reasonText (m .reason)) (m .text) ∙ mark-said 400 m h
+      run-says four (dec (a + 1)) (dec (a + k)) (qualityText (m .flag) (m .method)) (reasonText (m .reason)) (m .text) .mark ∙ mark-said 400 m h
 
   run-record : IsRecord 400 0 (runWritten a (a + k) m)
   unfolding rowOf obeys kindIn indicatorOf isKind numberOf areAll isDigit fieldByte brokenIn qualitiesOf firstBroken
@@ -185,7 +185,7 @@ module _ (a k : ℕ) (m : Mark) (s : 1 ≤ k) (b : a + k < 10 ^ 4) (h : fitMark 
       (c .quality-bytes, c .marking .graded,
       (c .reason-bytes, c .marking .reasoned,
       (c .marking .bytes, c .marking .described, tt)))))
-      (rw (run-mark four (dec (a + 1)) (dec (a + k)) (qualityText (m .flag) (m .method)) (reasonText (m .reason)) (m .text), c .together))
+      (rw (run-says four (dec (a + 1)) (dec (a + k)) (qualityText (m .flag) (m .method)) (reasonText (m .reason)) (m .text) .mark, c .together))
 
 pub cover-records : (a : ℕ) (c : List (Run Mark)) → Fitting a c → Each (IsRecord 400 0) (coverWritten a c)
 cover-records a [] h = tt

@@ -50,6 +50,13 @@ pub record Accepted (st : Due) (b : List ℕ) : Type 0 where
 abbrev pub Reads : ℕ → ℕ → List ℕ → Day → Type 0
 Reads p n b d = map dayOf (daysFrom p n (lines b)) ≡ d ∷ []
 
+-- the bytes b are accepted as a block, wherever that may be, and the day that is read from them is d
+pub record Says (b : List ℕ) (d : Day) : Type 0 where
+  pub st : Due
+  pub accepted : Accepted st b
+  pub place : ℕ
+  pub reads : Reads place (st .n) b d
+
 -- ---- where a block may stand
 
 -- a block of n intervals with this date may stand here: behind a 200 of that n, or under it behind another day of an earlier date
@@ -57,26 +64,6 @@ pub record Awaits (st : Due) (n date : ℕ) : Type 0 where
   pub free : Free st
   pub intervals : st .n ≡ n
   pub earlier : st .date < date
-
--- ---- what the theorems say
-
--- nothing is wrong with what was handed in: the interval length, the lists' lengths, and all else that a fit day asks
-pub record Writable (g : Given) : Type 0 where
-  pub length-known : intervalsGiven g ≢ 0
-  pub enough : enoughFor (intervalsGiven g) (length (g .values)) (length (g .flags)) (length (g .methods)) (length (g .reasons)) (length (g .starts)) (length (g .lengths)) ≡ true
-  pub fit : fitGiven g ≡ true
-
--- the block that is written for the day d is accepted where the state is st, and the day that is read from it, at any place, is the same
-pub record ReadsBack (d : Day) (st : Due) : Type 0 where
-  pub accepted : Accepted st (blockOf d)
-  pub same : (p : ℕ) → Reads p (st .n) (blockOf d) d
-
--- the block that is written for the day d has no more records than the bytes b, and no more bytes
-pub record NoLonger (d : Day) (b : List ℕ) : Type 0 where
-  pub records : recordsOf d ≤ length (kindsOf (lines b))
-  pub bytes : length (blockOf d) ≤ length b
-
--- ---- in a file
 
 -- the check of a file comes through these bytes, with no fault, to the state st
 abbrev pub Leads : List ℕ → Due → Type 0
@@ -89,8 +76,10 @@ pub record Found (file : List ℕ) (number : ℕ) (d : Day) : Type 0 where
   pub is : drop number (daysOf file) ≡ rows ∷ others
   pub day : dayOf rows ≡ d
 
--- a block b that says the day d stands in a file: the check goes on behind it, from the state `end`, with the place and the record number that follow;
--- and where the file is accepted, d is the day that comes next after those before it
-pub record Stands (before b behind : List ℕ) (st end : Due) (d : Day) : Type 0 where
+-- a block b that says the day d stands in a file behind bytes that lead to the state st: the check goes on behind it, from the state `end`, with the place
+-- and the record number that follow; a block of a later date may stand there; and where the file is accepted, d is the day that comes next after those before it
+pub record Stands (before b behind : List ℕ) (st : Due) (d : Day) : Type 0 where
+  pub end : Due
   pub goes-on : walkOf begun 0 0 (lines (before ++ b ++ behind)) ≡ walkOf end (length (before ++ b)) (length (kindsOf (lines (before ++ b)))) (lines behind)
+  pub awaits : (date : ℕ) → d .date < date → Awaits end (st .n) date
   pub found : (xs : List ℕ) → checkOf (before ++ b ++ behind) ≡ accepted xs → Found (before ++ b ++ behind) (st .days) d

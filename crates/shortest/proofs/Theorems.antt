@@ -1,0 +1,40 @@
+-- The theorems of the written block, for what is handed in to be written. Assumes nothing.
+use Prim.Native.Nat.{ℕ, _+_, _≤_}
+use mathlib.Core.Path.{_≡_, refl}
+use mathlib.Core.Logic.{_≢_, _↔_}
+use mathlib.Core.List.{List, [], _∷_, _++_}
+use lib.ListN.{length}
+use Rattle.ground.specs.Text.{bytes}
+use Rattle.format.specs.Order.{Due}
+use Rattle.format.specs.Answers.{accepted, refused}
+use Rattle.format.specs.File.{most, checkOf}
+use Rattle.format.specs.Day.{Day}
+use Rattle.format.specs.Block.{Given, intervalsGiven, dayGiven, blockOf, recordsOf, writeOf}
+use Rattle.shortest.specs.Blocks.{Says, Awaits, Leads, Stands}
+use Rattle.shortest.specs.Writer.{Writable, ReadsBack, NoLonger, Because}
+use Rattle.shortest.proofs.Handed.{whole}
+use Rattle.shortest.proofs.Back.{back}
+use Rattle.shortest.proofs.Inside.{stands, closes}
+use Rattle.shortest.proofs.Least.{no-longer}
+use Rattle.shortest.proofs.Refuses as refuse
+
+module _ (g : Given) (w : Writable g) where
+  pub reads-back : (st : Due) → Awaits st (intervalsGiven g) (g .head .date) → ReadsBack (dayGiven g) st
+  unfolding dayGiven
+  reads-back st a = back (dayGiven g) (whole g w) st a
+
+  pub in-any-file : (before behind : List ℕ) (st : Due) → Leads before st → Awaits st (intervalsGiven g) (g .head .date) → Stands before (blockOf (dayGiven g)) behind st (dayGiven g)
+  in-any-file before behind st h a =
+      let r = reads-back st a in
+      stands before (blockOf (dayGiven g)) behind st (dayGiven g) h (r .accepted) (r .same (length before))
+
+  pub closed-by-900 : (before : List ℕ) (st : Due) → Leads before st → Awaits st (intervalsGiven g) (g .head .date)
+      → length (before ++ blockOf (dayGiven g) ++ bytes "900\r\n") ≤ most
+      → checkOf (before ++ blockOf (dayGiven g) ++ bytes "900\r\n") ≡ accepted (st .version ∷ st .channels ∷ (st .days + 1) ∷ [])
+  closed-by-900 before st h a l =
+      let r = reads-back st a in
+      closes before (blockOf (dayGiven g)) st (dayGiven g) h (r .accepted) (r .same (length before)) l
+
+  pub shortest : (b : List ℕ) → Says b (dayGiven g) → NoLonger (dayGiven g) b
+  unfolding dayGiven
+  shortest b h = no-longer (dayGiven g) (w .length-known) b h
