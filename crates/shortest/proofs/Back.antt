@@ -46,14 +46,14 @@ pub record Whole (d : Day) : Type 0 where
   pub some : 1 ≤ d .n
   pub few : d .n < 10 ^ 4
 
-record Parts (d : Day) : Type 0 where
-  date : isDate (d .date) ≡ true
-  update : isTime (d .update) ≡ true
-  load : (eqb (d .load) 0 || isTime (d .load)) ≡ true
-  values : all fitValue (d .values) ≡ true
-  marks : all fitMark (d .marks) ≡ true
+pub record Parts (d : Day) : Type 0 where
+  pub date : isDate (d .date) ≡ true
+  pub update : isTime (d .update) ≡ true
+  pub load : (eqb (d .load) 0 || isTime (d .load)) ≡ true
+  pub values : all fitValue (d .values) ≡ true
+  pub marks : all fitMark (d .marks) ≡ true
 
-parts : (d : Day) → fitDay d ≡ true → Parts d
+pub parts : (d : Day) → fitDay d ≡ true → Parts d
 unfolding fitDay
 parts d h =
     let a = and-true (isDate (d .date) && isTime (d .update) && (eqb (d .load) 0 || isTime (d .load)) && all fitValue (d .values)) (all fitMark (d .marks)) h in

@@ -6,7 +6,8 @@ use mathlib.Core.Logic.{_≢_}
 use mathlib.Core.Bool.{Bool, true, false, cond, _&&_, _||_, true≢false, false≢true}
 use mathlib.Core.List.{List, [], _∷_, _++_, map, append-assoc, head-eq-of-cons-eq}
 use native.Mathlib.Omega.{arith}
-use lib.ListN.{length, drop, length-append}
+use lib.ListN.{length, drop}
+use lib.Seq.{drop-append-seam}
 use lib.Dec.{eqb, leb}
 use borrow.Author.Tests.{eqb-true, eqb-false, eq-eqb, ne-eqb, le-leb, leb-true}
 use Rattle.ground.specs.Lists.{all}
@@ -22,13 +23,15 @@ use Rattle.format.specs.Order.{Due, begun, mayCome, isVaried, on200, on300, on4
 use Rattle.format.specs.Answers.{Answer, accepted, refused, refusal}
 use Rattle.format.specs.Faults.{isOpen, faultIn, brokenIn, isLate, isOff, isAlike, isElsewhere, faultOf}
 use Rattle.format.specs.File.{after, orGoOn, walkOf, most, checkOf}
-use Rattle.format.specs.Day.{Row, rowAt, DayRows, runsFrom, daysFrom, daysOf, Day, dayOf}
+use Rattle.format.specs.Day.{Row, rowAt, DayRows, runsFrom, daysFrom, daysOf, tagsOf, Day, marksOf, dayOf}
 use Rattle.format.specs.declared.Fault.{Fault}
 use Rattle.format.specs.declared.Fault.the-variants.{Fine, Stop}
+use Rattle.theorems.proofs.Bytes.{bytesOf, bytes-lines}
 use Rattle.theorems.proofs.Fit.{Fit, fine-fit, fit-fine, free-of, free-if}
 use Rattle.theorems.proofs.Format.{walk-of, of-walk}
-use Rattle.shortest.specs.Blocks.{Passes, kindsOf, isBlock, Free, Accepted, Reads, Awaits, Leads, Found, Stands}
+use Rattle.shortest.specs.Blocks.{Passes, kindsOf, Free, Accepted, Reads, Awaits, Leads, markOf, Stands}
 use Rattle.shortest.proofs.Steps.{fit-cover, after-300, after-400, after-500, runs-end, dayAt, days-more, Headed, headed}
+use Rattle.shortest.proofs.Tags.{tags-marks, read-is}
 use Rattle.shortest.proofs.Files.{onto, lines-behind, passes-append, walk-append, days-append, runs-lines}
 
 -- ---- what a block keeps of the state
@@ -153,34 +156,59 @@ module _ (before b behind : List ℕ) (st : Due) (d : Day) (h : Leads before st)
       walk-append begun (a .end) 0 0 (before ++ b) behind (passes-append begun st (a .end) before b h (a .passes))
       ∙ ap₂ (λ (i j : ℕ). walkOf (a .end) i j (lines behind)) u v
 
-  finds : ((q : ℕ) → runsFrom q (lines behind) ≡ []) → Found (before ++ b ++ behind) (st .days) d
-  finds n =
+  file : List ℕ
+  file = before ++ b ++ behind
+
+  -- the rows of the block's day
+  rows : DayRows
+  rows = let w = headed st b a in dayAt (length before) (w .first) (onto (w .others) (lines behind)) (st .n)
+
+  cut-there : lines (b ++ behind) ≡ line (headed st b a .first) (onto (headed st b a .others) (lines behind))
+  cut-there = lines-behind st (a .end) b behind (a .passes) ∙ ap (λ (l : Lines). onto l (lines behind)) (headed st b a .is)
+
+  days-there : (others : List DayRows) × (drop (st .days) (daysOf file) ≡ rows ∷ others)
+  unfolding file rows
+  days-there =
       let w = headed st b a in
       let m : mayCome (st .expect) 300 ≡ true = rw (w .kind) at (w .fit .may) in
       let p : ℕ = length before in
       let ls : Lines = onto (w .others) (lines behind) in
-      record {
-        rows = dayAt p (w .first) ls (st .n);
-        others = daysFrom (p + length (w .first) + 2) (st .n) ls;
-        is =
-            ap (λ (l : List ℕ). drop (st .days) (daysOf l)) (append-assoc before b behind)
-            ∙ days-append st before (b ++ behind) h (may-high (st .expect) m)
-            ∙ ap (daysFrom p (st .n)) (lines-behind st (a .end) b behind (a .passes) ∙ ap (λ (l : Lines). onto l (lines behind)) (w .is))
-            ∙ days-more p (w .first) ls (st .n) (w .kind);
-        day =
-            ap (λ (rs : List Row). dayOf (record { n = st .n; top = rowAt p (w .first); runs = rs })) (runs-lines (p + length (w .first) + 2) (w .others) (lines behind) n)
-            ∙ w .day p d s;
-      }
+      (daysFrom (p + length (w .first) + 2) (st .n) ls,
+      ap (λ (l : List ℕ). drop (st .days) (daysOf l)) (append-assoc before b behind)
+      ∙ days-append st before (b ++ behind) h (may-high (st .expect) m)
+      ∙ ap (daysFrom p (st .n)) cut-there
+      ∙ days-more p (w .first) ls (st .n) (w .kind))
+
+  day-there : ((q : ℕ) → runsFrom q (lines behind) ≡ []) → dayOf rows ≡ d
+  unfolding rows
+  day-there n =
+      let w = headed st b a in
+      let p : ℕ = length before in
+      ap (λ (rs : List Row). dayOf (record { n = st .n; top = rowAt p (w .first); runs = rs })) (runs-lines (p + length (w .first) + 2) (w .others) (lines behind) n)
+      ∙ w .day p d s
+
+  tags-there : map (markOf file) (tagsOf rows) ≡ marksOf rows
+  unfolding file rows
+  tags-there =
+      let w = headed st b a in
+      let ls : Lines = onto (w .others) (lines behind) in
+      tags-marks file (length before) (st .n) (w .first) ls
+      (ap (drop (length before)) (append-assoc before b behind)
+      ∙ drop-append-seam before (b ++ behind)
+      ∙ sym (bytes-lines (b ++ behind))
+      ∙ ap bytesOf cut-there)
 
   pub stands : Stands before b behind st d
+  unfolding file
   stands =
       record {
         end = a .end;
         goes-on = walks;
         awaits = behind-day st b a (length before) d s;
-        found = λ xs e.
-          (let w = walk-of (before ++ b ++ behind) (accepted xs) e (accepted-not 1 0 0 0 xs) in
-          finds (none-behind (a .end) (length (before ++ b)) (length (kindsOf (lines (before ++ b)))) (lines behind) xs (a .free) (sym walks ∙ w .1)));
+        reads = λ xs e.
+          (let w = walk-of file (accepted xs) e (accepted-not 1 0 0 0 xs) in
+          let n = none-behind (a .end) (length (before ++ b)) (length (kindsOf (lines (before ++ b)))) (lines behind) xs (a .free) (sym walks ∙ w .1) in
+          read-is file (st .days) xs rows (days-there .0) d e (days-there .1) (day-there n) tags-there);
       }
 
 -- ---- a 900 behind a block

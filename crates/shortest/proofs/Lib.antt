@@ -9,6 +9,7 @@ pub mod Written
 pub mod Back
 pub mod Handed
 pub mod Files
+pub mod Tags
 pub mod Inside
 pub mod Said
 pub mod Refuses

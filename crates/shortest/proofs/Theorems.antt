@@ -1,22 +1,22 @@
--- The theorems of the written block, for what is handed in to be written. Assumes nothing.
+-- The theorems of the block that is written for what was handed in: it reads back, and none is shorter. Assumes nothing.
 use Prim.Native.Nat.{ℕ, _+_, _≤_}
 use mathlib.Core.Path.{_≡_, refl}
 use mathlib.Core.Logic.{_≢_, _↔_}
 use mathlib.Core.List.{List, [], _∷_, _++_}
 use lib.ListN.{length}
 use Rattle.ground.specs.Text.{bytes}
-use Rattle.format.specs.Order.{Due}
+use Rattle.format.specs.Order.{Due, due, mayCome}
+use Rattle.format.specs.Faults.{isOpen}
 use Rattle.format.specs.Answers.{accepted, refused}
 use Rattle.format.specs.File.{most, checkOf}
 use Rattle.format.specs.Day.{Day}
 use Rattle.format.specs.Block.{Given, intervalsGiven, dayGiven, blockOf, recordsOf, writeOf}
 use Rattle.shortest.specs.Blocks.{Says, Awaits, Leads, Stands}
 use Rattle.shortest.specs.Writer.{Writable, ReadsBack, NoLonger, Because}
-use Rattle.shortest.proofs.Handed.{whole}
+use Rattle.shortest.proofs.Handed.{whole, date-some}
 use Rattle.shortest.proofs.Back.{back}
 use Rattle.shortest.proofs.Inside.{stands, closes}
 use Rattle.shortest.proofs.Least.{no-longer}
-use Rattle.shortest.proofs.Refuses as refuse
 
 module _ (g : Given) (w : Writable g) where
   pub reads-back : (st : Due) → Awaits st (intervalsGiven g) (g .head .date) → ReadsBack (dayGiven g) st
@@ -35,6 +35,15 @@ module _ (g : Given) (w : Writable g) where
       let r = reads-back st a in
       closes before (blockOf (dayGiven g)) st (dayGiven g) h (r .accepted) (r .same (length before)) l
 
+  -- the written block says the day
+  pub says-it : Says (blockOf (dayGiven g)) (dayGiven g)
+  unfolding mayCome isOpen
+  says-it =
+      let st : Due = due 2 12 (intervalsGiven g) 0 1 0 in
+      let r = reads-back st (record { free = (refl, refl); intervals = refl; earlier = date-some g w }) in
+      record { st = st; accepted = r .accepted; place = 0; reads = r .same 0 }
+
+  -- and no bytes that say it, with 500s or without, have fewer records, or are fewer
   pub shortest : (b : List ℕ) → Says b (dayGiven g) → NoLonger (dayGiven g) b
   unfolding dayGiven
   shortest b h = no-longer (dayGiven g) (w .length-known) b h

@@ -1,22 +1,22 @@
 -- 01: "A day block is a 300 record with the 400 and 500 records under it." When bytes are accepted as one, by the very steps that the check of a file
 -- takes, and which day a reading finds in them.
-use Prim.Native.Nat.{ℕ, _≤_, _<_}
+use Prim.Native.Nat.{ℕ, _<_}
 use mathlib.Core.Path.{_≡_}
 use mathlib.Core.Bool.{Bool, true, false, _&&_, _||_}
-use mathlib.Core.Logic.{_≢_}
 use mathlib.Core.List.{List, [], _∷_, _++_, map}
-use lib.ListN.{length, drop}
+use lib.ListN.{length, take, drop}
 use lib.Dec.{eqb}
 use Rattle.ground.specs.Lists.{all}
+use Rattle.format.specs.Quality.{Mark}
 use Rattle.format.specs.Cut.{Lines, line, rest, lines, fields}
 use Rattle.format.specs.Records.{kindIn}
 use Rattle.format.specs.Answers.{Answer, accepted}
 use Rattle.format.specs.Order.{Due, begun, mayCome}
 use Rattle.format.specs.Faults.{isOpen, faultOf}
 use Rattle.format.specs.File.{after, walkOf, checkOf}
-use Rattle.format.specs.Day.{DayRows, Day, dayOf, daysFrom, daysOf, enoughFor}
-use Rattle.format.specs.Block.{Given, intervalsGiven, dayGiven, fitGiven, blockOf, recordsOf}
+use Rattle.format.specs.Day.{Day, dayOf, daysFrom, Five, outcome, over, overFive, roomFor, readOf}
 use Rattle.format.specs.declared.Fault.the-variants.{Fine}
+use Rattle.format.specs.declared.Tag.{Tag}
 
 -- ---- accepted as a block
 
@@ -69,17 +69,21 @@ pub record Awaits (st : Due) (n date : ℕ) : Type 0 where
 abbrev pub Leads : List ℕ → Due → Type 0
 Leads before st = Passes begun (lines before) st
 
--- the day of this number is d: what a reading of it finds first (`readOf`)
-pub record Found (file : List ℕ) (number : ℕ) (d : Day) : Type 0 where
-  pub rows : DayRows
-  pub others : List DayRows
-  pub is : drop number (daysOf file) ≡ rows ∷ others
-  pub day : dayOf rows ≡ d
+-- the mark that a reading leaves of an interval: flag, method, reason, and the bytes of the file at the description's start and length
+abbrev pub markOf : List ℕ → Tag → Mark
+markOf file t = record { flag = t .flag; method = t .method; reason = t .reason; text = take (t .length) (drop (t .start) file) }
+
+-- a reading of the day of this number answers and leaves the day d, in any lists that are long enough
+pub record Read (file : List ℕ) (number : ℕ) (d : Day) : Type 0 where
+  pub tags : List Tag
+  pub marks : map (markOf file) tags ≡ d .marks
+  pub answers : (vs : List ℕ) (ms : Five) → roomFor (d .n) vs ms ≡ true
+      → readOf file number vs ms ≡ outcome (accepted (d .date ∷ d .n ∷ d .update ∷ d .load ∷ [])) (over (d .values) vs) (overFive tags ms)
 
 -- a block b that says the day d stands in a file behind bytes that lead to the state st: the check goes on behind it, from the state `end`, with the place
--- and the record number that follow; a block of a later date may stand there; and where the file is accepted, d is the day that comes next after those before it
+-- and the record number that follow; a block of a later date may stand there; and where the file is accepted, d is the day that is read next after those before it
 pub record Stands (before b behind : List ℕ) (st : Due) (d : Day) : Type 0 where
   pub end : Due
   pub goes-on : walkOf begun 0 0 (lines (before ++ b ++ behind)) ≡ walkOf end (length (before ++ b)) (length (kindsOf (lines (before ++ b)))) (lines behind)
   pub awaits : (date : ℕ) → d .date < date → Awaits end (st .n) date
-  pub found : (xs : List ℕ) → checkOf (before ++ b ++ behind) ≡ accepted xs → Found (before ++ b ++ behind) (st .days) d
+  pub reads : (xs : List ℕ) → checkOf (before ++ b ++ behind) ≡ accepted xs → Read (before ++ b ++ behind) (st .days) d
