@@ -2,30 +2,30 @@
 use Prim.Native.Nat.{ℕ, zero, suc, _+_, _-_, _^_, _≤_, _<_}
 use mathlib.Core.Path.{_≡_, refl, sym, ap, ap₂, _∙_, subst}
 use mathlib.Core.Logic.{_≢_}
-use mathlib.Core.Bool.{Bool, true, false, cond, _&&_, _||_, true≢false, false≢true}
+use mathlib.Core.Bool.{true, false, cond, _&&_, _||_, true≢false, false≢true}
 use mathlib.Core.List.{List, [], _∷_, _++_, map}
 use native.Mathlib.Omega.{arith}
 use lib.ListN.{length, getD, replicate, getD-replicate, length-map}
-use lib.Dec.{eqb, ltb}
-use borrow.Author.Tests.{eqb-true, eq-eqb, ne-eqb, ltb-true}
+use lib.Dec.{eqb}
+use borrow.Author.Tests.{ne-eqb, ltb-true}
 use Rattle.ground.specs.Lists.{all}
 use Rattle.ground.specs.Text.{bytes}
-use Rattle.ground.specs.Digits.{padded, dec}
+use Rattle.ground.specs.Digits.{padded}
 use Rattle.ground.specs.Runs.{Run, run, spell}
 use Rattle.ground.proofs.Tests.{and-true}
 use Rattle.ground.proofs.Cases.{by}
-use Rattle.format.specs.Numbers.{numberIn, decimals, valueOf}
-use Rattle.format.specs.Dates.{isDate, isTime, dateOf, timeOf, loadOf}
-use Rattle.format.specs.Quality.{standsAlone, takesMethod, qualityOf, flagIn, Mark, noMark}
-use Rattle.format.specs.Cut.{Lines, line, rest, lines, fields}
-use Rattle.format.specs.Records.{kindIn, dateIn, millionths, valuesIn, firstIn, lastIn, markAt, markIn}
+use Rattle.format.specs.Numbers.{numberIn}
+use Rattle.format.specs.Dates.{isDate, isTime}
+use Rattle.format.specs.Quality.{standsAlone, takesMethod, qualityOf, Mark, noMark}
+use Rattle.format.specs.Cut.{Lines, fields}
+use Rattle.format.specs.Records.{dateIn, millionths, valuesIn, firstIn, lastIn, markAt, markIn}
 use Rattle.format.specs.Order.{Due, isVaried}
-use Rattle.format.specs.Day.{Row, rowAt, DayRows, runsFrom, daysFrom, coverOf, eachOf, valuesOf, updateIn, loadIn, Day, marksOf, dayOf}
-use Rattle.format.specs.Block.{fitQuality, fitMark, fitValue, fitDay, valueText, qualityText, reasonText, loadText, comma, crlf, markText, valuesText, coverText, runsIn, isUniform, topText, tailText, blockOf}
+use Rattle.format.specs.Day.{DayRows, runsFrom, daysFrom, coverOf, eachOf, valuesOf, updateIn, loadIn, Day, marksOf, dayOf}
+use Rattle.format.specs.Block.{fitQuality, fitMark, fitValue, fitDay, valueText, qualityText, reasonText, loadText, comma, crlf, markText, valuesText, runsIn, isUniform, topText, tailText, blockOf}
 use Rattle.format.proofs.NumberText.{date-back, time-back, load-back}
 use Rattle.format.proofs.ValueText.{value-back}
-use Rattle.format.proofs.CoverText.{runs-spell, runs-are-proper, uniform-is, Uniform, uniform}
-use Rattle.theorems.specs.Grammar.{Each, Record, join, text, IsRecord, Block, Covers, Marked, Alike, IsBlock}
+use Rattle.format.proofs.CoverText.{runs-spell, runs-are-proper, uniform-is, uniform}
+use Rattle.theorems.specs.Grammar.{Each, Record, join, text, IsRecord, Covers, IsBlock}
 use Rattle.theorems.proofs.Rows.{record-fields}
 use Rattle.theorems.proofs.Takes.{fields-of}
 use Rattle.shortest.specs.Blocks.{Accepted, Reads, Awaits}
@@ -237,7 +237,7 @@ back d w st a =
     record {
       accepted = subst (Accepted st) (r .bytes-are) (block-accepted st (r .first) (r .runs) b (a .free) l);
       same = λ p.
-        subst (λ (x : List ℕ). Reads p (st .n) x d) (r .bytes-are)
-        (ap (λ (x : Lines). map dayOf (daysFrom p (st .n) x)) (block-lines st (r .first) (r .runs) b (a .free) l)
-        ∙ ap (λ (n : ℕ). map dayOf (daysFrom p n (cut (r .first ∷ r .runs)))) (a .intervals) ∙ r .day p);
+          subst (λ (x : List ℕ). Reads p (st .n) x d) (r .bytes-are)
+          (ap (λ (x : Lines). map dayOf (daysFrom p (st .n) x)) (block-lines st (r .first) (r .runs) b (a .free) l)
+          ∙ ap (λ (n : ℕ). map dayOf (daysFrom p n (cut (r .first ∷ r .runs)))) (a .intervals) ∙ r .day p);
     }

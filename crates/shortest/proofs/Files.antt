@@ -1,27 +1,20 @@
 -- Bytes one behind the other: where the first are passed without a fault, the check of the whole, and the reading of its days, go on with what is
 -- behind them. Assumes nothing.
-use Prim.Native.Nat.{ℕ, zero, suc, _+_, _≤_, _<_}
+use Prim.Native.Nat.{ℕ, suc, _+_, _≤_}
 use mathlib.Core.Path.{_≡_, refl, sym, ap, ap₂, _∙_, subst}
-use mathlib.Core.Logic.{_≢_}
-use mathlib.Core.Bool.{Bool, true, false, cond, _&&_, _||_, true≢false, false≢true}
+use mathlib.Core.Bool.{Bool, true, false, cond}
 use mathlib.Core.List.{List, [], _∷_, _++_}
 use native.Mathlib.Omega.{arith}
 use lib.ListN.{length, drop, length-append}
 use lib.Seq.{drop-at}
 use lib.Dec.{eqb}
-use borrow.Author.Tests.{eqb-true, eqb-false, eq-eqb, ne-eqb}
-use Rattle.ground.specs.Lists.{all}
-use Rattle.ground.proofs.Tests.{and-true}
+use borrow.Author.Tests.{eqb-true, eqb-false, ne-eqb}
 use Rattle.ground.proofs.Cases.{by}
 use Rattle.format.specs.Cut.{isCrlf, Lines, line, rest, onFirst, lines, fields}
 use Rattle.format.specs.Records.{kindIn, intervalsIn}
 use Rattle.format.specs.Order.{Due, begun, isVaried, afterOf}
-use Rattle.format.specs.Answers.{Answer, accepted, refused}
-use Rattle.format.specs.Faults.{faultOf}
-use Rattle.format.specs.File.{after, orGoOn, walkOf}
+use Rattle.format.specs.File.{after, walkOf}
 use Rattle.format.specs.Day.{Row, DayRows, rowAt, runsFrom, daysFrom, daysOf}
-use Rattle.format.specs.declared.Fault.{Fault}
-use Rattle.format.specs.declared.Fault.the-variants.{Fine, Stop}
 use Rattle.theorems.proofs.Bytes.{bytesOf, bytes-lines}
 use Rattle.theorems.proofs.Fit.{Fit, fine-fit, Head, h100, h200, more200, h300, h400, h500, h250, h550, h900, basic900, head}
 use Rattle.shortest.specs.Blocks.{Passes, kindsOf}

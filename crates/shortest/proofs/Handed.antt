@@ -1,11 +1,10 @@
 -- What was handed in to be written, where nothing is wrong with it, is a day that may be written. Assumes nothing.
-use Prim.Native.Nat.{ℕ, _/_, _^_, _≤_, _<_}
-use mathlib.Core.Path.{_≡_, refl}
+use Prim.Native.Nat.{ℕ, _^_, _≤_, _<_}
+use mathlib.Core.Path.{_≡_}
 use mathlib.Core.Logic.{_≢_}
-use mathlib.Core.Bool.{Bool, true, false, _&&_, _||_}
-use mathlib.Core.List.{List}
+use mathlib.Core.Bool.{true, _&&_}
 use native.Mathlib.Omega.{arith}
-use lib.ListN.{length, take}
+use lib.ListN.{length}
 use lib.Seq.{length-take-le}
 use lib.Dec.{eqb, leb}
 use borrow.Author.Tests.{eqb-true, leb-true}
@@ -19,7 +18,7 @@ use Rattle.format.specs.Day.{enoughFor}
 use Rattle.format.proofs.Dates.{day-is}
 use Rattle.format.specs.Block.{Given, intervalsGiven, markGiven, dayGiven, isInside, fitGiven, fitDay}
 use Rattle.shortest.specs.Writer.{Writable}
-use Rattle.shortest.proofs.Back.{Whole, Parts, parts}
+use Rattle.shortest.proofs.Back.{Whole, parts}
 
 few : (m : ℕ) → intervalsOf m < 10 ^ 4
 unfolding intervalsOf isLength

@@ -1,15 +1,14 @@
 -- A block inside a file: where one may stand, what the check does behind it, which day a reading finds there, and that a 900 may close the file behind it.
 -- Assumes nothing.
-use Prim.Native.Nat.{ℕ, zero, suc, _+_, _≤_, _<_}
+use Prim.Native.Nat.{ℕ, _+_, _≤_, _<_}
 use mathlib.Core.Path.{_≡_, refl, sym, ap, ap₂, _∙_, subst}
-use mathlib.Core.Logic.{_≢_}
-use mathlib.Core.Bool.{Bool, true, false, cond, _&&_, _||_, true≢false, false≢true}
-use mathlib.Core.List.{List, [], _∷_, _++_, map, append-assoc, head-eq-of-cons-eq}
+use mathlib.Core.Bool.{Bool, true, false, cond, _||_, true≢false}
+use mathlib.Core.List.{List, [], _∷_, _++_, map, append-assoc}
 use native.Mathlib.Omega.{arith}
 use lib.ListN.{length, drop}
 use lib.Seq.{drop-append-seam}
 use lib.Dec.{eqb, leb}
-use borrow.Author.Tests.{eqb-true, eqb-false, eq-eqb, ne-eqb, le-leb, leb-true}
+use borrow.Author.Tests.{eqb-true, ne-eqb, le-leb, leb-true}
 use Rattle.ground.specs.Lists.{all}
 use Rattle.ground.specs.Text.{bytes}
 use Rattle.ground.specs.Digits.{isDigit}
@@ -18,19 +17,19 @@ use Rattle.ground.proofs.Cases.{by}
 use Rattle.format.specs.Bytes.{areAll}
 use Rattle.format.specs.Numbers.{numberOf}
 use Rattle.format.specs.Cut.{Lines, line, rest, lines, fields}
-use Rattle.format.specs.Records.{isKind, indicatorOf, kindIn, rowOf, countOf, ruleOf, obeys, intervalsIn, dateIn, qualitiesOf, firstBroken}
-use Rattle.format.specs.Order.{Due, begun, mayCome, isVaried, on200, on300, on400, on500, afterOf}
-use Rattle.format.specs.Answers.{Answer, accepted, refused, refusal}
+use Rattle.format.specs.Records.{isKind, indicatorOf, kindIn, rowOf, countOf, ruleOf, obeys, intervalsIn, qualitiesOf, firstBroken}
+use Rattle.format.specs.Order.{Due, begun, mayCome, isVaried, on300, afterOf}
+use Rattle.format.specs.Answers.{accepted, refused}
 use Rattle.format.specs.Faults.{isOpen, faultIn, brokenIn, isLate, isOff, isAlike, isElsewhere, faultOf}
 use Rattle.format.specs.File.{after, orGoOn, walkOf, most, checkOf}
 use Rattle.format.specs.Day.{Row, rowAt, DayRows, runsFrom, daysFrom, daysOf, tagsOf, Day, marksOf, dayOf}
 use Rattle.format.specs.declared.Fault.{Fault}
 use Rattle.format.specs.declared.Fault.the-variants.{Fine, Stop}
 use Rattle.theorems.proofs.Bytes.{bytesOf, bytes-lines}
-use Rattle.theorems.proofs.Fit.{Fit, fine-fit, fit-fine, free-of, free-if}
+use Rattle.theorems.proofs.Fit.{fine-fit, fit-fine, free-of, free-if}
 use Rattle.theorems.proofs.Format.{walk-of, of-walk}
 use Rattle.shortest.specs.Blocks.{Passes, kindsOf, Free, Accepted, Reads, Awaits, Leads, markOf, Stands}
-use Rattle.shortest.proofs.Steps.{fit-cover, after-300, after-400, after-500, runs-end, dayAt, days-more, Headed, headed}
+use Rattle.shortest.proofs.Steps.{fit-cover, after-300, after-400, after-500, runs-end, dayAt, days-more, headed}
 use Rattle.shortest.proofs.Tags.{tags-marks, read-is}
 use Rattle.shortest.proofs.Files.{onto, lines-behind, passes-append, walk-append, days-append, runs-lines}
 
@@ -172,12 +171,13 @@ module _ (before b behind : List ℕ) (st : Due) (d : Day) (h : Leads before st)
       let w = headed st b a in
       let m : mayCome (st .expect) 300 ≡ true = rw (w .kind) at (w .fit .may) in
       let p : ℕ = length before in
-      let ls : Lines = onto (w .others) (lines behind) in
-      (daysFrom (p + length (w .first) + 2) (st .n) ls,
-      ap (λ (l : List ℕ). drop (st .days) (daysOf l)) (append-assoc before b behind)
-      ∙ days-append st before (b ++ behind) h (may-high (st .expect) m)
-      ∙ ap (daysFrom p (st .n)) cut-there
-      ∙ days-more p (w .first) ls (st .n) (w .kind))
+      let ls : Lines = onto (w .others) (lines behind) in (
+        daysFrom (p + length (w .first) + 2) (st .n) ls,
+        ap (λ (l : List ℕ). drop (st .days) (daysOf l)) (append-assoc before b behind)
+            ∙ days-append st before (b ++ behind) h (may-high (st .expect) m)
+            ∙ ap (daysFrom p (st .n)) cut-there
+            ∙ days-more p (w .first) ls (st .n) (w .kind),
+      )
 
   day-there : ((q : ℕ) → runsFrom q (lines behind) ≡ []) → dayOf rows ≡ d
   unfolding rows
@@ -206,9 +206,9 @@ module _ (before b behind : List ℕ) (st : Due) (d : Day) (h : Leads before st)
         goes-on = walks;
         awaits = behind-day st b a (length before) d s;
         reads = λ xs e.
-          (let w = walk-of file (accepted xs) e (accepted-not 1 0 0 0 xs) in
-          let n = none-behind (a .end) (length (before ++ b)) (length (kindsOf (lines (before ++ b)))) (lines behind) xs (a .free) (sym walks ∙ w .1) in
-          read-is file (st .days) xs rows (days-there .0) d e (days-there .1) (day-there n) tags-there);
+            (let w = walk-of file (accepted xs) e (accepted-not 1 0 0 0 xs) in
+            let n = none-behind (a .end) (length (before ++ b)) (length (kindsOf (lines (before ++ b)))) (lines behind) xs (a .free) (sym walks ∙ w .1) in
+            read-is file (st .days) xs rows (days-there .0) d e (days-there .1) (day-there n) tags-there);
       }
 
 -- ---- a 900 behind a block

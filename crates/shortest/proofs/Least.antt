@@ -1,17 +1,16 @@
 -- No accepted block that says the same day has fewer records, or fewer bytes, than the block that is written. Each field that is read so is no shorter
 -- than the text that is written for it, and the 400s are a cover of the day's marks. Assumes nothing.
-use Prim.Native.Nat.{ℕ, zero, suc, _+_, _-_, _≤_, _<_, zero-le}
+use Prim.Native.Nat.{ℕ, zero, suc, _+_, _-_, _≤_, zero-le}
 use mathlib.Core.Path.{_≡_, refl, sym, ap, _∙_, subst}
 use mathlib.Core.Logic.{_≢_}
-use mathlib.Core.Bool.{Bool, true, false, cond, _&&_, _||_, false≢true}
-use mathlib.Core.List.{List, [], _∷_, _++_, map, append-nil, head-eq-of-cons-eq}
+use mathlib.Core.Bool.{true}
+use mathlib.Core.List.{List, [], _∷_, _++_, map}
 use native.Mathlib.Omega.{arith}
 use lib.ListN.{length, getD, replicate, length-append}
 use lib.Dec.{eqb, leb}
-use borrow.Author.Tests.{eqb-true, eqb-false, eq-eqb, ne-eqb, leb-true, le-leb}
-use Rattle.ground.specs.Lists.{all}
+use borrow.Author.Tests.{eqb-true, eqb-false, leb-true, le-leb}
 use Rattle.ground.specs.Text.{bytes}
-use Rattle.ground.specs.Digits.{dec, padded}
+use Rattle.ground.specs.Digits.{dec}
 use Rattle.ground.specs.Runs.{Run, run, spell, proper}
 use Rattle.ground.proofs.Tests.{and-true}
 use Rattle.ground.proofs.Cases.{by, both}
@@ -19,12 +18,12 @@ use Rattle.ground.proofs.Digits.{length-padded}
 use Rattle.format.specs.Numbers.{isNumber, numberIn, intervalOf, reasonOf, decimals, valueOf}
 use Rattle.format.specs.Dates.{dateOf, timeOf, loadOf}
 use Rattle.format.specs.Quality.{qualityOf, flagIn, methodIn, Mark, noMark}
-use Rattle.format.specs.Cut.{Lines, line, rest, lines, fields}
-use Rattle.format.specs.Records.{kindIn, dateIn, millionths, valuesIn, firstIn, lastIn, markAt, markIn}
-use Rattle.format.specs.Order.{Due, isVaried, on300, on400}
+use Rattle.format.specs.Cut.{Lines, line, rest, fields}
+use Rattle.format.specs.Records.{kindIn, millionths, valuesIn, firstIn, lastIn, markAt, markIn}
+use Rattle.format.specs.Order.{Due, isVaried}
 use Rattle.format.specs.File.{after}
-use Rattle.format.specs.Day.{Row, rowAt, DayRows, runsFrom, daysFrom, coverOf, eachOf, valuesOf, updateIn, loadIn, Day, marksOf, dayOf}
-use Rattle.format.specs.Block.{qualityText, reasonText, loadText, valueText, valuesText, markText, runText, coverText, runsIn, isUniform, topText, tailText, blockOf, recordsOf}
+use Rattle.format.specs.Day.{DayRows, runsFrom, coverOf, eachOf, valuesOf, loadIn, Day, marksOf, dayOf}
+use Rattle.format.specs.Block.{qualityText, loadText, valueText, valuesText, markText, runText, coverText, runsIn, isUniform, topText, tailText, blockOf, recordsOf}
 use Rattle.format.proofs.NumberText.{small-shortest, reason-shortest, date-length, time-length, load-shortest}
 use Rattle.format.proofs.ValueText.{value-shortest}
 use Rattle.format.proofs.MarkText.{quality-shortest, length-mark}
@@ -33,7 +32,7 @@ use Rattle.format.specs.declared.Number.the-variants.{Is}
 use Rattle.theorems.specs.Grammar.{Each, Record}
 use Rattle.theorems.proofs.Bytes.{bytesOf, bytes-lines}
 use Rattle.theorems.proofs.Fit.{Fit, fine-fit}
-use Rattle.shortest.specs.Blocks.{Passes, kindsOf, Accepted, Says}
+use Rattle.shortest.specs.Blocks.{Passes, kindsOf, Says}
 use Rattle.shortest.specs.Writer.{NoLonger}
 use Rattle.shortest.proofs.Sizes.{size, size-append, length-record}
 use Rattle.shortest.proofs.Shapes.{number-is, graded-is, said, Marking, Top, top-of, Stretch, stretch-of}
@@ -234,9 +233,10 @@ module _ (st end : Due) (p : ℕ) (r : List ℕ) (ls : Lines) (k : kindIn (field
   unfolding dayOf valuesOf
   least =
       let t = top-of (st .n) (fields r) (fit-record st r f 300 (λ z. omega arith) k) in
-      let m = marks-least t in
-      (omega (arith, m .records (dayOf day) refl),
-      omega (arith, length-block (dayOf day), m .bytes, top-least (st .n) (fields r) t, length-record r, length-append r (13 ∷ 10 ∷ bytesOf ls)))
+      let m = marks-least t in (
+        omega (arith, m .records (dayOf day) refl),
+        omega (arith, length-block (dayOf day), m .bytes, top-least (st .n) (fields r) t, length-record r, length-append r (13 ∷ 10 ∷ bytesOf ls)),
+      )
 
 pub no-longer : (d : Day) → d .n ≢ 0 → (b : List ℕ) → Says b d → NoLonger d b
 unfolding dayOf

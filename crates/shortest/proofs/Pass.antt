@@ -1,27 +1,25 @@
 -- A block of the grammar without 500s is accepted where a block may stand. Assumes nothing.
-use Prim.Native.Nat.{ℕ, zero, suc, _+_, _≤_, _<_}
+use Prim.Native.Nat.{ℕ, _+_, _≤_, _<_}
 use mathlib.Core.Path.{_≡_, refl, sym, ap, _∙_, subst}
-use mathlib.Core.Bool.{Bool, true, false, cond, not, _&&_, _||_}
+use mathlib.Core.Bool.{true, false, _||_}
 use mathlib.Core.List.{List, [], _∷_}
 use native.Mathlib.Omega.{arith}
-use lib.ListN.{length}
-use lib.Dec.{eqb, leb}
-use borrow.Author.Tests.{eqb-true, eq-eqb, ne-eqb, le-leb, lt-leb}
+use lib.Dec.{eqb}
+use borrow.Author.Tests.{eqb-true, eq-eqb, le-leb, lt-leb}
 use Rattle.ground.specs.Lists.{all}
-use Rattle.ground.proofs.Cases.{by, both}
-use Rattle.format.specs.Bytes.{plain}
+use Rattle.ground.proofs.Cases.{by}
 use Rattle.format.specs.Cut.{Lines, line, rest, lines, fields}
 use Rattle.format.specs.Records.{kindIn, dateIn, firstIn, lastIn}
 use Rattle.format.specs.Order.{Due, mayCome, isVaried, alikeWith, on300, on400, afterOf}
 use Rattle.format.specs.Faults.{size, isOpen, isLate, covers, isOff, isAlike, isElsewhere, faultOf}
 use Rattle.format.specs.File.{after}
 use Rattle.format.specs.declared.Fault.the-variants.{Fine}
-use Rattle.theorems.specs.Grammar.{Each, Record, join, text, IsRecord, Block, Covers, Marked, Alike, IsBlock}
+use Rattle.theorems.specs.Grammar.{Each, Record, join, text, IsRecord, Covers, Marked, IsBlock}
 use Rattle.theorems.proofs.Bytes.{lines-row}
 use Rattle.theorems.proofs.Rows.{Fields, Ok, record-fields, record-ok}
 use Rattle.theorems.proofs.Takes.{fields-of}
-use Rattle.theorems.proofs.Fit.{Fit, fit-fine, free-if, free-400, Apart, apart-on, marked-end}
-use Rattle.shortest.specs.Blocks.{Passes, kindsOf, isBlock, Free, Accepted, Awaits}
+use Rattle.theorems.proofs.Fit.{fit-fine, free-if, free-400, Apart, apart-on, marked-end}
+use Rattle.shortest.specs.Blocks.{Passes, kindsOf, isBlock, Free, Accepted}
 
 -- ---- records as their fields, and as the lines of a file
 
@@ -151,9 +149,11 @@ module _ (st : Due) (top : Record) (runs : List Record) (h : IsBlock (st .n) (re
       alike : isVaried (st .n) top ≡ false → (end : Due) × Passes st (cut (top ∷ runs)) end × Free end
       alike e =
           let x : on300 st top .expect ≡ 3 = rw e in
-          let q : Passes (on300 st top) (cut runs) (on300 st top) = subst (λ (rs : List Record). Passes (on300 st top) (cut rs) (on300 st top)) (sym (h .only-v e)) (refl, refl) in
-          (on300 st top, go-on st 300 top (h .top) (cut runs) (on300 st top) (tests-300 st top f l) q,
-          free-end (on300 st top) (omega (arith, x)) (omega (arith, x)) (λ z. absurd (let y : ⊥ = omega (arith, x) in y)))
+          let q : Passes (on300 st top) (cut runs) (on300 st top) = subst (λ (rs : List Record). Passes (on300 st top) (cut rs) (on300 st top)) (sym (h .only-v e)) (refl, refl) in (
+            on300 st top,
+            go-on st 300 top (h .top) (cut runs) (on300 st top) (tests-300 st top f l) q,
+            free-end (on300 st top) (omega (arith, x)) (omega (arith, x)) (λ z. absurd (let y : ⊥ = omega (arith, x) in y)),
+          )
 
   pub block-lines : lines (text (top ∷ runs)) ≡ cut (top ∷ runs)
   block-lines = lines-cut (top ∷ runs) (record-fields 300 (st .n) top (h .top), fields-each runs (h .runs))

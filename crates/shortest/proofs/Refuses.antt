@@ -1,20 +1,18 @@
 -- A day is written exactly where nothing is wrong with what was handed in and the block fits into the room; and what is refused for being unfit, or for its
 -- room, no accepted block would say in that room. Assumes nothing.
 use Prim.Native.Nat.{ℕ, _≤_, _<_}
-use mathlib.Core.Path.{_≡_, refl, sym, ap, _∙_}
+use mathlib.Core.Path.{_≡_, sym, _∙_}
 use mathlib.Core.Logic.{_≢_, _↔_}
-use mathlib.Core.Bool.{Bool, true, false, _&&_, true≢false}
-use mathlib.Core.List.{List, [], _∷_}
+use mathlib.Core.Bool.{true, false, true≢false}
+use mathlib.Core.List.{[], _∷_}
 use native.Mathlib.Omega.{arith}
 use lib.ListN.{length}
 use lib.Dec.{eqb, leb}
 use borrow.Author.Tests.{eqb-true, eqb-false, ne-eqb, le-leb, leb-true, leb-false}
 use Rattle.ground.proofs.Cases.{by}
 use Rattle.format.specs.Answers.{Answer, accepted, refused, refusal}
-use Rattle.format.specs.Day.{Day}
 use Rattle.format.specs.Block.{Given, intervalsGiven, dayGiven, fitDay, fitGiven, blockOf, recordsOf, writeOf}
-use Rattle.shortest.specs.Blocks.{Says}
-use Rattle.shortest.specs.Writer.{enough, inside, Writable, NoLonger, Because, length-unknown, list-short, outside, unsayable, no-room}
+use Rattle.shortest.specs.Writer.{enough, inside, Writable, Because, length-unknown, list-short, outside, unsayable, no-room}
 use Rattle.shortest.proofs.Least.{no-longer}
 use Rattle.shortest.proofs.Said.{fit-said}
 

@@ -1,28 +1,26 @@
 -- A day that an accepted block says is fit. Assumes nothing.
-use Prim.Native.Nat.{ℕ, zero, suc, _+_, _-_, _^_, _≤_, _<_}
-use mathlib.Core.Path.{_≡_, refl, sym, ap, _∙_, subst}
+use Prim.Native.Nat.{ℕ, zero, suc, _+_, _-_, _^_}
+use mathlib.Core.Path.{_≡_, refl, sym, ap, _∙_}
 use mathlib.Core.Logic.{_≢_}
 use mathlib.Core.Bool.{Bool, true, false, cond, _&&_, _||_, false≢true}
-use mathlib.Core.List.{List, [], _∷_, _++_, map}
+use mathlib.Core.List.{List, [], _∷_, map}
 use native.Mathlib.Omega.{arith}
 use lib.ListN.{length, getD, drop, replicate}
-use lib.Dec.{eqb, leb, ltb}
-use borrow.Author.Tests.{eqb-true, eqb-false, eq-eqb, ne-eqb, lt-ltb}
+use lib.Dec.{eqb, ltb}
+use borrow.Author.Tests.{eqb-true, eqb-false, ne-eqb, lt-ltb}
 use Rattle.ground.specs.Lists.{all}
-use Rattle.ground.proofs.Tests.{and-true, or-true}
+use Rattle.ground.proofs.Tests.{or-true}
 use Rattle.ground.proofs.Cases.{by, both}
 use Rattle.ground.proofs.Digits.{all-append}
-use Rattle.format.specs.Bytes.{fieldByte}
-use Rattle.format.specs.Texts.{isDescription}
-use Rattle.format.specs.Numbers.{isNumber, numberIn, that, orEmpty, numberOf, smallOf, noReason, reasonOf, decimals, valueOf}
+use Rattle.format.specs.Numbers.{isNumber, numberIn, that, numberOf, smallOf, noReason, reasonOf, decimals, valueOf}
 use Rattle.format.specs.Dates.{isDate, isTime, dateOf, timeOf, loadOf}
 use Rattle.format.specs.Quality.{standsAlone, takesMethod, noMethod, withMethod, qualityOf, isGraded, flagIn, methodIn, Mark}
-use Rattle.format.specs.Cut.{Lines, line, rest, lines, fields}
-use Rattle.format.specs.Records.{kindIn, dateIn, millionths, valuesIn, firstIn, lastIn, markAt, markIn, agrees, qualitiesOf, firstBroken}
+use Rattle.format.specs.Cut.{Lines, line, rest, fields}
+use Rattle.format.specs.Records.{kindIn, millionths, firstIn, lastIn, markAt, markIn, agrees, qualitiesOf, firstBroken}
 use Rattle.format.specs.Order.{Due, isVaried}
 use Rattle.format.specs.Faults.{brokenIn}
 use Rattle.format.specs.File.{after}
-use Rattle.format.specs.Day.{DayRows, runsFrom, daysFrom, coverOf, eachOf, valuesOf, updateIn, loadIn, Day, marksOf, dayOf}
+use Rattle.format.specs.Day.{runsFrom, coverOf, eachOf, valuesOf, Day, marksOf, dayOf}
 use Rattle.format.specs.Block.{fitQuality, fitReason, fitMark, fitValue, fitDay}
 use Rattle.format.specs.declared.Graded.{Graded}
 use Rattle.format.specs.declared.Graded.the-variants.{Of}
@@ -34,7 +32,7 @@ use Rattle.theorems.specs.Grammar.{Each, Record, IsRecord}
 use Rattle.theorems.proofs.Across.{together-unbroken}
 use Rattle.theorems.proofs.Fit.{Fit, fine-fit}
 use Rattle.shortest.specs.Blocks.{Passes, Says}
-use Rattle.shortest.proofs.Shapes.{number-is, said, Marking, Top, top-of, Stretch, stretch-of}
+use Rattle.shortest.proofs.Shapes.{number-is, said, Marking, Top, top-of, stretch-of}
 use Rattle.shortest.proofs.Steps.{fit-record, dayAt, headed}
 
 -- ---- single fields

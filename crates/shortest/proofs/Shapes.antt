@@ -1,11 +1,11 @@
 -- A 300 and a 400 taken apart into their fields, each with what its rule says of it. Assumes nothing.
-use Prim.Native.Nat.{ℕ, zero, suc, _+_, _≤_}
+use Prim.Native.Nat.{ℕ, zero, suc, _+_}
 use mathlib.Core.Path.{_≡_, refl, sym, ap, _∙_, subst}
 use mathlib.Core.Logic.{_≢_}
-use mathlib.Core.Bool.{Bool, true, false, _&&_, false≢true}
+use mathlib.Core.Bool.{true, _&&_, false≢true}
 use mathlib.Core.List.{List, [], _∷_, _++_, map}
 use native.Mathlib.Omega.{arith}
-use lib.ListN.{length, getD, take, drop, replicate}
+use lib.ListN.{length, replicate}
 use lib.Seq.{getD-append-add, take-at}
 use lib.Dec.{leb, eqb}
 use borrow.Author.Tests.{leb-true}
@@ -15,11 +15,11 @@ use Rattle.ground.proofs.Tests.{and-true}
 use Rattle.ground.proofs.Cases.{by}
 use Rattle.format.specs.Bytes.{fieldByte, areAll}
 use Rattle.format.specs.Texts.{isDescription}
-use Rattle.format.specs.Numbers.{isNumber, numberIn, that, numberOf, intervalOf, reasonOf, decimals, valueOf}
+use Rattle.format.specs.Numbers.{isNumber, numberIn, numberOf, intervalOf, reasonOf, decimals, valueOf}
 use Rattle.format.specs.Dates.{dateOf, timeOf, loadOf}
 use Rattle.format.specs.Quality.{qualityOf, isGraded, flagIn, methodIn, Mark}
 use Rattle.format.specs.Cut.{field}
-use Rattle.format.specs.Records.{isKind, indicatorOf, kindIn, rowOf, obeys, dateIn, millionths, valuesIn, firstIn, lastIn, markAt, markIn}
+use Rattle.format.specs.Records.{indicatorOf, kindIn, rowOf, obeys, dateIn, millionths, valuesIn, firstIn, lastIn, markAt, markIn}
 use Rattle.format.specs.Order.{isVaried}
 use Rattle.format.specs.Day.{updateIn, loadIn}
 use Rattle.format.specs.declared.Number.{Number}

@@ -1,22 +1,21 @@
 -- One record that is not at fault, by its kind: what it is, and what it does to the state. Assumes nothing.
-use Prim.Native.Nat.{ℕ, _+_, _≤_, _<_}
+use Prim.Native.Nat.{ℕ, _+_, _≤_}
 use mathlib.Core.Path.{_≡_, refl, sym, ap, _∙_, subst}
 use mathlib.Core.Logic.{_≢_}
-use mathlib.Core.Bool.{Bool, true, false, cond, _&&_, _||_, false≢true}
+use mathlib.Core.Bool.{true, cond, _&&_, _||_, false≢true}
 use mathlib.Core.List.{List, [], _∷_, map, head-eq-of-cons-eq}
-use native.Mathlib.Omega.{arith}
 use lib.ListN.{length}
 use lib.Dec.{eqb, leb}
-use borrow.Author.Tests.{eqb-true, ne-eqb, leb-true, leb-false, not-false}
+use borrow.Author.Tests.{eqb-true, ne-eqb, leb-true, not-false}
 use Rattle.ground.specs.Lists.{all}
 use Rattle.ground.proofs.Tests.{and-true}
 use Rattle.format.specs.Cut.{Lines, line, rest, lines, fields}
-use Rattle.format.specs.Records.{kindIn, intervalsIn, dateIn, firstIn, lastIn}
+use Rattle.format.specs.Records.{kindIn, intervalsIn, firstIn, lastIn}
 use Rattle.format.specs.Order.{Due, on300, on400, on500, afterOf}
-use Rattle.format.specs.Faults.{size, isLate, covers, isOff}
+use Rattle.format.specs.Faults.{size, covers, isOff}
 use Rattle.format.specs.File.{after}
 use Rattle.format.specs.Day.{rowAt, DayRows, runsFrom, daysFrom, Day, dayOf}
-use Rattle.theorems.specs.Grammar.{Record, IsRecord}
+use Rattle.theorems.specs.Grammar.{IsRecord}
 use Rattle.theorems.proofs.Bytes.{fields-some, fields-bytes}
 use Rattle.theorems.proofs.Rows.{Ok, is-record}
 use Rattle.theorems.proofs.Fit.{Fit, fine-fit}
@@ -27,10 +26,6 @@ module _ (st : Due) (r : List ℕ) (f : Fit st r) where
   fit-record k z e =
       is-record k (size st k) (fields r) z (fields-some r, fields-bytes r (f .bytes)) e
       (subst (λ (x : ℕ). Ok x (size st x) (fields r)) e (f .ok))
-
-  pub fit-later : kindIn (fields r) ≡ 300 → st .date < dateIn (fields r)
-  unfolding isLate
-  fit-later e = leb-false _ _ (rw e at (f .rises))
 
   pub fit-cover : kindIn (fields r) ≡ 400 → (firstIn (fields r) ≡ st .next) × (firstIn (fields r) ≤ lastIn (fields r)) × (lastIn (fields r) ≤ st .n)
   unfolding isOff covers

@@ -1,25 +1,25 @@
 -- What a reading leaves of an interval, its flag, method, reason and its description's start and length, is the interval's mark: the file's bytes there
 -- are the description's. Of every day of every file. Assumes nothing.
-use Prim.Native.Nat.{ℕ, zero, suc, _+_, _-_, _≤_, _<_}
+use Prim.Native.Nat.{ℕ, zero, suc, _+_, _-_}
 use mathlib.Core.Path.{_≡_, refl, sym, ap, ap₂, _∙_}
-use mathlib.Core.Bool.{Bool, true, false, cond}
+use mathlib.Core.Bool.{true, cond}
 use mathlib.Core.List.{List, [], _∷_, _++_, map, append-assoc}
 use native.Mathlib.Omega.{arith}
-use lib.ListN.{length, getD, take, drop, replicate, length-append}
-use lib.Seq.{take-append-seam, drop-append-add, drop-drop, drop-nil}
+use lib.ListN.{length, take, drop, replicate}
+use lib.Seq.{take-append-seam, drop-append-add, drop-drop}
 use lib.Dec.{eqb}
 use borrow.Author.Tests.{ne-eqb}
 use Rattle.ground.proofs.Cases.{by}
 use Rattle.format.specs.Quality.{Mark}
-use Rattle.format.specs.Cut.{Lines, line, rest, lines, fields, field, startOf}
-use Rattle.format.specs.Records.{kindIn, intervalsIn, firstIn, lastIn, markAt}
+use Rattle.format.specs.Cut.{Lines, line, rest, fields, field, startOf}
+use Rattle.format.specs.Records.{kindIn, firstIn, lastIn, markAt}
 use Rattle.format.specs.Order.{isVaried}
 use Rattle.format.specs.Answers.{Answer, accepted}
 use Rattle.format.specs.File.{checkOf}
-use Rattle.format.specs.Day.{Row, rowAt, DayRows, runsFrom, daysFrom, daysOf, coverOf, eachOf, tagAt, tagsOf, Day, marksOf, dayOf, Outcome, outcome, over, overFive, roomFor, readInto, readFirst, afterCheck, readOf}
+use Rattle.format.specs.Day.{rowAt, DayRows, runsFrom, daysOf, coverOf, eachOf, tagAt, tagsOf, Day, marksOf, dayOf, Outcome, outcome, over, overFive, roomFor, readInto, readFirst, afterCheck, readOf}
 use Rattle.format.specs.declared.Tag.{Tag}
-use Rattle.theorems.specs.Grammar.{Each, Record, join}
-use Rattle.theorems.proofs.Bytes.{bytesOf, bytes-lines, join-fields}
+use Rattle.theorems.specs.Grammar.{Record, join}
+use Rattle.theorems.proofs.Bytes.{bytesOf, join-fields}
 use Rattle.shortest.specs.Blocks.{markOf, Read}
 use Rattle.shortest.proofs.Steps.{dayAt}
 
@@ -107,8 +107,8 @@ read-is file number xs rows others d e f q t =
       tags = tagsOf rows;
       marks = t ∙ ap (λ (x : Day). x .marks) q;
       answers = λ vs ms r.
-        (let told : Day → Outcome = λ x. outcome (accepted (x .date ∷ x .n ∷ x .update ∷ x .load ∷ [])) (over (x .values) vs) (overFive (tagsOf rows) ms) in
-        let n : roomFor (rows .n) vs ms ≡ true = ap (λ (x : Day). roomFor (x .n) vs ms) q ∙ r in
-        let g : readFirst (rows ∷ others) vs ms ≡ told (dayOf rows) = rw n in
-        ap (λ (x : Answer). afterCheck x (readFirst (drop number (daysOf file)) vs ms) vs ms) e ∙ ap (λ (l : List DayRows). readFirst l vs ms) f ∙ g ∙ ap told q);
+          (let told : Day → Outcome = λ x. outcome (accepted (x .date ∷ x .n ∷ x .update ∷ x .load ∷ [])) (over (x .values) vs) (overFive (tagsOf rows) ms) in
+          let n : roomFor (rows .n) vs ms ≡ true = ap (λ (x : Day). roomFor (x .n) vs ms) q ∙ r in
+          let g : readFirst (rows ∷ others) vs ms ≡ told (dayOf rows) = rw n in
+          ap (λ (x : Answer). afterCheck x (readFirst (drop number (daysOf file)) vs ms) vs ms) e ∙ ap (λ (l : List DayRows). readFirst l vs ms) f ∙ g ∙ ap told q);
     }

@@ -1,27 +1,24 @@
 -- The texts that are written hold bytes that a field may hold, and meet the rules of their fields. Assumes nothing.
-use Prim.Native.Nat.{ℕ, zero, suc, _+_, _/_, _%_, _^_, _≤_, _<_}
-use mathlib.Core.Path.{_≡_, refl, sym, ap, _∙_}
-use mathlib.Core.Logic.{_≢_}
-use mathlib.Core.Bool.{Bool, true, false, not, _&&_, _||_, false≢true}
-use mathlib.Core.List.{List, [], _∷_, _++_}
+use Prim.Native.Nat.{ℕ, _/_, _%_, _^_, _≤_}
+use mathlib.Core.Path.{_≡_, refl}
+use mathlib.Core.Bool.{true, _&&_, false≢true}
+use mathlib.Core.List.{List, [], _∷_}
 use native.Mathlib.Omega.{arith}
-use lib.ListN.{length}
 use lib.Dec.{eqb, leb, ltb}
-use borrow.Author.Tests.{eq-eqb, ne-eqb, le-leb, leb-true, ltb-true, eqb-true}
+use borrow.Author.Tests.{ne-eqb, le-leb, leb-true}
 use Rattle.ground.specs.Lists.{all}
 use Rattle.ground.specs.Digits.{isDigit, padded, dec}
 use Rattle.ground.proofs.Tests.{and-true}
-use Rattle.ground.proofs.Cases.{by, both, same-or}
+use Rattle.ground.proofs.Cases.{by, same-or}
 use Rattle.ground.proofs.Digits.{all-append, all-padded, all-dec}
 use Rattle.format.specs.Bytes.{fieldByte, endSpace, isText}
 use Rattle.format.specs.Texts.{isDescription}
-use Rattle.format.specs.Numbers.{isNumber, numberIn, intervalOf, reasonOf, decimals, valueOf, noReason}
-use Rattle.format.specs.Dates.{isDate, isTime, dateOf, timeOf, loadOf}
-use Rattle.format.specs.Quality.{standsAlone, takesMethod, noMethod, qualityOf, isGraded, flagIn, methodIn, needsReason, across, Mark}
-use Rattle.format.specs.Records.{agrees, millionths}
-use Rattle.format.specs.Block.{fitQuality, fitReason, fitMark, fitValue, places, trimmed, fractionText, valueText, qualityText, reasonText, loadText}
-use Rattle.format.proofs.NumberText.{small-back, reason-back, date-back, time-back, load-back}
-use Rattle.format.proofs.ValueText.{value-back, fraction-none, fraction-some}
+use Rattle.format.specs.Numbers.{reasonOf, noReason}
+use Rattle.format.specs.Quality.{standsAlone, takesMethod, noMethod, qualityOf, needsReason, across, Mark}
+use Rattle.format.specs.Records.{agrees}
+use Rattle.format.specs.Block.{fitQuality, fitReason, fitMark, places, trimmed, fractionText, valueText, qualityText, reasonText, loadText}
+use Rattle.format.proofs.NumberText.{reason-back}
+use Rattle.format.proofs.ValueText.{fraction-none, fraction-some}
 use Rattle.format.proofs.MarkText.{alone-is, quality-alone, quality-graded, quality-back}
 use Rattle.theorems.proofs.Bytes.{all-map}
 use Rattle.shortest.proofs.Shapes.{Marking, said}

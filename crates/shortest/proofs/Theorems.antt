@@ -1,18 +1,16 @@
 -- The theorems of the block that is written for what was handed in: it reads back, and none is shorter. Assumes nothing.
 use Prim.Native.Nat.{ℕ, _+_, _≤_}
 use mathlib.Core.Path.{_≡_, refl}
-use mathlib.Core.Logic.{_≢_, _↔_}
 use mathlib.Core.List.{List, [], _∷_, _++_}
 use lib.ListN.{length}
 use Rattle.ground.specs.Text.{bytes}
 use Rattle.format.specs.Order.{Due, due, mayCome}
 use Rattle.format.specs.Faults.{isOpen}
-use Rattle.format.specs.Answers.{accepted, refused}
+use Rattle.format.specs.Answers.{accepted}
 use Rattle.format.specs.File.{most, checkOf}
-use Rattle.format.specs.Day.{Day}
-use Rattle.format.specs.Block.{Given, intervalsGiven, dayGiven, blockOf, recordsOf, writeOf}
+use Rattle.format.specs.Block.{Given, intervalsGiven, dayGiven, blockOf}
 use Rattle.shortest.specs.Blocks.{Says, Awaits, Leads, Stands}
-use Rattle.shortest.specs.Writer.{Writable, ReadsBack, NoLonger, Because}
+use Rattle.shortest.specs.Writer.{Writable, ReadsBack, NoLonger}
 use Rattle.shortest.proofs.Handed.{whole, date-some}
 use Rattle.shortest.proofs.Back.{back}
 use Rattle.shortest.proofs.Inside.{stands, closes}

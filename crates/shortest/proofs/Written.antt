@@ -1,24 +1,23 @@
 -- The written block as records: they are a block of the grammar, and their bytes are the block's. Assumes nothing.
-use Prim.Native.Nat.{ℕ, zero, suc, _+_, _-_, _^_, _≤_, _<_}
+use Prim.Native.Nat.{ℕ, zero, suc, _+_, _^_, _≤_, _<_}
 use mathlib.Core.Path.{_≡_, refl, sym, ap, _∙_, subst}
 use mathlib.Core.Logic.{_≢_}
-use mathlib.Core.Bool.{Bool, true, false, cond, _&&_, _||_, true≢false, false≢true}
-use mathlib.Core.List.{List, [], _∷_, _++_, map, append-assoc, append-nil, tail-eq-of-cons-eq}
+use mathlib.Core.Bool.{true, _||_}
+use mathlib.Core.List.{List, [], _∷_, _++_, map, append-assoc, tail-eq-of-cons-eq}
 use native.Mathlib.Omega.{arith}
-use lib.ListN.{length, getD, replicate, length-append, length-replicate, length-map, replicate-append-replicate}
-use lib.Dec.{eqb, leb, ltb}
-use borrow.Author.Tests.{eqb-true, eq-eqb, ne-eqb, leb-true, ltb-true}
+use lib.ListN.{length, replicate, length-append, length-replicate, length-map, replicate-append-replicate}
+use lib.Dec.{eqb, leb}
+use borrow.Author.Tests.{leb-true, ltb-true}
 use Rattle.ground.specs.Lists.{all}
 use Rattle.ground.specs.Text.{bytes}
 use Rattle.ground.specs.Digits.{padded, dec, isDigit}
 use Rattle.ground.specs.Runs.{Run, run, spell, proper}
 use Rattle.ground.proofs.Tests.{and-true}
-use Rattle.ground.proofs.Cases.{by}
 use Rattle.format.specs.Bytes.{fieldByte, areAll}
-use Rattle.format.specs.Numbers.{isNumber, numberIn, numberOf, intervalOf, decimals, valueOf}
-use Rattle.format.specs.Dates.{isDate, isTime, dateOf, timeOf, loadOf}
-use Rattle.format.specs.Quality.{qualityOf, flagIn, Mark, noMark}
-use Rattle.format.specs.Records.{isKind, indicatorOf, kindIn, rowOf, obeys, qualitiesOf, markAt, markIn, agrees, firstBroken, firstIn, lastIn}
+use Rattle.format.specs.Numbers.{numberOf, intervalOf}
+use Rattle.format.specs.Dates.{isDate, isTime}
+use Rattle.format.specs.Quality.{Mark}
+use Rattle.format.specs.Records.{isKind, indicatorOf, kindIn, rowOf, obeys, qualitiesOf, markIn, firstBroken, firstIn, lastIn}
 use Rattle.format.specs.Faults.{brokenIn}
 use Rattle.format.specs.Block.{fitMark, fitValue, valueText, qualityText, reasonText, loadText, comma, crlf, markText, valuesText, runText, coverText}
 use Rattle.format.specs.declared.Number.the-variants.{Is}
@@ -29,7 +28,7 @@ use Rattle.format.proofs.ValueText.{value-back}
 use Rattle.theorems.specs.Grammar.{Each, Record, join, text, Meets, IsRecord, Covers, Marked}
 use Rattle.theorems.proofs.Across.{unbroken-together}
 use Rattle.theorems.proofs.Ends.{Tidy, tidied, indicator-tidy}
-use Rattle.shortest.proofs.Shapes.{said, topRow, top-says, runRow, run-says}
+use Rattle.shortest.proofs.Shapes.{topRow, top-says, runRow, run-says}
 use Rattle.shortest.proofs.Texts.{Bytes, padded-bytes, dec-bytes, value-bytes, load-bytes, Carried, mark-said, mark-carried}
 
 -- ---- fields that meet their rules
@@ -76,12 +75,23 @@ module _ (t u l : ℕ) (vs : List ℕ) (q s x : List ℕ) (n : ℕ) (e : length 
   pub top-record : isDate t ≡ true → isTime u ≡ true → (eqb l 0 || isTime l) ≡ true → all fitValue vs ≡ true → Carried 300 q s x → IsRecord 300 n (topWritten t u l vs q s x)
   unfolding rowOf obeys kindIn indicatorOf isKind numberOf areAll isDigit fieldByte brokenIn qualitiesOf firstBroken
   top-record d h g v c =
-      let five : Good 300 (Quality ∷ Reason ∷ Description ∷ Time ∷ Load ∷ []) (q ∷ s ∷ x ∷ padded 14 u ∷ loadText l ∷ []) =
-      (c .quality-bytes, c .marking .graded,
-      (c .reason-bytes, c .marking .reasoned,
-      (c .marking .bytes, c .marking .described,
-      (padded-bytes 14 u, rw (time-back u h),
-      (load-bytes l, rw (load-back l g), tt))))) in
+      let five : Good 300 (Quality ∷ Reason ∷ Description ∷ Time ∷ Load ∷ []) (q ∷ s ∷ x ∷ padded 14 u ∷ loadText l ∷ []) = (
+        c .quality-bytes,
+        c .marking .graded,
+        (
+          c .reason-bytes,
+          c .marking .reasoned,
+          (
+            c .marking .bytes,
+            c .marking .described,
+            (
+              padded-bytes 14 u,
+              rw (time-back u h),
+              (load-bytes l, rw (load-back l g), tt),
+            ),
+          ),
+        ),
+      ) in
       let w : Good 300 (replicate n Value ++ (Quality ∷ Reason ∷ Description ∷ Time ∷ Load ∷ [])) (map valueText vs ++ (q ∷ s ∷ x ∷ padded 14 u ∷ loadText l ∷ [])) =
       rw (← e) (good-values 300 (Quality ∷ Reason ∷ Description ∷ Time ∷ Load ∷ []) (q ∷ s ∷ x ∷ padded 14 u ∷ loadText l ∷ []) vs v five) in
       good-record 300 n (Date ∷ (replicate n Value ++ (Quality ∷ Reason ∷ Description ∷ Time ∷ Load ∷ []))) three (padded 8 t ∷ (map valueText vs ++ (q ∷ s ∷ x ∷ padded 14 u ∷ loadText l ∷ [])))
@@ -153,9 +163,12 @@ fitting a [] p h b = tt
 fitting a (run zero m ∷ c) p h b = absurd (let z : ⊥ = omega (arith, leb-true 1 0 (and-true (leb 1 0) (proper c) p .0)) in z)
 fitting a (run (suc k) m ∷ c) p h b =
     let l : length (replicate (suc k) m ++ spell c) ≡ suc k + length (spell c) =
-    length-append (replicate (suc k) m) (spell c) ∙ ap (λ (i : ℕ). i + length (spell c)) (length-replicate (suc k) m) in
-    (omega arith, omega arith, and-true (fitMark m) (all fitMark (replicate k m ++ spell c)) h .0,
-    fitting (a + suc k) c (and-true (leb 1 (suc k)) (proper c) p .1) (drop-fit (suc k) m (spell c) h) (omega arith))
+    length-append (replicate (suc k) m) (spell c) ∙ ap (λ (i : ℕ). i + length (spell c)) (length-replicate (suc k) m) in (
+      omega arith,
+      omega arith,
+      and-true (fitMark m) (all fitMark (replicate k m ++ spell c)) h .0,
+      fitting (a + suc k) c (and-true (leb 1 (suc k)) (proper c) p .1) (drop-fit (suc k) m (spell c) h) (omega arith),
+    )
 
 interval-back : (i : ℕ) → i < 10 ^ 4 → intervalOf (dec i) ≡ Is i
 unfolding intervalOf
@@ -179,12 +192,23 @@ module _ (a k : ℕ) (m : Mark) (s : 1 ≤ k) (b : a + k < 10 ^ 4) (h : fitMark 
   run-record =
       let c = mark-carried 400 m h in
       good-record 400 0 (Interval ∷ Interval ∷ Quality ∷ Reason ∷ Description ∷ []) four (dec (a + 1) ∷ dec (a + k) ∷ qualityText (m .flag) (m .method) ∷ reasonText (m .reason) ∷ m .text ∷ [])
-      refl (λ z. omega arith) refl refl
-      (dec-bytes (a + 1), rw (interval-back (a + 1) (omega arith)),
-      (dec-bytes (a + k), rw (interval-back (a + k) b),
-      (c .quality-bytes, c .marking .graded,
-      (c .reason-bytes, c .marking .reasoned,
-      (c .marking .bytes, c .marking .described, tt)))))
+      refl (λ z. omega arith) refl refl (
+        dec-bytes (a + 1),
+        rw (interval-back (a + 1) (omega arith)),
+        (
+          dec-bytes (a + k),
+          rw (interval-back (a + k) b),
+          (
+            c .quality-bytes,
+            c .marking .graded,
+            (
+              c .reason-bytes,
+              c .marking .reasoned,
+              (c .marking .bytes, c .marking .described, tt),
+            ),
+          ),
+        ),
+      )
       (rw (run-says four (dec (a + 1)) (dec (a + k)) (qualityText (m .flag) (m .method)) (reasonText (m .reason)) (m .text) .mark, c .together))
 
 pub cover-records : (a : ℕ) (c : List (Run Mark)) → Fitting a c → Each (IsRecord 400 0) (coverWritten a c)

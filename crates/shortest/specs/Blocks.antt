@@ -10,7 +10,7 @@ use Rattle.ground.specs.Lists.{all}
 use Rattle.format.specs.Quality.{Mark}
 use Rattle.format.specs.Cut.{Lines, line, rest, lines, fields}
 use Rattle.format.specs.Records.{kindIn}
-use Rattle.format.specs.Answers.{Answer, accepted}
+use Rattle.format.specs.Answers.{accepted}
 use Rattle.format.specs.Order.{Due, begun, mayCome}
 use Rattle.format.specs.Faults.{isOpen, faultOf}
 use Rattle.format.specs.File.{after, walkOf, checkOf}
