@@ -1,21 +1,21 @@
 -- The rules across fields in 01's words are those that the meaning tests. Assumes nothing.
-use Prim.Native.Nat.{ℕ, zero, suc, _+_, _≤_}
+use Prim.Native.Nat.{ℕ, _+_, _≤_}
 use mathlib.Core.Path.{_≡_, refl}
-use mathlib.Core.Bool.{Bool, true, false, true≢false, false≢true, cond, not, _&&_, _||_}
+use mathlib.Core.Bool.{true, false, true≢false, not, _&&_}
 use mathlib.Core.List.{List, [], _∷_}
 use native.Mathlib.Omega.{arith}
 use lib.ListN.{length}
 use lib.Dec.{eqb}
-use borrow.Author.Tests.{eqb-true, eqb-false, eq-eqb, ne-eqb, not-true, not-false}
+use borrow.Author.Tests.{eqb-true, eqb-false, ne-eqb, not-true, not-false}
 use Rattle.format.specs.Numbers.{noReason}
 use Rattle.format.specs.Quality.{Mark, needsReason, across}
 use Rattle.format.specs.Records.{markAt, agrees, qualitiesOf, firstBroken}
 use Rattle.format.specs.Faults.{brokenIn}
 use Rattle.theorems.specs.Grammar.{Each, Record, Together}
-use Rattle.theorems.proofs.Tests.{by, and-true, and-both, or-true}
+use Rattle.theorems.proofs.Tests.{by, and-true}
 
 module _ (m : Mark) where
-  agrees-together : agrees m ≡ true → Together m
+  pub agrees-together : agrees m ≡ true → Together m
   unfolding agrees across needsReason
   agrees-together h =
       let described : ℕ = length (m .text) in
@@ -25,16 +25,16 @@ module _ (m : Mark) where
         s-reason = λ e r. absurd (true≢false (let z : (needsReason (m .flag) && eqb (m .reason) noReason) ≡ false = not-true _ (b .0) in rw (e, r) at z));
         f-reason = λ e r. absurd (true≢false (let z : (needsReason (m .flag) && eqb (m .reason) noReason) ≡ false = not-true _ (b .0) in rw (e, r) at z));
         nought = λ e. by (eqb described 0)
-          (λ t. absurd (true≢false (let z : (eqb (m .reason) 0 && eqb described 0) ≡ false = not-true _ (b .1) in rw (e, t) at z)))
-          (λ t. let f : described ≡ 0 → ⊥ = eqb-false _ _ t in omega arith);
+            (λ t. absurd (true≢false (let z : (eqb (m .reason) 0 && eqb described 0) ≡ false = not-true _ (b .1) in rw (e, t) at z)))
+            (λ t. let f : described ≡ 0 → ⊥ = eqb-false _ _ t in omega arith);
         v-neither = λ e.
-          (let z : (eqb (m .flag) 86 && not (eqb (m .reason) noReason && eqb described 0)) ≡ false = not-true _ (a .1) in
-          let y : not (eqb (m .reason) noReason && eqb described 0) ≡ false = rw e at z in
-          let w = and-true (eqb (m .reason) noReason) (eqb described 0) (not-false _ y) in
-          (eqb-true _ _ (w .0), eqb-true _ _ (w .1)));
+            (let z : (eqb (m .flag) 86 && not (eqb (m .reason) noReason && eqb described 0)) ≡ false = not-true _ (a .1) in
+            let y : not (eqb (m .reason) noReason && eqb described 0) ≡ false = rw e at z in
+            let w = and-true (eqb (m .reason) noReason) (eqb described 0) (not-false _ y) in
+            (eqb-true _ _ (w .0), eqb-true _ _ (w .1)));
       }
 
-  together-agrees : Together m → agrees m ≡ true
+  pub together-agrees : Together m → agrees m ≡ true
   unfolding agrees across needsReason
   together-agrees h =
       let described : ℕ = length (m .text) in

@@ -1,15 +1,15 @@
 -- Records and fields, written out and cut again, are the same; and what was cut, written out, is the same. Assumes nothing.
-use Prim.Native.Nat.{ℕ, zero, suc, _+_, _-_, _≤_, _<_}
-use mathlib.Core.Path.{_≡_, refl, sym, ap, ap₂, _∙_}
-use mathlib.Core.Bool.{Bool, true, false, true≢false, false≢true, not, _&&_}
+use Prim.Native.Nat.{ℕ, suc, _≤_}
+use mathlib.Core.Path.{_≡_, refl, ap, _∙_}
+use mathlib.Core.Bool.{Bool, true, false, true≢false, _&&_}
 use mathlib.Core.List.{List, [], _∷_, _++_}
 use native.Mathlib.Omega.{arith}
 use lib.ListN.{length}
-use lib.Dec.{eqb, leb, ltb}
-use borrow.Author.Tests.{eqb-true, eq-eqb, ne-eqb, le-leb, leb-true, not-true}
+use lib.Dec.{eqb, leb}
+use borrow.Author.Tests.{eqb-true, ne-eqb, leb-true}
 use Rattle.ground.specs.Lists.{all, spanOf, other}
 use Rattle.format.specs.Bytes.{plain, fieldByte}
-use Rattle.format.specs.Cut.{isCrlf, Lines, line, rest, onFirst, lines, onField, fields}
+use Rattle.format.specs.Cut.{isCrlf, Lines, line, rest, onFirst, lines, fields}
 use Rattle.theorems.specs.Grammar.{Each, join}
 use Rattle.theorems.proofs.Tests.{by, and-true, and-both}
 

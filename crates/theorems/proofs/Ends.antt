@@ -1,13 +1,13 @@
 -- A field that meets its rule neither begins nor ends with a space: a law for each rule, and so for each row of the table. Assumes nothing.
 use Prim.Native.Nat.{ℕ, zero, suc, _+_, _-_, _≤_, _<_}
-use mathlib.Core.Path.{_≡_, refl, sym, ap, _∙_}
-use mathlib.Core.Bool.{Bool, true, false, true≢false, false≢true, cond, not, _&&_, _||_}
+use mathlib.Core.Path.{_≡_, refl}
+use mathlib.Core.Bool.{Bool, true, false, false≢true, cond, not, _&&_}
 use mathlib.Core.List.{List, [], _∷_, _++_}
 use native.Mathlib.Omega.{arith}
 use native.Mathlib.Numerals.{add-one}
-use lib.ListN.{length, getD, take, drop, replicate}
+use lib.ListN.{length, getD, drop, replicate}
 use lib.Dec.{eqb, leb}
-use borrow.Author.Tests.{eqb-true, eq-eqb, ne-eqb, leb-true, not-true, not-false}
+use borrow.Author.Tests.{eqb-true, ne-eqb, leb-true, not-true, not-false}
 use Rattle.ground.specs.Lists.{all, spanOf, other, same}
 use Rattle.ground.specs.Text.{bytes}
 use Rattle.ground.specs.Digits.{isDigit}
@@ -16,7 +16,7 @@ use Rattle.format.specs.Texts.{isNmi, isSuffix, isStream, isParty, isConfigurat
 use Rattle.format.specs.Numbers.{isNumber, numberIn, that, orEmpty, numberOf, smallOf, leadingZero, intervalOf, lengthOf, isLength, noReason, reasonOf, point, before, behind, times, fractionOf, amount, decimals, valueOf, areDigits, isRead, isIndexRead}
 use Rattle.format.specs.Dates.{isDate, isTime, isMinute, dateOf, timeOf, createdOf, nextReadOf, loadOf, readTimeOf}
 use Rattle.format.specs.Quality.{standsAlone, takesMethod, noMethod, withMethod, qualityOf, isGraded}
-use Rattle.format.specs.Records.{isKind, indicatorOf, kindIn, row100, row200, row300, row400, row500, row250, row550, row900, rowOf, obeys}
+use Rattle.format.specs.Records.{isKind, indicatorOf, kindIn, rowOf, obeys}
 use Rattle.format.specs.declared.Number.{Number}
 use Rattle.format.specs.declared.Number.the-variants.{Is, Bad}
 use Rattle.format.specs.declared.Graded.{Graded}
@@ -29,7 +29,7 @@ use Rattle.theorems.proofs.Bytes.{all-map}
 
 -- ---- lists without a space
 
-all-at : (p : ℕ → Bool) (s : List ℕ) (i : ℕ) → all p s ≡ true → i < length s → p (getD s i 0) ≡ true
+pub all-at : (p : ℕ → Bool) (s : List ℕ) (i : ℕ) → all p s ≡ true → i < length s → p (getD s i 0) ≡ true
 all-at p [] i h l = absurd (let z : ⊥ = omega arith in z)
 all-at p (b ∷ s) zero h l = and-true (p b) (all p s) h .0
 all-at p (b ∷ s) (suc i) h l = all-at p s i (and-true (p b) (all p s) h .1) (omega arith)
@@ -364,10 +364,58 @@ tidied k n =
     (record {
       tail = _;
       is = refl;
-      tidy = (nmi, (configuration, (register, (suffix, (stream, (serial, (direction,
-      (register-read, (time, (quality, (reason, (description,
-      (register-read, (time, (quality, (reason, (description,
-      (value, (unit, (next-read, (time, (load, tt))))))))))))))))))))));
+      tidy = (
+        nmi,
+        (
+          configuration,
+          (
+            register,
+            (
+              suffix,
+              (
+                stream,
+                (
+                  serial,
+                  (
+                    direction,
+                    (
+                      register-read,
+                      (
+                        time,
+                        (
+                          quality,
+                          (
+                            reason,
+                            (
+                              description,
+                              (
+                                register-read,
+                                (
+                                  time,
+                                  (
+                                    quality,
+                                    (
+                                      reason,
+                                      (
+                                        description,
+                                        (value, (unit, (next-read, (time, (load, tt))))),
+                                      ),
+                                    ),
+                                  ),
+                                ),
+                              ),
+                            ),
+                          ),
+                        ),
+                      ),
+                    ),
+                  ),
+                ),
+              ),
+            ),
+          ),
+        ),
+      );
     }))
     λ e₆. by (eqb k 550)
     (λ e. rw (e₁, e₂, e₃, e₄, e₅, e₆, e) (record { tail = _; is = refl; tidy = (trans-code, (service-order, (trans-code, (service-order, tt)))) }))

@@ -1,17 +1,17 @@
 -- A record has no fault exactly when each test passes; the kinds by what may come; the marks of a cover. Assumes nothing.
-use Prim.Native.Nat.{ℕ, zero, suc, _+_, _-_, _≤_, _<_}
-use mathlib.Core.Path.{_≡_, refl, sym, ap, _∙_, subst}
-use mathlib.Core.Bool.{Bool, true, false, true≢false, false≢true, cond, not, _&&_, _||_}
+use Prim.Native.Nat.{ℕ, _≤_, _<_}
+use mathlib.Core.Path.{_≡_, refl, sym}
+use mathlib.Core.Bool.{Bool, true, false, true≢false, false≢true, not, _&&_, _||_}
 use mathlib.Core.List.{List, [], _∷_}
 use native.Mathlib.Omega.{arith}
 use lib.ListN.{length}
-use lib.Dec.{eqb, leb, ltb}
+use lib.Dec.{eqb, leb}
 use borrow.Author.Tests.{eqb-true, eqb-false, eq-eqb, ne-eqb, lt-leb, leb-true, leb-false, le-ltb, ltb-false, not-false}
 use Rattle.ground.specs.Lists.{all, spanOf, same}
 use Rattle.format.specs.Bytes.{plain}
 use Rattle.format.specs.Quality.{Mark, sameMark}
 use Rattle.format.specs.Cut.{fields}
-use Rattle.format.specs.Records.{kindIn, lastIn, markIn}
+use Rattle.format.specs.Records.{kindIn, markIn}
 use Rattle.format.specs.Order.{Due, between, mayCome, alikeWith, on400}
 use Rattle.format.specs.Faults.{_▹_, stop, f3, isOpen, f10, f4, size, f5, f6, f7, isLate, f8, isOff, f9, isAlike, f11, isElsewhere, f12, faultAt, faultOf}
 use Rattle.format.specs.declared.Fault.{Fault}
@@ -132,6 +132,25 @@ head x k h =
     by (between 3 5 x) (λ u. let w = in-range 3 5 x u in h900 (eqb-true k 900 e) (w .0) (w .1))
     (λ u. let w = in-range 7 8 x (or-true (between 3 5 x) (between 7 8 x) t u) in basic900 (eqb-true k 900 e) (w .0) (w .1)))
     λ e₈. absurd (false≢true (rw (e₁, e₂, e₃, e₄, e₅, e₆, e₇, e₈) at h))
+
+-- where one kind only may come
+pub record Only (x k : ℕ) : Type 0 where
+  pub at-0 : x ≡ 0 → k ≡ 100
+  pub at-1 : x ≡ 1 → k ≡ 200
+  pub at-2 : x ≡ 2 → k ≡ 300
+  pub at-6 : x ≡ 6 → k ≡ 250
+
+pub only : (x k : ℕ) → Head x k → Only x k
+only x k (h100 q z) = record { at-0 = λ e. omega arith; at-1 = λ e. omega arith; at-2 = λ e. omega arith; at-6 = λ e. omega arith }
+only x k (h200 q z) = record { at-0 = λ e. omega arith; at-1 = λ e. omega arith; at-2 = λ e. omega arith; at-6 = λ e. omega arith }
+only x k (more200 q z w) = record { at-0 = λ e. omega arith; at-1 = λ e. omega arith; at-2 = λ e. omega arith; at-6 = λ e. omega arith }
+only x k (h300 q z w) = record { at-0 = λ e. omega arith; at-1 = λ e. omega arith; at-2 = λ e. omega arith; at-6 = λ e. omega arith }
+only x k (h400 q z) = record { at-0 = λ e. omega arith; at-1 = λ e. omega arith; at-2 = λ e. omega arith; at-6 = λ e. omega arith }
+only x k (h500 q z w) = record { at-0 = λ e. omega arith; at-1 = λ e. omega arith; at-2 = λ e. omega arith; at-6 = λ e. omega arith }
+only x k (h250 q z w) = record { at-0 = λ e. omega arith; at-1 = λ e. omega arith; at-2 = λ e. omega arith; at-6 = λ e. omega arith }
+only x k (h550 q z) = record { at-0 = λ e. omega arith; at-1 = λ e. omega arith; at-2 = λ e. omega arith; at-6 = λ e. omega arith }
+only x k (h900 q z w) = record { at-0 = λ e. omega arith; at-1 = λ e. omega arith; at-2 = λ e. omega arith; at-6 = λ e. omega arith }
+only x k (basic900 q z w) = record { at-0 = λ e. omega arith; at-1 = λ e. omega arith; at-2 = λ e. omega arith; at-6 = λ e. omega arith }
 
 -- ---- single tests, both ways
 

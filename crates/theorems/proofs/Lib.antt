@@ -8,3 +8,12 @@ pub mod Fit
 pub mod Told
 pub mod Takes
 pub mod Format
+pub mod Cuts
+pub mod Links
+pub mod Reach
+pub mod First
+pub mod Days
+pub mod Once
+pub mod Meaning
+pub mod OneDay
+pub mod Blocks

@@ -1,28 +1,25 @@
 -- The fields of a record meet the rules of its row exactly when they are as many and none is at fault. Assumes nothing.
 use Prim.Native.Nat.{ℕ, zero, suc, _+_, _≤_, _<_}
-use mathlib.Core.Path.{_≡_, refl, sym, ap, _∙_, subst}
-use mathlib.Core.Bool.{Bool, true, false, true≢false, cond}
+use mathlib.Core.Path.{_≡_, refl, sym, ap, _∙_}
+use mathlib.Core.Bool.{true, false, true≢false, cond}
 use mathlib.Core.List.{List, [], _∷_}
 use native.Mathlib.Omega.{arith}
-use native.Mathlib.Numerals.{add-one}
 use lib.ListN.{length, getD, drop}
 use lib.Seq.{getD-drop, drop-drop}
-use Rattle.ground.specs.Lists.{all}
-use Rattle.format.specs.Bytes.{fieldByte, endSpace}
+use Rattle.format.specs.Bytes.{endSpace}
 use Rattle.format.specs.Records.{kindIn, rowOf, countOf, ruleOf, obeys}
 use Rattle.format.specs.Faults.{faultIn, brokenIn}
-use Rattle.format.specs.declared.Fault.{Fault}
 use Rattle.format.specs.declared.Fault.the-variants.{Fine, Stop}
 use Rattle.format.specs.declared.Rule.{Rule}
 use Rattle.format.specs.declared.Rule.the-variants.{Indicator}
-use Rattle.theorems.specs.Grammar.{Each, Record, Clean, Meets, IsRecord}
+use Rattle.theorems.specs.Grammar.{Each, Record, Meets, IsRecord}
 use Rattle.theorems.proofs.Tests.{by}
 use Rattle.theorems.proofs.Bytes.{Bytes}
 use Rattle.theorems.proofs.Ends.{Tidy, tidied, indicator-tidy}
 use Rattle.theorems.proofs.Across.{unbroken-together, together-unbroken}
 
 -- rules, met one for one
-abbrev Obeyed : ℕ → List Rule → Record → Type 0
+abbrev pub Obeyed : ℕ → List Rule → Record → Type 0
 Obeyed k [] [] = Unit {0}
 Obeyed k [] (f ∷ fs) = ⊥
 Obeyed k (u ∷ us) [] = ⊥
@@ -63,7 +60,7 @@ meets-fine k n o i (u ∷ us) (f ∷ fs) e h =
 
 -- ---- the count, the bytes, the ends
 
-meets-length : (k : ℕ) (us : List Rule) (fs : Record) → Meets k us fs → length fs ≡ length us
+pub meets-length : (k : ℕ) (us : List Rule) (fs : Record) → Meets k us fs → length fs ≡ length us
 meets-length k [] [] h = refl
 meets-length k [] (f ∷ fs) h = absurd h
 meets-length k (u ∷ us) [] h = absurd h
@@ -84,11 +81,17 @@ meets-at k (u ∷ us) (f ∷ fs) zero h l = h .1
 meets-at k (u ∷ us) (f ∷ fs) (suc i) h l = meets-at k us fs i (h .2) (omega arith)
 
 -- fields that obey rules which leave no space at an end
-obeyed-meets : (k : ℕ) (us : List Rule) (fs : Record) → Each Tidy us → Obeyed k us fs → Bytes fs → Meets k us fs
-obeyed-meets k [] [] t h b = tt
-obeyed-meets k [] (f ∷ fs) t h b = h
-obeyed-meets k (u ∷ us) [] t h b = h
-obeyed-meets k (u ∷ us) (f ∷ fs) t h b = ((b .0, t .0 k f (h .0)), h .0, obeyed-meets k us fs (t .1) (h .1) (b .1))
+obeyed-tidy : (k : ℕ) (us : List Rule) (fs : Record) → Each Tidy us → Obeyed k us fs → Each (λ f. endSpace f ≡ false) fs
+obeyed-tidy k [] [] t h = tt
+obeyed-tidy k [] (f ∷ fs) t h = absurd h
+obeyed-tidy k (u ∷ us) [] t h = absurd h
+obeyed-tidy k (u ∷ us) (f ∷ fs) t h = (t .0 k f (h .0), obeyed-tidy k us fs (t .1) (h .1))
+
+obeyed-meets : (k : ℕ) (us : List Rule) (fs : Record) → Obeyed k us fs → Bytes fs → Each (λ f. endSpace f ≡ false) fs → Meets k us fs
+obeyed-meets k [] [] h b s = tt
+obeyed-meets k [] (f ∷ fs) h b s = h
+obeyed-meets k (u ∷ us) [] h b s = h
+obeyed-meets k (u ∷ us) (f ∷ fs) h b s = ((b .0, s .0), h .0, obeyed-meets k us fs (h .1) (b .1) (s .1))
 
 -- ---- a record
 
@@ -100,16 +103,23 @@ Fields fs = (1 ≤ length fs) × Bytes fs
 abbrev pub Ok : ℕ → ℕ → Record → Type 0
 Ok k n fs = (length fs ≡ countOf k n) × (faultIn k n 0 0 fs ≡ Fine) × (brokenIn k n fs ≡ 0)
 
+-- the rules imply that no field of a record begins or ends with a space
+pub no-end-space : (k n : ℕ) (fs : Record) → (kindIn fs ≡ 0 → ⊥) → Obeyed k (rowOf k n) fs → Each (λ f. endSpace f ≡ false) fs
+no-end-space k n [] z h = tt
+no-end-space k n (f ∷ fs) z h =
+    let w = tidied k n in
+    let d : Obeyed k (Indicator ∷ w .tail) (f ∷ fs) = rw (w .is) at h in
+    (indicator-tidy f fs z, obeyed-tidy k (w .tail) fs (w .tidy) (d .1))
+
 pub is-record : (k n : ℕ) (fs : Record) → (k ≡ 0 → ⊥) → Fields fs → kindIn fs ≡ k → Ok k n fs → IsRecord k n fs
 unfolding countOf
-is-record k n [] z h e o = absurd (let x : 1 ≤ 0 = h .0 in let y : ⊥ = omega arith in y)
-is-record k n (f ∷ fs) z h e o =
-    let w = tidied k n in
-    let d : Obeyed k (rowOf k n) (f ∷ fs) = fine-obeyed k n 0 0 (rowOf k n) (f ∷ fs) refl (o .0) (o .1) in
-    let d₁ : Obeyed k (Indicator ∷ w .tail) (f ∷ fs) = rw (w .is) at d in
-    let m : Meets k (Indicator ∷ w .tail) (f ∷ fs) =
-    ((h .1 .0, indicator-tidy f fs (λ x. z (sym e ∙ x))), d₁ .0, obeyed-meets k (w .tail) fs (w .tidy) (d₁ .1) (h .1 .1)) in
-    record { indicator = e; meets = rw (w .is) m; together = unbroken-together k (f ∷ fs) n (o .2) }
+is-record k n fs z h e o =
+    let d : Obeyed k (rowOf k n) fs = fine-obeyed k n 0 0 (rowOf k n) fs refl (o .0) (o .1) in
+    record {
+      indicator = e;
+      meets = obeyed-meets k (rowOf k n) fs d (h .1) (no-end-space k n fs (λ x. z (sym e ∙ x)) d);
+      together = unbroken-together k fs n (o .2);
+    }
 
 pub record-fields : (k n : ℕ) (fs : Record) → IsRecord k n fs → Fields fs
 record-fields k n [] r =

@@ -1,24 +1,24 @@
 -- What the rules of single fields bring with them: a date and a time are not 0, a version is 12 or 13, a 200 has intervals. Assumes nothing.
-use Prim.Native.Nat.{ℕ, zero, suc, _+_, _/_, _≤_, _<_}
-use mathlib.Core.Path.{_≡_, refl, sym, ap, _∙_}
+use Prim.Native.Nat.{ℕ, _/_, _≤_}
+use mathlib.Core.Path.{_≡_, refl, sym, _∙_}
 use mathlib.Core.Logic.{_⊎_, inl, inr}
-use mathlib.Core.Bool.{Bool, true, false, true≢false, false≢true, cond, not, _&&_, _||_}
-use mathlib.Core.List.{List, [], _∷_}
+use mathlib.Core.Bool.{Bool, true, false, true≢false, false≢true}
+use mathlib.Core.List.{List}
 use native.Mathlib.Omega.{arith}
-use lib.ListN.{length, getD}
+use lib.ListN.{length}
 use lib.Dec.{eqb}
 use borrow.Author.Tests.{eqb-true, eqb-false, eq-eqb, ne-eqb}
 use Rattle.ground.specs.Lists.{same}
 use Rattle.ground.specs.Text.{bytes}
 use Rattle.format.specs.Texts.{versionOf}
-use Rattle.format.specs.Numbers.{isNumber, numberIn, that, orEmpty, numberOf, smallOf, isLength, lengthOf, intervalsOf}
+use Rattle.format.specs.Numbers.{isNumber, numberIn, that, numberOf, smallOf, isLength, lengthOf, intervalsOf}
 use Rattle.format.specs.Dates.{isDay, isDate, isTime, dateOf, timeOf, readTimeOf}
 use Rattle.format.specs.Cut.{field}
 use Rattle.format.specs.Records.{rowOf, obeys, versionIn, intervalsIn, dateIn, readTimeIn}
 use Rattle.format.specs.Faults.{onDay}
 use Rattle.format.specs.declared.Number.{Number}
 use Rattle.format.specs.declared.Number.the-variants.{Is, Bad}
-use Rattle.theorems.specs.Grammar.{Record, Meets, IsRecord, Extra}
+use Rattle.theorems.specs.Grammar.{Record, IsRecord, Extra}
 use Rattle.theorems.proofs.Tests.{by, or-true, or-right}
 use Rattle.theorems.proofs.Rows.{meets-at}
 
@@ -88,9 +88,11 @@ module _ (t : ℕ) (fs : Record) (h : IsRecord 500 0 fs) where
 
   pub on-day : onDay t (readTimeIn fs) ≡ true → Extra t fs
   unfolding onDay
-  on-day d =
-      (h, λ l. let s : 1 ≤ readTimeIn fs = time-some l in
-      eqb-true _ _ (or-true (eqb (readTimeIn fs) 0) (eqb (readTimeIn fs / 1000000) t) d (ne-eqb (readTimeIn fs) 0 (λ z. omega arith))))
+  on-day d = (
+    h,
+    λ l. let s : 1 ≤ readTimeIn fs = time-some l in
+        eqb-true _ _ (or-true (eqb (readTimeIn fs) 0) (eqb (readTimeIn fs / 1000000) t) d (ne-eqb (readTimeIn fs) 0 (λ z. omega arith))),
+  )
 
 pub day-on : (t : ℕ) (fs : Record) → Extra t fs → onDay t (readTimeIn fs) ≡ true
 unfolding onDay

@@ -1,11 +1,11 @@
 -- What the grammar writes is taken: by induction on each list of the grammar, with what follows it as a function of the state. Assumes nothing.
-use Prim.Native.Nat.{ℕ, zero, suc, _+_, _≤_, _<_}
-use mathlib.Core.Path.{_≡_, refl, sym, ap, _∙_, subst}
-use mathlib.Core.Bool.{Bool, true, false, cond, not, _&&_, _||_}
+use Prim.Native.Nat.{ℕ, _+_, _≤_, _<_}
+use mathlib.Core.Path.{_≡_, refl, sym, _∙_, subst}
+use mathlib.Core.Bool.{Bool, true, false, cond}
 use mathlib.Core.List.{List, [], _∷_, _++_}
 use native.Mathlib.Omega.{arith}
 use lib.ListN.{length}
-use lib.Dec.{eqb, leb}
+use lib.Dec.{eqb}
 use borrow.Author.Tests.{eqb-true, eq-eqb, ne-eqb, le-leb, lt-leb}
 use Rattle.ground.specs.Lists.{all}
 use Rattle.format.specs.Bytes.{plain}
@@ -13,7 +13,7 @@ use Rattle.format.specs.Cut.{lines, fields}
 use Rattle.format.specs.Records.{kindIn, versionIn, intervalsIn, dateIn, firstIn, lastIn}
 use Rattle.format.specs.Order.{Due, begun, between, mayCome, isVaried, alikeWith, on100, on200, on300, on400, on500, on250, on550, afterOf}
 use Rattle.format.specs.Faults.{isOpen, size, isLate, covers, isOff, isAlike, isElsewhere}
-use Rattle.format.specs.Answers.{Answer, accepted}
+use Rattle.format.specs.Answers.{accepted}
 use Rattle.format.specs.File.{walkOf}
 use Rattle.theorems.specs.Grammar.{Each, Rising, Record, join, text, IsRecord, Block, Covers, Marked, Extra, IsBlock, datesOf, Channel, IsChannel, Reading, IsReading, Content, nem12, nem13, IsContent, blocksThen, channelsThen, readingsThen, contentThen, channelsIn, blocksIn, daysIn, InFormat}
 use Rattle.theorems.proofs.Tests.{by, or-right}

@@ -1,26 +1,26 @@
 -- What is accepted is written by the grammar: by induction on the records, with a claim for each state. Assumes nothing.
-use Prim.Native.Nat.{ℕ, zero, suc, _+_, _≤_, _<_}
+use Prim.Native.Nat.{ℕ, suc, _+_, _≤_, _<_}
 use mathlib.Core.Path.{_≡_, refl, sym, ap, _∙_, subst}
-use mathlib.Core.Bool.{Bool, true, false, true≢false, cond, not, _&&_}
+use mathlib.Core.Bool.{Bool, true, false, true≢false, cond, _&&_}
 use mathlib.Core.List.{List, [], _∷_, _++_}
 use native.Mathlib.Omega.{arith}
 use lib.ListN.{length}
 use lib.Dec.{eqb, leb}
 use borrow.Author.Tests.{eqb-true, eqb-false, eq-eqb, ne-eqb, leb-true, leb-false, not-false}
 use Rattle.format.specs.Cut.{Lines, line, rest, lines, fields}
-use Rattle.format.specs.Records.{kindIn, versionIn, intervalsIn, dateIn, firstIn, lastIn, readTimeIn}
+use Rattle.format.specs.Records.{kindIn, versionIn, dateIn, firstIn, lastIn, readTimeIn}
 use Rattle.format.specs.Order.{Due, begun, isVaried, alikeWith, on100, on200, on300, on400, on500, on250, on550, on900, afterOf}
 use Rattle.format.specs.Faults.{isLate, covers, isOff, isAlike, onDay, isElsewhere, faultOf}
-use Rattle.format.specs.Answers.{Answer, accepted, refused}
+use Rattle.format.specs.Answers.{accepted, refused}
 use Rattle.format.specs.File.{after, orGoOn, walkOf}
 use Rattle.format.specs.declared.Fault.{Fault}
 use Rattle.format.specs.declared.Fault.the-variants.{Fine, Stop}
-use Rattle.theorems.specs.Grammar.{Each, Rising, Record, text, IsRecord, Block, Covers, Extra, IsBlock, datesOf, Channel, IsChannel, Reading, IsReading, Content, nem12, nem13, blocksThen, channelsThen, readingsThen, blocksIn, InFormat}
+use Rattle.theorems.specs.Grammar.{Each, Rising, Record, text, IsRecord, Block, Covers, Extra, IsBlock, datesOf, Channel, IsChannel, Reading, IsReading, nem12, nem13, blocksThen, channelsThen, readingsThen, blocksIn, InFormat}
 use Rattle.theorems.proofs.Tests.{by, and-true}
 use Rattle.theorems.proofs.Bytes.{bytesOf, bytes-lines, join-fields, fields-some, fields-bytes}
 use Rattle.theorems.proofs.Rows.{Fields, Ok, is-record}
 use Rattle.theorems.proofs.Says.{intervals-some, version-13, on-day}
-use Rattle.theorems.proofs.Fit.{Fit, fine-fit, Head, h100, h200, more200, h300, h400, h500, h250, h550, h900, basic900, head, free-of, Apart, apart-back}
+use Rattle.theorems.proofs.Fit.{Fit, fine-fit, Head, h100, h200, more200, h300, h400, h500, h250, h550, h900, basic900, head, only, free-of, Apart, apart-back}
 
 not-refused : {A : Type 0} (n p k f v c d : ℕ) → refused n p k f ≡ accepted (v ∷ c ∷ d ∷ []) → A
 not-refused n p k f v c d e = absurd (let z : true ≡ false = cc in true≢false z)
@@ -68,9 +68,10 @@ fit-rec st r k f e z n =
 
 fit-300 : (st : Due) (r : List ℕ) → Fit st r → kindIn (fields r) ≡ 300 → IsRecord 300 (st .n) (fields r) × (st .date < dateIn (fields r))
 unfolding isLate
-fit-300 st r f e =
-    (is-record 300 (st .n) (fields r) (λ z. omega arith) (fit-fields st r f) e (subst (λ (x : ℕ). Ok x (cond (eqb x 300) (st .n) 0) (fields r)) e (f .ok)),
-    leb-false _ _ (rw e at (f .rises)))
+fit-300 st r f e = (
+  is-record 300 (st .n) (fields r) (λ z. omega arith) (fit-fields st r f) e (subst (λ (x : ℕ). Ok x (cond (eqb x 300) (st .n) 0) (fields r)) e (f .ok)),
+  leb-false _ _ (rw e at (f .rises)),
+)
 
 row-bytes : (r : List ℕ) (ls : Lines) (rows : List Record) → bytesOf ls ≡ text rows → bytesOf (line r ls) ≡ text (fields r ∷ rows)
 unfolding text
@@ -442,18 +443,6 @@ module _ (st : Due) (p k v c d : ℕ) (r : List ℕ) (ls : Lines) (ih : Told ls 
       (λ t. no-runs st (line r ls) v c d i (free-of st (kindIn (fields r)) (f .free) (eqb-false _ _ t) (i .in-v))
       (ext-on (i .some) (omega (arith, i .in-v)) (omega (arith, i .in-v)) (λ z. eqb-false _ _ t) h))
 
-  first-on : 1 ≤ st .n → st .expect ≡ 2 → Head (st .expect) (kindIn (fields r)) → Firsts st (line r ls) v c d
-  first-on s x (h100 q z) = absurd (let y : ⊥ = omega arith in y)
-  first-on s x (h200 q z) = absurd (let y : ⊥ = omega arith in y)
-  first-on s x (more200 q z w) = absurd (let y : ⊥ = omega arith in y)
-  first-on s x (h300 q z w) = by-300 st p k v c d r ls ih f e s q
-  first-on s x (h400 q z) = absurd (let y : ⊥ = omega arith in y)
-  first-on s x (h500 q z w) = absurd (let y : ⊥ = omega arith in y)
-  first-on s x (h250 q z w) = absurd (let y : ⊥ = omega arith in y)
-  first-on s x (h550 q z) = absurd (let y : ⊥ = omega arith in y)
-  first-on s x (h900 q z w) = absurd (let y : ⊥ = omega arith in y)
-  first-on s x (basic900 q z w) = absurd (let y : ⊥ = omega arith in y)
-
   seven-on : 7 ≤ st .expect → st .expect ≤ 8 → Head (st .expect) (kindIn (fields r)) → (kindIn (fields r) ≡ 550 → st .expect ≡ 7 → ⊥)
       → (rows : List Record) × Basics (st .version) (st .channels) (st .days) v c d rows × (bytesOf (line r ls) ≡ text rows)
   seven-on a b (h100 q z) n = absurd (let y : ⊥ = omega arith in y)
@@ -481,7 +470,7 @@ all-told (line r ls) v c d =
     record {
       ext = λ st p k s a b x e. (let w = told-line st p k v c d r ls e in ext-on st (p + length r + 2) (k + 1) v c d r ls ih (w .0) (w .1) s a b (λ z y. x z) (head _ _ (w .0 .may)));
       under = λ st p k i e. (let w = told-line st p k v c d r ls e in under-on st (p + length r + 2) (k + 1) v c d r ls ih (w .0) (w .1) i (head _ _ (w .0 .may)));
-      first = λ st p k s x e. (let w = told-line st p k v c d r ls e in first-on st (p + length r + 2) (k + 1) v c d r ls ih (w .0) (w .1) s x (head _ _ (w .0 .may)));
+      first = λ st p k s x e. (let w = told-line st p k v c d r ls e in by-300 st (p + length r + 2) (k + 1) v c d r ls ih (w .0) (w .1) s (only _ _ (head _ _ (w .0 .may)) .at-2 x));
       seven = λ st p k x e. (let w = told-line st p k v c d r ls e in
           by (eqb (kindIn (fields r)) 550)
           (λ t. by-550 st (p + length r + 2) (k + 1) v c d r ls ih (w .0) (w .1) (eqb-true _ _ t))
@@ -493,87 +482,56 @@ all-told (line r ls) v c d =
 
 channels-on : (st : Due) (p k v c d : ℕ) (ls : Lines) → st .expect ≡ 1 → walkOf st p k ls ≡ accepted (v ∷ c ∷ d ∷ []) → Chans st ls v c d
 channels-on st p k v c d (rest t) x e = absurd (told-open st p k v c d t (λ z. omega arith) e)
-channels-on st p k v c d (line r ls) x e = let w = told-line st p k v c d r ls e in go (w .0) (w .1) (head _ _ (w .0 .may))
-  where
-    go : Fit st r → walkOf (after st r) (p + length r + 2) (k + 1) ls ≡ accepted (v ∷ c ∷ d ∷ []) → Head (st .expect) (kindIn (fields r)) → Chans st (line r ls) v c d
-    go f h (h100 q z) = absurd (let y : ⊥ = omega arith in y)
-    go f h (h200 q z) = by-200 st (p + length r + 2) (k + 1) v c d r ls (all-told ls v c d) f h q
-    go f h (more200 q z w) = absurd (let y : ⊥ = omega arith in y)
-    go f h (h300 q z w) = absurd (let y : ⊥ = omega arith in y)
-    go f h (h400 q z) = absurd (let y : ⊥ = omega arith in y)
-    go f h (h500 q z w) = absurd (let y : ⊥ = omega arith in y)
-    go f h (h250 q z w) = absurd (let y : ⊥ = omega arith in y)
-    go f h (h550 q z) = absurd (let y : ⊥ = omega arith in y)
-    go f h (h900 q z w) = absurd (let y : ⊥ = omega arith in y)
-    go f h (basic900 q z w) = absurd (let y : ⊥ = omega arith in y)
+channels-on st p k v c d (line r ls) x e =
+    let w = told-line st p k v c d r ls e in
+    by-200 st (p + length r + 2) (k + 1) v c d r ls (all-told ls v c d) (w .0) (w .1) (only _ _ (head _ _ (w .0 .may)) .at-1 x)
 
 readings-on : (st : Due) (p k v c d : ℕ) (ls : Lines) → st .expect ≡ 6 → walkOf st p k ls ≡ accepted (v ∷ c ∷ d ∷ [])
     → (rows : List Record) × (b : Basics (st .version) (st .channels) (st .days) v c d rows) × (bytesOf ls ≡ text rows) × (1 ≤ length (b .readings))
 readings-on st p k v c d (rest t) x e = absurd (told-open st p k v c d t (λ z. omega arith) e)
-readings-on st p k v c d (line r ls) x e = let w = told-line st p k v c d r ls e in go (w .0) (w .1) (head _ _ (w .0 .may))
-  where
-    go : Fit st r → walkOf (after st r) (p + length r + 2) (k + 1) ls ≡ accepted (v ∷ c ∷ d ∷ []) → Head (st .expect) (kindIn (fields r))
-        → (rows : List Record) × (b : Basics (st .version) (st .channels) (st .days) v c d rows) × (bytesOf (line r ls) ≡ text rows) × (1 ≤ length (b .readings))
-    go f h (h100 q z) = absurd (let y : ⊥ = omega arith in y)
-    go f h (h200 q z) = absurd (let y : ⊥ = omega arith in y)
-    go f h (more200 q z w) = absurd (let y : ⊥ = omega arith in y)
-    go f h (h300 q z w) = absurd (let y : ⊥ = omega arith in y)
-    go f h (h400 q z) = absurd (let y : ⊥ = omega arith in y)
-    go f h (h500 q z w) = absurd (let y : ⊥ = omega arith in y)
-    go f h (h250 q z w) = by-250 st (p + length r + 2) (k + 1) v c d r ls (all-told ls v c d) f h q
-    go f h (h550 q z) = absurd (let y : ⊥ = omega arith in y)
-    go f h (h900 q z w) = absurd (let y : ⊥ = omega arith in y)
-    go f h (basic900 q z w) = absurd (let y : ⊥ = omega arith in y)
+readings-on st p k v c d (line r ls) x e =
+    let w = told-line st p k v c d r ls e in
+    by-250 st (p + length r + 2) (k + 1) v c d r ls (all-told ls v c d) (w .0) (w .1) (only _ _ (head _ _ (w .0 .may)) .at-6 x)
 
 whole : (v c d : ℕ) (ls : Lines) → length (bytesOf ls) ≤ 1048576 → walkOf begun 0 0 ls ≡ accepted (v ∷ c ∷ d ∷ []) → InFormat (bytesOf ls) v c d
 whole v c d (rest t) m e = absurd (told-open begun 0 0 v c d t (λ z. omega arith) e)
-whole v c d (line r ls) m e = let w = told-line begun 0 0 v c d r ls e in go (w .0) (w .1) (head _ _ (w .0 .may))
-  where
-    go : Fit begun r → walkOf (after begun r) (0 + length r + 2) (0 + 1) ls ≡ accepted (v ∷ c ∷ d ∷ []) → Head 0 (kindIn (fields r)) → InFormat (bytesOf (line r ls)) v c d
-    go f h (h100 q z) =
-        let h₁ : walkOf (on100 begun (fields r)) (0 + length r + 2) (0 + 1) ls ≡ accepted (v ∷ c ∷ d ∷ []) = rw (next-100 begun r q) at h in
-        let g = fit-rec begun r 100 f q (λ z. omega arith) (λ z. omega arith) in
-        by (eqb (versionIn (fields r)) 12)
-        (λ t.
-        let u = channels-on (on100 begun (fields r)) (0 + length r + 2) (0 + 1) v c d ls (rw t) h₁ in
-        record {
-          header = fields r;
-          content = nem12 (u .channels);
-          last = u .last;
-          is-header = g;
-          is-last = u .last-ok;
-            short = m;
-          version = u .version;
-          is-content = (u .version ∙ eqb-true _ _ t, u .some, u .each);
-          bytes = row-bytes r ls (channelsThen (u .channels) (u .last ∷ [])) (u .bytes);
-          channels = omega (arith, u .channel-count);
-          days = omega (arith, u .day-count);
-        })
-        (λ t.
-        let w = readings-on (on100 begun (fields r)) (0 + length r + 2) (0 + 1) v c d ls (rw t) h₁ in
-        let u = w .1 in
-        record {
-          header = fields r;
-          content = nem13 (u .readings);
-          last = u .last;
-          is-header = g;
-          is-last = u .last-ok;
-            short = m;
-          version = u .version;
-          is-content = (u .version ∙ version-13 (fields r) g (eqb-false _ _ t), w .3, u .each);
-          bytes = row-bytes r ls (readingsThen (u .readings) (u .last ∷ [])) (w .2 ∙ ap text (u .is));
-          channels = omega (arith, u .count);
-          days = u .no-days;
-        })
-    go f h (h200 q z) = absurd (let y : ⊥ = omega arith in y)
-    go f h (more200 q z w) = absurd (let y : ⊥ = omega arith in y)
-    go f h (h300 q z w) = absurd (let y : ⊥ = omega arith in y)
-    go f h (h400 q z) = absurd (let y : ⊥ = omega arith in y)
-    go f h (h500 q z w) = absurd (let y : ⊥ = omega arith in y)
-    go f h (h250 q z w) = absurd (let y : ⊥ = omega arith in y)
-    go f h (h550 q z) = absurd (let y : ⊥ = omega arith in y)
-    go f h (h900 q z w) = absurd (let y : ⊥ = omega arith in y)
-    go f h (basic900 q z w) = absurd (let y : ⊥ = omega arith in y)
+whole v c d (line r ls) m e =
+    let t = told-line begun 0 0 v c d r ls e in
+    let q : kindIn (fields r) ≡ 100 = only _ _ (head _ _ (t .0 .may)) .at-0 refl in
+    let h : walkOf (on100 begun (fields r)) (0 + length r + 2) (0 + 1) ls ≡ accepted (v ∷ c ∷ d ∷ []) = rw (next-100 begun r q) at (t .1) in
+    let g = fit-rec begun r 100 (t .0) q (λ z. omega arith) (λ z. omega arith) in
+    by (eqb (versionIn (fields r)) 12)
+    (λ x.
+    let u = channels-on (on100 begun (fields r)) (0 + length r + 2) (0 + 1) v c d ls (rw x) h in
+    record {
+      header = fields r;
+      content = nem12 (u .channels);
+      last = u .last;
+      is-header = g;
+      is-content = (u .version ∙ eqb-true _ _ x, u .some, u .each);
+      is-last = u .last-ok;
+      bytes = row-bytes r ls (channelsThen (u .channels) (u .last ∷ [])) (u .bytes);
+      short = m;
+      version = u .version;
+      channels = omega (arith, u .channel-count);
+      days = omega (arith, u .day-count);
+    })
+    (λ x.
+    let w = readings-on (on100 begun (fields r)) (0 + length r + 2) (0 + 1) v c d ls (rw x) h in
+    let u = w .1 in
+    record {
+      header = fields r;
+      content = nem13 (u .readings);
+      last = u .last;
+      is-header = g;
+      is-content = (u .version ∙ version-13 (fields r) g (eqb-false _ _ x), w .3, u .each);
+      is-last = u .last-ok;
+      bytes = row-bytes r ls (readingsThen (u .readings) (u .last ∷ [])) (w .2 ∙ ap text (u .is));
+      short = m;
+      version = u .version;
+      channels = omega (arith, u .count);
+      days = u .no-days;
+    })
 
 pub told-file : (file : List ℕ) (v c d : ℕ) → length file ≤ 1048576 → walkOf begun 0 0 (lines file) ≡ accepted (v ∷ c ∷ d ∷ []) → InFormat file v c d
 told-file file v c d m e =

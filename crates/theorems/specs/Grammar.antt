@@ -5,7 +5,7 @@ use Prim.Native.Nat.{ℕ, _+_, _/_, _≤_, _<_}
 use mathlib.Core.Path.{_≡_}
 use mathlib.Core.Logic.{_≢_}
 use mathlib.Core.List.{List, [], _∷_, _++_}
-use mathlib.Core.Bool.{Bool, true, false}
+use mathlib.Core.Bool.{true, false}
 use lib.ListN.{length}
 use Rattle.ground.specs.Lists.{all}
 use Rattle.format.specs.Bytes.{fieldByte, endSpace}
@@ -59,7 +59,7 @@ Meets k [] (f ∷ fs) = ⊥
 Meets k (u ∷ us) [] = ⊥
 Meets k (u ∷ us) (f ∷ fs) = Clean f × (obeys k u f ≡ true) × Meets k us fs
 
--- "S and F need a reason. Reason 0 needs a description. V has neither."
+-- "S and F need a reason. Reason 0 needs a description. V has neither." S is 83, F 70 and V 86
 pub record Together (m : Mark) : Type 0 where
   pub s-reason : m .flag ≡ 83 → m .reason ≢ noReason
   pub f-reason : m .flag ≡ 70 → m .reason ≢ noReason
@@ -90,7 +90,7 @@ Covers n a (r ∷ rs) = (firstIn r ≡ a) × (firstIn r ≤ lastIn r) × (lastIn
 abbrev pub Marked : Mark → List Record → Type 0
 Marked m rs = Each (λ r. markIn r ≡ m) rs
 
--- "all its intervals have the same quality, reason and description"
+-- "all its intervals have the same quality, reason and description" (a 400 has one interval or more)
 abbrev pub Alike : List Record → Type 0
 Alike rs = (m : Mark) × Marked m rs
 

@@ -1,1 +1,4 @@
 pub mod Grammar
+pub mod Places
+pub mod First
+pub mod Days

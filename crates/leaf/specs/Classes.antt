@@ -4,8 +4,8 @@ use mathlib.Core.Bool.{Bool}
 use Rattle.ground.specs.Lists.{other}
 use Rattle.ground.specs.Digits.{isDigit}
 use Rattle.format.specs.Bytes.{isCapital, isLetter, isAlnum}
-use Rattle.field.specs.declared.Class.{Class}
-use Rattle.field.specs.declared.Class.the-variants.{Digit, Capital, Letter, Alnum, NoHash}
+use Rattle.leaf.specs.declared.Class.{Class}
+use Rattle.leaf.specs.declared.Class.the-variants.{Digit, Capital, Letter, Alnum, NoHash}
 
 abbrev pub inClass : Class → ℕ → Bool
 inClass Digit = isDigit

@@ -1,13 +1,12 @@
 // Classes of bytes, and what the rules of texts are made of.
 use super::Class;
-
 ghost use mathlib.Core.Path.{_≡_};
 ghost use Prim.Native.Nat.{_≤_};
 ghost use lib.ListN.{length};
 ghost use Rattle.ground.specs.Lists.{all, spanOf, other, same};
 ghost use Rattle.ground.specs.Digits.{isDigit};
 ghost use Rattle.format.specs.Bytes.{isCapital, isLetter, isAlnum, endSpace, isText, areAll};
-ghost use Rattle.field.specs.Classes.{inClass};
+ghost use Rattle.leaf.specs.Classes.{inClass};
 
 fn is_digit(b: u8) -> bool
     ensures { λ r. ⌜ r ≡ isDigit b ⌝ }
