@@ -1,0 +1,243 @@
+-- The written block is accepted wherever a block of that day may stand, and the day that is read from it is the same. Assumes nothing.
+use Prim.Native.Nat.{ℕ, zero, suc, _+_, _-_, _^_, _≤_, _<_}
+use mathlib.Core.Path.{_≡_, refl, sym, ap, ap₂, _∙_, subst}
+use mathlib.Core.Logic.{_≢_}
+use mathlib.Core.Bool.{true, false, cond, _&&_, _||_, true≢false, false≢true}
+use mathlib.Core.List.{List, [], _∷_, _++_, map}
+use native.Mathlib.Omega.{arith}
+use lib.ListN.{length, getD, replicate, getD-replicate, length-map}
+use lib.Dec.{eqb}
+use borrow.Author.Tests.{ne-eqb, ltb-true}
+use Rattle.ground.specs.Lists.{all}
+use Rattle.ground.specs.Text.{bytes}
+use Rattle.ground.specs.Digits.{padded}
+use Rattle.ground.specs.Runs.{Run, run, spell}
+use Rattle.ground.proofs.Tests.{and-true}
+use Rattle.ground.proofs.Cases.{by}
+use Rattle.format.specs.Numbers.{numberIn}
+use Rattle.format.specs.Dates.{isDate, isTime}
+use Rattle.format.specs.Quality.{standsAlone, takesMethod, qualityOf, Mark, noMark}
+use Rattle.format.specs.Cut.{Lines, fields}
+use Rattle.format.specs.Records.{dateIn, millionths, valuesIn, firstIn, lastIn, markAt, markIn}
+use Rattle.format.specs.Order.{Due, isVaried}
+use Rattle.format.specs.Day.{DayRows, runsFrom, daysFrom, coverOf, eachOf, valuesOf, updateIn, loadIn, Day, marksOf, dayOf}
+use Rattle.format.specs.Block.{fitQuality, fitMark, fitValue, fitDay, valueText, qualityText, reasonText, loadText, comma, crlf, markText, valuesText, runsIn, isUniform, topText, tailText, blockOf}
+use Rattle.format.proofs.NumberText.{date-back, time-back, load-back}
+use Rattle.format.proofs.ValueText.{value-back}
+use Rattle.format.proofs.CoverText.{runs-spell, runs-are-proper, uniform-is, uniform}
+use Rattle.theorems.specs.Grammar.{Each, Record, join, text, IsRecord, Covers, IsBlock}
+use Rattle.theorems.proofs.Rows.{record-fields}
+use Rattle.theorems.proofs.Takes.{fields-of}
+use Rattle.shortest.specs.Blocks.{Accepted, Reads, Awaits}
+use Rattle.shortest.specs.Writer.{ReadsBack}
+use Rattle.shortest.proofs.Shapes.{TopSays, top-says}
+use Rattle.shortest.proofs.Forms.{uniform-top, uniform-tail, varied-top, varied-tail}
+use Rattle.shortest.proofs.Steps.{runs-more, dayAt, days-more}
+use Rattle.shortest.proofs.Pass.{cut, kind-of, block-lines, block-accepted}
+use Rattle.shortest.proofs.Texts.{Carried, mark-said, mark-carried, v-carried}
+use Rattle.shortest.proofs.Written.{three, topWritten, top-record, top-text, runWritten, coverWritten, cover-text, Fitting, fitting, written-first, written-last, written-mark, cover-records, cover-covers, cover-alike}
+
+-- ---- a day that may be written
+
+pub record Whole (d : Day) : Type 0 where
+  pub fit : fitDay d ≡ true
+  pub values : length (d .values) ≡ d .n
+  pub marks : length (d .marks) ≡ d .n
+  pub some : 1 ≤ d .n
+  pub few : d .n < 10 ^ 4
+
+pub record Parts (d : Day) : Type 0 where
+  pub date : isDate (d .date) ≡ true
+  pub update : isTime (d .update) ≡ true
+  pub load : (eqb (d .load) 0 || isTime (d .load)) ≡ true
+  pub values : all fitValue (d .values) ≡ true
+  pub marks : all fitMark (d .marks) ≡ true
+
+pub parts : (d : Day) → fitDay d ≡ true → Parts d
+unfolding fitDay
+parts d h =
+    let a = and-true (isDate (d .date) && isTime (d .update) && (eqb (d .load) 0 || isTime (d .load)) && all fitValue (d .values)) (all fitMark (d .marks)) h in
+    let b = and-true (isDate (d .date) && isTime (d .update) && (eqb (d .load) 0 || isTime (d .load))) (all fitValue (d .values)) (a .0) in
+    let c = and-true (isDate (d .date) && isTime (d .update)) (eqb (d .load) 0 || isTime (d .load)) (b .0) in
+    let e = and-true (isDate (d .date)) (isTime (d .update)) (c .0) in
+    record { date = e .0; update = e .1; load = c .1; values = b .1; marks = a .1 }
+
+-- ---- what is read
+
+days-none : (p n : ℕ) (rs : List Record) → Each (IsRecord 400 0) rs → daysFrom p n (cut rs) ≡ []
+unfolding daysFrom
+days-none p n [] h = refl
+days-none p n (r ∷ rs) h = rw (kind-of 400 0 r (h .0)) (days-none (p + length (join r) + 2) n rs (h .1))
+
+cover-says : (p a : ℕ) (c : List (Run Mark)) → Fitting a c → coverOf (λ x. markAt 400 3 (x .cells)) (runsFrom p (cut (coverWritten a c))) ≡ spell c
+unfolding coverOf runsFrom spell
+cover-says p a [] h = refl
+cover-says p a (run k m ∷ c) h =
+    let row : Record = runWritten a (a + k) m in
+    let i : IsRecord 400 0 row = cover-records a (run k m ∷ c) h .0 in
+    let e : fields (join row) ≡ row = fields-of row (record-fields 400 0 row i) .0 in
+    let s : 1 ≤ k = h .0 in
+    let w : lastIn row + 1 - firstIn row ≡ k = omega (arith, written-first a k m (h .0) (h .1) (h .2), written-last a k m (h .0) (h .1) (h .2)) in
+    let f : List (List ℕ) → List Mark = λ cells. replicate (lastIn cells + 1 - firstIn cells) (markIn cells) in
+    ap (coverOf (λ x. markAt 400 3 (x .cells))) (runs-more p (join row) (cut (coverWritten (a + k) c)) (kind-of 400 0 row i))
+    ∙ ap (λ (x : List Mark). f (fields (join row)) ++ x) (cover-says (p + length (join row) + 2) (a + k) c (h .3))
+    ∙ ap (λ (x : List (List ℕ)). f x ++ spell c) e
+    ∙ ap (λ (x : ℕ). replicate x (markIn row) ++ spell c) w
+    ∙ ap (λ (x : Mark). replicate k x ++ spell c) (written-mark a k m (h .0) (h .1) (h .2))
+
+values-back : (vs : List ℕ) → all fitValue vs ≡ true → map millionths (map valueText vs) ≡ vs
+unfolding millionths fitValue
+values-back [] h = refl
+values-back (v ∷ vs) h =
+    let w = and-true (fitValue v) (all fitValue vs) h in
+    rw (value-back v (ltb-true _ _ (w .0)), values-back vs (w .1))
+
+day-is : {t t′ n u u′ l l′ : ℕ} {vs vs′ : List ℕ} {ms ms′ : List Mark} → t ≡ t′ → u ≡ u′ → l ≡ l′ → vs ≡ vs′ → ms ≡ ms′
+    → _≡_ {A = Day} (record { date = t; n = n; update = u; load = l; values = vs; marks = ms }) (record { date = t′; n = n; update = u′; load = l′; values = vs′; marks = ms′ })
+day-is a b c d e = rw (a, b, c, d, e)
+
+-- ---- the 300 of a written day, with any quality, reason and description
+
+module _ (d : Day) (w : Whole d) (q s x : List ℕ) (c : Carried 300 q s x) where
+  top : Record
+  top = topWritten (d .date) (d .update) (d .load) (d .values) q s x
+
+  top-is : IsRecord 300 (d .n) top
+  unfolding top
+  top-is =
+      let p = parts d (w .fit) in
+      top-record (d .date) (d .update) (d .load) (d .values) q s x (d .n) (w .values) (p .date) (p .update) (p .load) (p .values) c
+
+  cells : fields (join top) ≡ top
+  cells = fields-of top (record-fields 300 (d .n) top top-is) .0
+
+  says : TopSays (d .n) top (padded 8 (d .date)) (map valueText (d .values)) q s x (padded 14 (d .update)) (loadText (d .load))
+  unfolding top
+  says = top-says three (padded 8 (d .date)) (map valueText (d .values)) q s x (padded 14 (d .update)) (loadText (d .load)) (d .n) (length-map (d .values) valueText ∙ w .values)
+
+  date-by : dateIn top ≡ d .date
+  date-by = says .date ∙ ap numberIn (date-back (d .date) (parts d (w .fit) .date))
+
+  bytes-by : (rows : List Record) → q ++ comma ++ s ++ comma ++ x ≡ topText (d .marks) → text rows ≡ tailText (d .marks) → text (top ∷ rows) ≡ blockOf d
+  unfolding top blockOf
+  bytes-by rows e f =
+      top-text (d .date) (d .update) (d .load) (d .values) q s x rows
+      ∙ ap₂ (λ (y z : List ℕ). bytes "300," ++ padded 8 (d .date) ++ comma ++ valuesText (d .values) ++ y ++ comma ++ padded 14 (d .update) ++ comma ++ loadText (d .load) ++ crlf ++ z) e f
+
+  -- the day that is read from it and its 400s
+  day-by : (p : ℕ) (runs : List Record) → Each (IsRecord 400 0) runs
+      → ((p : ℕ) → cond (isVaried (d .n) top) (coverOf (λ x. markAt 400 3 (x .cells)) (runsFrom p (cut runs))) (replicate (d .n) (markAt 300 (d .n + 2) top)) ≡ d .marks)
+      → map dayOf (daysFrom p (d .n) (cut (top ∷ runs))) ≡ d ∷ []
+  unfolding dayOf valuesOf marksOf eachOf
+  day-by p runs h e =
+      let p′ : ℕ = p + length (join top) + 2 in
+      let g : dayOf (dayAt p (join top) (cut runs) (d .n)) ≡ d =
+      day-is
+      (ap dateIn cells ∙ date-by)
+      (ap (updateIn (d .n)) cells ∙ says .update ∙ ap numberIn (time-back (d .update) (parts d (w .fit) .update)))
+      (ap (loadIn (d .n)) cells ∙ says .load ∙ ap numberIn (load-back (d .load) (parts d (w .fit) .load)))
+      (ap (valuesIn (d .n)) cells ∙ says .values ∙ values-back (d .values) (parts d (w .fit) .values))
+      (ap (λ (x : Record). cond (isVaried (d .n) x) (coverOf (λ x. markAt 400 3 (x .cells)) (runsFrom p′ (cut runs))) (replicate (d .n) (markAt 300 (d .n + 2) x))) cells ∙ e p′) in
+      ap (map dayOf) (days-more p (join top) (cut runs) (d .n) (kind-of 300 (d .n) top top-is))
+      ∙ ap (λ (x : List DayRows). dayOf (dayAt p (join top) (cut runs) (d .n)) ∷ map dayOf x) (days-none p′ (d .n) runs h)
+      ∙ ap (λ (x : Day). x ∷ []) g
+
+-- ---- the two forms of the block
+
+record Rows (d : Day) : Type 0 where
+  first : Record
+  runs : List Record
+  bytes-are : text (first ∷ runs) ≡ blockOf d
+  block : IsBlock (d .n) (record { top = first; runs = runs; extra = [] })
+  date : dateIn first ≡ d .date
+  day : (p : ℕ) → map dayOf (daysFrom p (d .n) (cut (first ∷ runs))) ≡ d ∷ []
+
+uniform-all : (n : ℕ) (m : Mark) → 1 ≤ n → isUniform (replicate n m) ≡ true
+uniform-all zero m h = absurd (let z : ⊥ = omega arith in z)
+uniform-all (suc k) m h = uniform-is k m
+
+first-fit : (ms : List Mark) → 1 ≤ length ms → all fitMark ms ≡ true → fitMark (getD ms 0 noMark) ≡ true
+first-fit [] h a = absurd (let z : ⊥ = omega arith in z)
+first-fit (m ∷ ms) h a = and-true (fitMark m) (all fitMark ms) a .0
+
+-- V is no quality of a fit mark
+no-v : (m : Mark) → fitMark m ≡ true → m .flag ≢ 86
+unfolding fitMark fitQuality standsAlone takesMethod
+no-v m h e =
+    let a = and-true _ _ h in
+    let b = and-true _ _ (a .0) in
+    let c = and-true _ _ (b .0) in
+    let g = and-true (fitQuality (m .flag) (m .method)) _ (c .0) in
+    false≢true (rw e at (g .0))
+
+module _ (d : Day) (w : Whole d) where
+  alike-rows : isUniform (d .marks) ≡ true → Rows d
+  unfolding text markText
+  alike-rows u =
+      let m : Mark = getD (d .marks) 0 noMark in
+      let v = uniform (d .marks) u in
+      let f : fitMark m ≡ true = first-fit (d .marks) (omega (arith, w .marks, w .some)) (parts d (w .fit) .marks) in
+      let g : d .marks ≡ replicate (d .n) (v .mark) = v .alike ∙ ap (λ (n : ℕ). replicate n (v .mark)) (w .marks) in
+      let k : m ≡ v .mark = ap (λ (l : List Mark). getD l 0 noMark) g ∙ getD-replicate (d .n) 0 (v .mark) noMark (w .some) in
+      let q : List ℕ = qualityText (m .flag) (m .method) in
+      let s : List ℕ = reasonText (m .reason) in
+      let x : List ℕ = m .text in
+      let c : Carried 300 q s x = mark-carried 300 m f in
+      let no : isVaried (d .n) (top d w q s x c) ≡ false =
+      says d w q s x c .varied ∙ ap (λ (y : Mark). eqb (y .flag) 86) (mark-said 300 m f) ∙ ne-eqb (m .flag) 86 (no-v m f) in
+      record {
+        first = top d w q s x c;
+        runs = [];
+        bytes-are = bytes-by d w q s x c [] (sym (uniform-top (d .marks) u)) (sym (uniform-tail (d .marks) u));
+        block = record {
+          top = top-is d w q s x c;
+          runs = tt;
+          extra = tt;
+          only-v = λ e. refl;
+          covers = λ e. absurd (true≢false (sym e ∙ no));
+          unlike = λ e. absurd (true≢false (sym e ∙ no));
+        };
+        date = date-by d w q s x c;
+        day = λ p. day-by d w q s x c p [] tt (λ p′. rw (no, says d w q s x c .mark, mark-said 300 m f) (ap (replicate (d .n)) k ∙ sym g));
+      }
+
+  varied-rows : isUniform (d .marks) ≡ false → Rows d
+  unfolding qualityOf standsAlone
+  varied-rows u =
+      let c : List (Run Mark) = runsIn (d .marks) in
+      let s : spell c ≡ d .marks = runs-spell (d .marks) in
+      let l : length (spell c) ≡ d .n = ap length s ∙ w .marks in
+      let f : Fitting 0 c =
+      fitting 0 c (runs-are-proper (d .marks)) (subst (λ (ms : List Mark). all fitMark ms ≡ true) (sym s) (parts d (w .fit) .marks)) (omega (arith, w .few)) in
+      let yes-v : isVaried (d .n) (top d w (86 ∷ []) [] [] v-carried) ≡ true = says d w (86 ∷ []) [] [] v-carried .varied in
+      record {
+        first = top d w (86 ∷ []) [] [] v-carried;
+        runs = coverWritten 0 c;
+        bytes-are = bytes-by d w (86 ∷ []) [] [] v-carried (coverWritten 0 c) (sym (varied-top (d .marks) u)) (cover-text 0 c ∙ sym (varied-tail (d .marks) u));
+        block = record {
+          top = top-is d w (86 ∷ []) [] [] v-carried;
+          runs = cover-records 0 c f;
+          extra = tt;
+          only-v = λ e. absurd (true≢false (sym yes-v ∙ e));
+          covers = λ e. subst (λ (n : ℕ). Covers n 1 (coverWritten 0 c)) (omega arith) (cover-covers 0 c f);
+          unlike = λ e a. absurd (true≢false (sym (ap isUniform (sym s ∙ cover-alike 0 c (a .0) f (a .1)) ∙ uniform-all (length (spell c)) (a .0) (omega (arith, w .some))) ∙ u));
+        };
+        date = date-by d w (86 ∷ []) [] [] v-carried;
+        day = λ p. day-by d w (86 ∷ []) [] [] v-carried p (coverWritten 0 c) (cover-records 0 c f) (λ p′. rw yes-v (cover-says p′ 0 c f ∙ s));
+      }
+
+-- ---- the theorem
+
+pub back : (d : Day) → Whole d → (st : Due) → Awaits st (d .n) (d .date) → ReadsBack d st
+back d w st a =
+    let r : Rows d = by (isUniform (d .marks)) (alike-rows d w) (varied-rows d w) in
+    let b : IsBlock (st .n) (record { top = r .first; runs = r .runs; extra = [] }) =
+    subst (λ (n : ℕ). IsBlock n (record { top = r .first; runs = r .runs; extra = [] })) (sym (a .intervals)) (r .block) in
+    let l : st .date < dateIn (r .first) = rw (r .date) (a .earlier) in
+    record {
+      accepted = subst (Accepted st) (r .bytes-are) (block-accepted st (r .first) (r .runs) b (a .free) l);
+      same = λ p.
+          subst (λ (x : List ℕ). Reads p (st .n) x d) (r .bytes-are)
+          (ap (λ (x : Lines). map dayOf (daysFrom p (st .n) x)) (block-lines st (r .first) (r .runs) b (a .free) l)
+          ∙ ap (λ (n : ℕ). map dayOf (daysFrom p n (cut (r .first ∷ r .runs)))) (a .intervals) ∙ r .day p);
+    }

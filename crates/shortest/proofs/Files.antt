@@ -1,0 +1,194 @@
+-- Bytes one behind the other: where the first are passed without a fault, the check of the whole, and the reading of its days, go on with what is
+-- behind them. Assumes nothing.
+use Prim.Native.Nat.{ℕ, suc, _+_, _≤_}
+use mathlib.Core.Path.{_≡_, refl, sym, ap, ap₂, _∙_, subst}
+use mathlib.Core.Bool.{Bool, true, false, cond}
+use mathlib.Core.List.{List, [], _∷_, _++_}
+use native.Mathlib.Omega.{arith}
+use lib.ListN.{length, drop, length-append}
+use lib.Seq.{drop-at}
+use lib.Dec.{eqb}
+use borrow.Author.Tests.{eqb-true, eqb-false, ne-eqb}
+use Rattle.ground.proofs.Cases.{by}
+use Rattle.format.specs.Cut.{isCrlf, Lines, line, rest, onFirst, lines, fields}
+use Rattle.format.specs.Records.{kindIn, intervalsIn}
+use Rattle.format.specs.Order.{Due, begun, isVaried, afterOf}
+use Rattle.format.specs.File.{after, walkOf}
+use Rattle.format.specs.Day.{Row, DayRows, rowAt, runsFrom, daysFrom, daysOf}
+use Rattle.theorems.proofs.Bytes.{bytesOf, bytes-lines}
+use Rattle.theorems.proofs.Fit.{Fit, fine-fit, Head, h100, h200, more200, h300, h400, h500, h250, h550, h900, basic900, head}
+use Rattle.shortest.specs.Blocks.{Passes, kindsOf}
+use Rattle.shortest.proofs.Steps.{dayAt, days-more, days-skip}
+
+-- ---- lines
+
+-- the lines, and others behind them
+abbrev pub onto : Lines → Lines → Lines
+onto (rest t) m = m
+onto (line r ls) m = line r (onto ls m)
+
+-- nothing is left behind the last CR LF
+abbrev Closed : Lines → Type 0
+Closed (rest t) = t ≡ []
+Closed (line r ls) = Closed ls
+
+lines-append : (x y : List ℕ) → Closed (lines x) → lines (x ++ y) ≡ onto (lines x) (lines y)
+unfolding lines
+lines-append [] y h = refl
+lines-append (b ∷ []) y h = absurd (let z : _≡_ {A = List ℕ} (b ∷ []) [] = h in let e : 1 ≡ 0 = ap length z in let o : ⊥ = omega arith in o)
+lines-append (b ∷ c ∷ x) y h =
+    by (isCrlf b c)
+    (λ e. rw e (ap (line []) (lines-append x y (let z : Closed (lines x) = (rw e at h) in z))))
+    (λ e. rw e (ap (onFirst b) (lines-append (c ∷ x) y (closed-first (lines (c ∷ x)) (rw e at h))) ∙ onto-first (lines (c ∷ x)) (rw e at h)))
+  where
+    closed-first : (ls : Lines) → Closed (onFirst b ls) → Closed ls
+    closed-first (rest t) k = absurd (let e : length (b ∷ t) ≡ 0 = ap length k in let o : ⊥ = omega arith in o)
+    closed-first (line r ls) k = k
+
+    onto-first : (ls : Lines) → Closed (onFirst b ls) → onFirst b (onto ls (lines y)) ≡ onto (onFirst b ls) (lines y)
+    onto-first (rest t) k = absurd (let e : length (b ∷ t) ≡ 0 = ap length k in let o : ⊥ = omega arith in o)
+    onto-first (line r ls) k = refl
+
+closed : (a e : Due) (ls : Lines) → Passes a ls e → Closed ls
+closed a e (rest t) h = h .0
+closed a e (line r ls) h = closed (after a r) e ls (h .1)
+
+pub lines-behind : (a e : Due) (x y : List ℕ) → Passes a (lines x) e → lines (x ++ y) ≡ onto (lines x) (lines y)
+lines-behind a e x y h = lines-append x y (closed a e (lines x) h)
+
+pub passes-append : (a e f : Due) (x y : List ℕ) → Passes a (lines x) e → Passes e (lines y) f → Passes a (lines (x ++ y)) f
+passes-append a e f x y h k = subst (λ (ls : Lines). Passes a ls f) (sym (lines-behind a e x y h)) (go a (lines x) h)
+  where
+    go : (a : Due) (ls : Lines) → Passes a ls e → Passes a (onto ls (lines y)) f
+    go a (rest t) h = subst (λ (s : Due). Passes s (lines y) f) (sym (h .1)) k
+    go a (line r ls) h = (h .0, go (after a r) ls (h .1))
+
+-- ---- the check
+
+-- behind the 900 no record is passed
+not-ended : (x k : ℕ) → Head x k → x ≡ 9 → ⊥
+not-ended x k (h100 e a) z = omega arith
+not-ended x k (h200 e a) z = omega arith
+not-ended x k (more200 e a b) z = omega arith
+not-ended x k (h300 e a b) z = omega arith
+not-ended x k (h400 e a) z = omega arith
+not-ended x k (h500 e a b) z = omega arith
+not-ended x k (h250 e a b) z = omega arith
+not-ended x k (h550 e a) z = omega arith
+not-ended x k (h900 e a b) z = omega arith
+not-ended x k (basic900 e a b) z = omega arith
+
+walk-lines : (a e : Due) (p k : ℕ) (ls m : Lines) → Passes a ls e → walkOf a p k (onto ls m) ≡ walkOf e (p + length (bytesOf ls)) (k + length (kindsOf ls)) m
+unfolding walkOf
+walk-lines a e p k (rest t) m h =
+    let u : p ≡ p + length t = omega (arith, ap length (h .0)) in
+    let v : k ≡ k + 0 = omega arith in
+    ap (λ (s : Due). walkOf s p k m) (h .1) ∙ ap₂ (λ (i j : ℕ). walkOf e i j m) u v
+walk-lines a e p k (line r ls) m h =
+    let n : eqb (a .expect) 9 ≡ false = ne-eqb _ _ (not-ended _ _ (head _ _ (fine-fit a r (h .0) .may))) in
+    let u : p + length r + 2 + length (bytesOf ls) ≡ p + length (r ++ 13 ∷ 10 ∷ bytesOf ls) = omega (arith, length-append r (13 ∷ 10 ∷ bytesOf ls)) in
+    let v : k + 1 + length (kindsOf ls) ≡ k + suc (length (kindsOf ls)) = omega arith in
+    rw (n, h .0) (walk-lines (after a r) e (p + length r + 2) (k + 1) ls m (h .1) ∙ ap₂ (λ (i j : ℕ). walkOf e i j m) u v)
+
+pub walk-append : (a e : Due) (p k : ℕ) (x y : List ℕ) → Passes a (lines x) e → walkOf a p k (lines (x ++ y)) ≡ walkOf e (p + length x) (k + length (kindsOf (lines x))) (lines y)
+walk-append a e p k x y h =
+    ap (walkOf a p k) (lines-behind a e x y h)
+    ∙ walk-lines a e p k (lines x) (lines y) h
+    ∙ ap (λ (l : List ℕ). walkOf e (p + length l) (k + length (kindsOf (lines x))) (lines y)) (bytes-lines x)
+
+-- ---- the days
+
+-- n of the 200 before, as a reading carries it, is the state's; before the 100 nothing is counted
+record Carries (a : Due) (n : ℕ) : Type 0 where
+  same : a .expect ≤ 5 → a .n ≡ n
+  start : a .expect ≡ 0 → (n ≡ 0) × (a .days ≡ 0)
+
+abbrev Stepped : Due → ℕ → ℕ → List (List ℕ) → Type 0
+Stepped a n k fs = Carries (afterOf a k fs) (cond (eqb k 200) (intervalsIn fs) n) × (afterOf a k fs .days ≡ a .days + cond (eqb k 300) 1 0)
+
+module _ (a : Due) (n k : ℕ) (fs : List (List ℕ)) (c : Carries a n) where
+  stepped : Head (a .expect) k → Stepped a n k fs
+  unfolding afterOf
+  stepped (h100 e x) =
+      let w = c .start x in
+      rw e (record { same = λ z. sym (w .0); start = λ z. (w .0, refl) }, omega (arith, w .1))
+  stepped (h200 e x) = rw e (record { same = λ z. refl; start = λ z. absurd (let y : ⊥ = omega arith in y) }, omega arith)
+  stepped (more200 e x y) = rw e (record { same = λ z. refl; start = λ z. absurd (let y : ⊥ = omega arith in y) }, omega arith)
+  stepped (h300 e x y) = rw e (record { same = λ z. c .same y; start = λ z. absurd (later (isVaried (a .n) fs) z) }, refl)
+    where
+      later : (b : Bool) → _≡_ {A = ℕ} (cond b 4 3) 0 → ⊥
+      later true z = omega arith
+      later false z = omega arith
+  stepped (h400 e x) = rw e (record { same = λ z. c .same (omega arith); start = λ z. absurd (let y : ⊥ = omega arith in y) }, omega arith)
+  stepped (h500 e x y) = rw e (record { same = λ z. c .same y; start = λ z. absurd (let y : ⊥ = omega arith in y) }, omega arith)
+  stepped (h250 e x y) = rw e (record { same = λ z. absurd (let y : ⊥ = omega arith in y); start = λ z. absurd (let y : ⊥ = omega arith in y) }, omega arith)
+  stepped (h550 e x) = rw e (record { same = λ z. absurd (let y : ⊥ = omega arith in y); start = λ z. absurd (let y : ⊥ = omega arith in y) }, omega arith)
+  stepped (h900 e x y) = rw e (record { same = λ z. absurd (let y : ⊥ = omega arith in y); start = λ z. absurd (let y : ⊥ = omega arith in y) }, omega arith)
+  stepped (basic900 e x y) = rw e (record { same = λ z. absurd (let y : ⊥ = omega arith in y); start = λ z. absurd (let y : ⊥ = omega arith in y) }, omega arith)
+
+-- the days of these lines, and then those of others behind them
+record Split (a e : Due) (p n : ℕ) (ls m : Lines) : Type 0 where
+  before : List DayRows
+  behind : ℕ
+  is : daysFrom p n (onto ls m) ≡ before ++ daysFrom (p + length (bytesOf ls)) behind m
+  count : a .days + length before ≡ e .days
+  carries : Carries e behind
+
+module _ (a e : Due) (p n : ℕ) (r : List ℕ) (ls m : Lines) (f : Fit a r) (c : Carries a n) where
+  split-line : ((n′ : ℕ) → Carries (after a r) n′ → Split (after a r) e (p + length r + 2) n′ ls m) → Split a e p n (line r ls) m
+  split-line g =
+      let s = stepped a n (kindIn (fields r)) (fields r) c (head _ _ (f .may)) in
+      let u : p + length r + 2 + length (bytesOf ls) ≡ p + length (r ++ 13 ∷ 10 ∷ bytesOf ls) = omega (arith, length-append r (13 ∷ 10 ∷ bytesOf ls)) in
+      by (eqb (kindIn (fields r)) 300)
+      (λ t.
+      let k : kindIn (fields r) ≡ 300 = eqb-true _ _ t in
+      let w = g n (subst (λ (x : ℕ). Carries (after a r) (cond (eqb x 200) (intervalsIn (fields r)) n)) k (s .0)) in
+      record {
+        before = dayAt p r (onto ls m) n ∷ w .before;
+        behind = w .behind;
+        is =
+            days-more p r (onto ls m) n k
+            ∙ ap (λ (x : List DayRows). dayAt p r (onto ls m) n ∷ x) (w .is ∙ ap (λ (i : ℕ). w .before ++ daysFrom i (w .behind) m) u);
+        count = omega (arith, s .1, ap {B = ℕ} (λ (x : Bool). cond x 1 0) t, w .count);
+        carries = w .carries;
+      })
+      (λ t.
+      let w = g (cond (eqb (kindIn (fields r)) 200) (intervalsIn (fields r)) n) (s .0) in
+      record {
+        before = w .before;
+        behind = w .behind;
+        is = days-skip p r (onto ls m) n (eqb-false _ _ t) ∙ w .is ∙ ap (λ (i : ℕ). w .before ++ daysFrom i (w .behind) m) u;
+        count = omega (arith, s .1, ap {B = ℕ} (λ (x : Bool). cond x 1 0) t, w .count);
+        carries = w .carries;
+      })
+
+days-lines : (a e : Due) (p n : ℕ) (ls m : Lines) → Passes a ls e → Carries a n → Split a e p n ls m
+days-lines a e p n (rest t) m h c =
+    let u : p ≡ p + length t = omega (arith, ap length (h .0)) in
+    record {
+      before = [];
+      behind = n;
+      is = ap (λ (i : ℕ). daysFrom i n m) u;
+      count = omega (arith, ap (λ (s : Due). s .days) (h .1));
+      carries = subst (λ (s : Due). Carries s n) (h .1) c;
+    }
+days-lines a e p n (line r ls) m h c = split-line a e p n r ls m (fine-fit a r (h .0)) c (λ n′. days-lines (after a r) e (p + length r + 2) n′ ls m (h .1))
+
+-- ---- the days of a file whose first bytes are passed
+
+pub days-append : (e : Due) (x y : List ℕ) → Passes begun (lines x) e → e .expect ≤ 5 → drop (e .days) (daysOf (x ++ y)) ≡ daysFrom (length x) (e .n) (lines y)
+unfolding daysOf
+days-append e x y h u =
+    let w = days-lines begun e 0 0 (lines x) (lines y) h (record { same = λ z. refl; start = λ z. (refl, refl) }) in
+    let c : length (w .before) ≡ e .days = omega (arith, w .count) in
+    let q : 0 + length (bytesOf (lines x)) ≡ length x = omega (arith, ap length (bytes-lines x)) in
+    ap (λ (ls : Lines). drop (e .days) (daysFrom 0 0 ls)) (lines-behind begun e x y h)
+    ∙ ap (drop (e .days)) (w .is)
+    ∙ drop-at (w .before) (daysFrom (0 + length (bytesOf (lines x))) (w .behind) (lines y)) (e .days) c
+    ∙ ap₂ (λ (i j : ℕ). daysFrom i j (lines y)) q (sym (w .carries .same u))
+
+-- the 400s at the head of these lines, where no 400 follows behind them
+pub runs-lines : (p : ℕ) (ls m : Lines) → ((q : ℕ) → runsFrom q m ≡ []) → runsFrom p (onto ls m) ≡ runsFrom p ls
+unfolding runsFrom
+runs-lines p (rest t) m h = h p
+runs-lines p (line r ls) m h = ap (λ (x : List Row). cond (eqb (kindIn (fields r)) 400) (rowAt p r ∷ x) []) (runs-lines (p + length r + 2) ls m h)

@@ -1,0 +1,80 @@
+-- A day is written exactly where nothing is wrong with what was handed in and the block fits into the room; and what is refused for being unfit, or for its
+-- room, no accepted block would say in that room. Assumes nothing.
+use Prim.Native.Nat.{ℕ, _≤_, _<_}
+use mathlib.Core.Path.{_≡_, sym, _∙_}
+use mathlib.Core.Logic.{_≢_, _↔_}
+use mathlib.Core.Bool.{true, false, true≢false}
+use mathlib.Core.List.{[], _∷_}
+use native.Mathlib.Omega.{arith}
+use lib.ListN.{length}
+use lib.Dec.{eqb, leb}
+use borrow.Author.Tests.{eqb-true, eqb-false, ne-eqb, le-leb, leb-true, leb-false}
+use Rattle.ground.proofs.Cases.{by}
+use Rattle.format.specs.Answers.{Answer, accepted, refused, refusal}
+use Rattle.format.specs.Block.{Given, intervalsGiven, dayGiven, fitDay, fitGiven, blockOf, recordsOf, writeOf}
+use Rattle.shortest.specs.Writer.{enough, inside, Writable, Because, length-unknown, list-short, outside, unsayable, no-room}
+use Rattle.shortest.proofs.Least.{no-longer}
+use Rattle.shortest.proofs.Said.{fit-said}
+
+module _ (g : Given) (room : ℕ) where
+  abbrev done : Answer
+  done = accepted (length (blockOf (dayGiven g)) ∷ recordsOf (dayGiven g) ∷ [])
+
+  writes : Writable g → length (blockOf (dayGiven g)) ≤ room → writeOf g room ≡ done
+  unfolding writeOf
+  writes w h = rw (ne-eqb _ _ (w .length-known), w .lists-long, w .fit, le-leb _ _ h)
+
+  -- the four tests, in their order
+  data Outcome (x : Answer) : Type 0 where
+    unknown : x ≡ refusal 16 → intervalsGiven g ≡ 0 → Outcome x
+    short : x ≡ refusal 15 → enough g ≡ false → Outcome x
+    unfit : x ≡ refusal 16 → fitGiven g ≡ false → Outcome x
+    small : x ≡ refusal 15 → intervalsGiven g ≢ 0 → room < length (blockOf (dayGiven g)) → Outcome x
+    written : x ≡ done → Writable g → length (blockOf (dayGiven g)) ≤ room → Outcome x
+
+  outcome : Outcome (writeOf g room)
+  unfolding writeOf
+  outcome =
+      by (eqb (intervalsGiven g) 0) (λ e. unknown (rw e) (eqb-true _ _ e))
+      λ e. by (enough g)
+      (λ l. by (fitGiven g)
+      (λ f. by (leb (length (blockOf (dayGiven g))) room)
+      (λ r. written (rw (e, l, f, r)) (record { length-known = eqb-false _ _ e; lists-long = l; fit = f }) (leb-true _ _ r))
+      (λ r. small (rw (e, l, f, r)) (eqb-false _ _ e) (leb-false _ _ r)))
+      (λ f. unfit (rw (e, l, f)) f))
+      (λ l. short (rw (e, l)) l)
+
+  pub writes-exactly : (writeOf g room ≡ done) ↔ (Writable g × (length (blockOf (dayGiven g)) ≤ room))
+  writes-exactly = (λ e. only outcome e, λ h. writes (h .0) (h .1))
+    where
+      not-done : {A : Type 0} (x : Answer) (n : ℕ) → x ≡ refusal n → x ≡ done → A
+      not-done x n p q = absurd (let z : true ≡ false = cc in true≢false z)
+
+      only : Outcome (writeOf g room) → writeOf g room ≡ done → Writable g × (length (blockOf (dayGiven g)) ≤ room)
+      only (unknown p z) e = not-done (writeOf g room) 16 p e
+      only (short p z) e = not-done (writeOf g room) 15 p e
+      only (unfit p z) e = not-done (writeOf g room) 16 p e
+      only (small p z l) e = not-done (writeOf g room) 15 p e
+      only (written p w l) e = (w, l)
+
+  -- an unfit day: a description outside the text, or what no block says
+  why-unfit : fitGiven g ≡ false → (x : ℕ) → x ≡ 16 → Because g room x
+  unfolding fitGiven
+  why-unfit f x n =
+      by (inside g)
+      (λ i. unsayable n (λ b h. true≢false (sym (fit-said (dayGiven g) b h) ∙ (let z : fitDay (dayGiven g) ≡ false = (rw i at f) in z))))
+      (λ i. outside n i)
+
+  pub refuses-only : (x p k i : ℕ) → writeOf g room ≡ refused x p k i → Because g room x
+  unfolding dayGiven
+  refuses-only x p k i e = why outcome e
+    where
+      number : (a : Answer) (n : ℕ) → a ≡ refusal n → a ≡ refused x p k i → x ≡ n
+      number a n q r = cc
+
+      why : Outcome (writeOf g room) → writeOf g room ≡ refused x p k i → Because g room x
+      why (unknown q z) e = length-unknown (number (writeOf g room) 16 q e) z
+      why (short q z) e = list-short (number (writeOf g room) 15 q e) z
+      why (unfit q z) e = why-unfit z x (number (writeOf g room) 16 q e)
+      why (small q z l) e = no-room (number (writeOf g room) 15 q e) (λ b h. omega (arith, no-longer (dayGiven g) z b h .bytes))
+      why (written q w l) e = absurd (let z : true ≡ false = cc in true≢false z)

@@ -1,0 +1,195 @@
+-- A day that an accepted block says is fit. Assumes nothing.
+use Prim.Native.Nat.{ℕ, zero, suc, _+_, _-_, _^_}
+use mathlib.Core.Path.{_≡_, refl, sym, ap, _∙_}
+use mathlib.Core.Logic.{_≢_}
+use mathlib.Core.Bool.{Bool, true, false, cond, _&&_, _||_, false≢true}
+use mathlib.Core.List.{List, [], _∷_, map}
+use native.Mathlib.Omega.{arith}
+use lib.ListN.{length, getD, drop, replicate}
+use lib.Dec.{eqb, ltb}
+use borrow.Author.Tests.{eqb-true, eqb-false, ne-eqb, lt-ltb}
+use Rattle.ground.specs.Lists.{all}
+use Rattle.ground.proofs.Tests.{or-true}
+use Rattle.ground.proofs.Cases.{by, both}
+use Rattle.ground.proofs.Digits.{all-append}
+use Rattle.format.specs.Numbers.{isNumber, numberIn, that, numberOf, smallOf, noReason, reasonOf, decimals, valueOf}
+use Rattle.format.specs.Dates.{isDate, isTime, dateOf, timeOf, loadOf}
+use Rattle.format.specs.Quality.{standsAlone, takesMethod, noMethod, withMethod, qualityOf, isGraded, flagIn, methodIn, Mark}
+use Rattle.format.specs.Cut.{Lines, line, rest, fields}
+use Rattle.format.specs.Records.{kindIn, millionths, firstIn, lastIn, markAt, markIn, agrees, qualitiesOf, firstBroken}
+use Rattle.format.specs.Order.{Due, isVaried}
+use Rattle.format.specs.Faults.{brokenIn}
+use Rattle.format.specs.File.{after}
+use Rattle.format.specs.Day.{runsFrom, coverOf, eachOf, valuesOf, Day, marksOf, dayOf}
+use Rattle.format.specs.Block.{fitQuality, fitReason, fitMark, fitValue, fitDay}
+use Rattle.format.specs.declared.Graded.{Graded}
+use Rattle.format.specs.declared.Graded.the-variants.{Of}
+use Rattle.format.specs.declared.Number.{Number}
+use Rattle.format.specs.declared.Number.the-variants.{Is, Bad}
+use Rattle.format.proofs.Numbers.{under, under-is, number-under, small-under, value-below}
+use Rattle.format.proofs.MarkText.{method-flag}
+use Rattle.theorems.specs.Grammar.{Each, Record, IsRecord}
+use Rattle.theorems.proofs.Across.{together-unbroken}
+use Rattle.theorems.proofs.Fit.{Fit, fine-fit}
+use Rattle.shortest.specs.Blocks.{Passes, Says}
+use Rattle.shortest.proofs.Shapes.{number-is, said, Marking, Top, top-of, stretch-of}
+use Rattle.shortest.proofs.Steps.{fit-record, dayAt, headed}
+
+-- ---- single fields
+
+or-right : (a b : Bool) → b ≡ true → (a || b) ≡ true
+or-right a b e = rw e (or-true a)
+
+that-holds : (p : ℕ → Bool) (x : Number) → isNumber (that p x) ≡ true → p (numberIn (that p x)) ≡ true
+that-holds p (Is v) h = by (p v) (λ t. rw (t, t)) (λ t. absurd (false≢true (let z : false ≡ true = (rw t at h) in z)))
+that-holds p Bad h = absurd (false≢true h)
+
+date-fit : (s : List ℕ) → isNumber (dateOf s) ≡ true → isDate (numberIn (dateOf s)) ≡ true
+unfolding dateOf
+date-fit s h = that-holds isDate (numberOf 8 8 s) h
+
+time-fit : (s : List ℕ) → isNumber (timeOf s) ≡ true → isTime (numberIn (timeOf s)) ≡ true
+unfolding timeOf
+time-fit s h = that-holds isTime (numberOf 14 14 s) h
+
+load-fit : (s : List ℕ) → isNumber (loadOf s) ≡ true → (eqb (numberIn (loadOf s)) 0 || isTime (numberIn (loadOf s))) ≡ true
+unfolding loadOf
+load-fit s h =
+    by (eqb (length s) 0)
+    (λ t. rw t)
+    (λ t. rw t (or-right (eqb (numberIn (timeOf s)) 0) (isTime (numberIn (timeOf s))) (time-fit s (let z : isNumber (timeOf s) ≡ true = (rw t at h) in z))))
+
+values-fit : (vs : List (List ℕ)) → Each (λ v. isNumber (valueOf decimals v) ≡ true) vs → all fitValue (map millionths vs) ≡ true
+unfolding fitValue millionths
+values-fit [] h = refl
+values-fit (v ∷ vs) h =
+    both (ltb (numberIn (valueOf decimals v)) (10 ^ 13)) (all fitValue (map millionths vs))
+    (lt-ltb _ _ (value-below decimals v (numberIn (valueOf decimals v)) (number-is (valueOf decimals v) (h .0))))
+    (values-fit vs (h .1))
+
+reason-fit : (s : List ℕ) → isNumber (reasonOf s) ≡ true → fitReason (numberIn (reasonOf s)) ≡ true
+unfolding reasonOf fitReason
+reason-fit s h =
+    by (eqb (length s) 0)
+    (λ t. rw t)
+    (λ t.
+    let g : isNumber (smallOf 3 s) ≡ true = rw t at h in
+    rw t (or-right (eqb (numberIn (smallOf 3 s)) noReason) (ltb (numberIn (smallOf 3 s)) 1000)
+    (lt-ltb _ _ (under-is (10 ^ 3) (small-under 3 s) (number-is (smallOf 3 s) g)))))
+
+abbrev Fits : Graded → Type 0
+Fits x = isGraded x ≡ true → flagIn x ≢ 86 → fitQuality (flagIn x) (methodIn x) ≡ true
+
+fits-alone : (k c : ℕ) (b : Bool) → standsAlone k c ≡ true → Fits (cond b (Of c noMethod) Graded.Bad)
+unfolding fitQuality standsAlone
+fits-alone k c true a h n = let e : c ≡ 65 = eqb-true c 65 (or-left (eqb c 65) (eqb c 86 && eqb k 300) a (rw (ne-eqb c 86 n))) in rw e
+  where
+    or-left : (x y : Bool) → (x || y) ≡ true → y ≡ false → x ≡ true
+    or-left true y g z = refl
+    or-left false y g z = sym z ∙ g
+fits-alone k c false a h n = absurd (false≢true h)
+
+fits-method : (c : ℕ) (x : Number) (b : Bool) → takesMethod c ≡ b → under 100 x → Fits (cond b (withMethod c x) Graded.Bad)
+unfolding fitQuality
+fits-method c (Is m) true t u h n = rw (method-flag 400 c t, t) (lt-ltb m 100 (under-is 100 u refl))
+fits-method c Bad true t u h n = absurd (false≢true h)
+fits-method c x false t u h n = absurd (false≢true h)
+
+-- a quality that is not V is one that a 400 may carry
+quality-fit : (k : ℕ) (s : List ℕ) → Fits (qualityOf k s)
+unfolding qualityOf
+quality-fit k s =
+    by (standsAlone k (getD s 0 0))
+    (λ t. rw t (fits-alone k (getD s 0 0) (eqb (length s) 1) t))
+    (λ t. rw t (fits-method (getD s 0 0) (numberOf 2 2 (drop 1 s)) (takesMethod (getD s 0 0)) refl (number-under 2 2 (drop 1 s))))
+
+-- V is no quality of a 400
+v-alone : (c : ℕ) (b : Bool) → standsAlone 400 c ≡ true → flagIn (cond b (Of c noMethod) Graded.Bad) ≢ 86
+unfolding standsAlone
+v-alone c true t e = false≢true (rw e at t)
+v-alone c false t e = omega arith
+
+v-method : (c : ℕ) (x : Number) (b : Bool) → takesMethod c ≡ b → flagIn (cond b (withMethod c x) Graded.Bad) ≢ 86
+unfolding takesMethod
+v-method c (Is m) true t e = false≢true (rw e at t)
+v-method c Bad true t e = omega arith
+v-method c x false t e = omega arith
+
+no-v : (s : List ℕ) → flagIn (qualityOf 400 s) ≢ 86
+unfolding qualityOf
+no-v s =
+    by (standsAlone 400 (getD s 0 0))
+    (λ t. rw t (v-alone (getD s 0 0) (eqb (length s) 1) t))
+    (λ t. rw t (v-method (getD s 0 0) (numberOf 2 2 (drop 1 s)) (takesMethod (getD s 0 0)) refl))
+
+-- ---- marks
+
+mark-fit : (k : ℕ) (q s x : List ℕ) → Marking k q s x → flagIn (qualityOf k q) ≢ 86 → agrees (said k q s x) ≡ true → fitMark (said k q s x) ≡ true
+unfolding fitMark
+mark-fit k q s x m n a = rw (quality-fit k q (m .graded) n, reason-fit s (m .reasoned), m .described, m .bytes, a)
+
+agrees-300 : (n : ℕ) (fs : Record) → IsRecord 300 n fs → agrees (markAt 300 (n + 2) fs) ≡ true
+unfolding brokenIn qualitiesOf firstBroken
+agrees-300 n fs r =
+    by (agrees (markAt 300 (n + 2) fs)) (λ t. t)
+    (λ t. absurd (let z : n + 2 + 1 ≡ 0 = (rw t at (together-unbroken 300 fs n (r .together))) in let y : ⊥ = omega arith in y))
+
+agrees-400 : (fs : Record) → IsRecord 400 0 fs → agrees (markIn fs) ≡ true
+unfolding brokenIn qualitiesOf firstBroken
+agrees-400 fs r =
+    by (agrees (markIn fs)) (λ t. t)
+    (λ t. absurd (let z : 3 + 1 ≡ 0 = (rw t at (together-unbroken 400 fs 0 (r .together))) in let y : ⊥ = omega arith in y))
+
+stretch-fit : (fs : Record) → IsRecord 400 0 fs → fitMark (markIn fs) ≡ true
+stretch-fit fs r =
+    let s = stretch-of fs r in
+    rw (s .says .mark) (mark-fit 400 (s .quality) (s .reason) (s .text) (s .marking) (no-v (s .quality)) (rw (s .says .mark) at (agrees-400 fs r)))
+
+all-replicate : (k : ℕ) (m : Mark) → fitMark m ≡ true → all fitMark (replicate k m) ≡ true
+all-replicate zero m h = refl
+all-replicate (suc k) m h = both (fitMark m) (all fitMark (replicate k m)) h (all-replicate k m h)
+
+cover-fit : (p : ℕ) (st end : Due) (ls : Lines) → Passes st ls end → all fitMark (coverOf (λ x. markAt 400 3 (x .cells)) (runsFrom p ls)) ≡ true
+unfolding coverOf runsFrom
+cover-fit p st end (rest t) h = refl
+cover-fit p st end (line r ls) h =
+    by (eqb (kindIn (fields r)) 400)
+    (λ t.
+    rw t
+    (all-append fitMark (replicate (lastIn (fields r) + 1 - firstIn (fields r)) (markIn (fields r))) (coverOf (λ x. markAt 400 3 (x .cells)) (runsFrom (p + length r + 2) ls))
+    (all-replicate (lastIn (fields r) + 1 - firstIn (fields r)) (markIn (fields r)) (stretch-fit (fields r) (fit-record st r (fine-fit st r (h .0)) 400 (λ z. omega arith) (eqb-true _ _ t))))
+    (cover-fit (p + length r + 2) (after st r) end ls (h .1))))
+    (λ t. rw t)
+
+-- ---- the day
+
+module _ (st end : Due) (p : ℕ) (r : List ℕ) (ls : Lines) (k : kindIn (fields r) ≡ 300) (f : Fit st r) (h : Passes (after st r) ls end) where
+  marks-fit : (t : Top (st .n) (fields r)) → all fitMark (marksOf (dayAt p r ls (st .n))) ≡ true
+  unfolding marksOf eachOf
+  marks-fit t =
+      let i : IsRecord 300 (st .n) (fields r) = fit-record st r f 300 (λ z. omega arith) k in
+      by (isVaried (st .n) (fields r))
+      (λ e. rw e (cover-fit (p + length r + 2) (after st r) end ls h))
+      (λ e. rw e (all-replicate (st .n) (markAt 300 (st .n + 2) (fields r))
+      (rw (t .says .mark) (mark-fit 300 (t .quality) (t .reason) (t .text) (t .marking) (eqb-false _ _ (sym (t .says .varied) ∙ e)) (rw (t .says .mark) at (agrees-300 (st .n) (fields r) i))))))
+
+  day-fit : fitDay (dayOf (dayAt p r ls (st .n))) ≡ true
+  unfolding fitDay dayOf valuesOf
+  day-fit =
+      let t = top-of (st .n) (fields r) (fit-record st r f 300 (λ z. omega arith) k) in
+      rw (
+        t .says .date,
+        date-fit (t .date) (t .dated),
+        t .says .update,
+        time-fit (t .update) (t .updated),
+        t .says .load,
+        load-fit (t .load) (t .loaded),
+        t .says .values,
+        values-fit (t .values) (t .valued),
+        marks-fit t,
+      )
+
+pub fit-said : (d : Day) (b : List ℕ) → Says b d → fitDay d ≡ true
+fit-said d b h =
+    let w = headed (h .st) b (h .accepted) in
+    ap fitDay (sym (w .day (h .place) d (h .reads))) ∙ day-fit (h .st) (h .accepted .end) (h .place) (w .first) (w .others) (w .kind) (w .fit) (w .passes)

@@ -1,0 +1,48 @@
+-- What the theorems say of the block that is written: "Reads back", "Shortest", "Refuses only".
+use Prim.Native.Nat.{ℕ, _≤_, _<_}
+use mathlib.Core.Path.{_≡_}
+use mathlib.Core.Bool.{Bool, true, false}
+use mathlib.Core.Logic.{_≢_}
+use mathlib.Core.List.{List}
+use lib.ListN.{length}
+use Rattle.ground.specs.Lists.{all, from}
+use Rattle.format.specs.Cut.{lines}
+use Rattle.format.specs.Order.{Due}
+use Rattle.format.specs.Day.{Day, enoughFor}
+use Rattle.format.specs.Block.{Given, intervalsGiven, dayGiven, isInside, fitGiven, blockOf, recordsOf}
+use Rattle.shortest.specs.Blocks.{kindsOf, Accepted, Reads, Says}
+
+-- no list is shorter than n
+abbrev pub enough : Given → Bool
+enough g =
+    enoughFor (intervalsGiven g) (length (g .values)) (length (g .flags)) (length (g .methods)) (length (g .reasons)) (length (g .starts)) (length (g .lengths))
+
+-- each description lies inside the lent text
+abbrev pub inside : Given → Bool
+inside g = all (isInside g) (from (λ i. i) 0 (intervalsGiven g))
+
+-- nothing is wrong with what was handed in
+pub record Writable (g : Given) : Type 0 where
+  pub length-known : intervalsGiven g ≢ 0
+  pub lists-long : enough g ≡ true
+  pub fit : fitGiven g ≡ true
+
+-- the block that is written for the day d is accepted where the state is st, and the day that is read from it, at any place, is the same
+pub record ReadsBack (d : Day) (st : Due) : Type 0 where
+  pub accepted : Accepted st (blockOf d)
+  pub same : (p : ℕ) → Reads p (st .n) (blockOf d) d
+
+-- the block that is written for the day d has no more records than the bytes b, and no more bytes
+pub record NoLonger (d : Day) (b : List ℕ) : Type 0 where
+  pub records : recordsOf d ≤ length (kindsOf (lines b))
+  pub bytes : length (blockOf d) ≤ length b
+
+-- why a day is refused with the number x
+pub data Because (g : Given) (room x : ℕ) : Type 0 where
+  length-unknown : x ≡ 16 → intervalsGiven g ≡ 0 → Because g room x
+  list-short : x ≡ 15 → enough g ≡ false → Because g room x
+  outside : x ≡ 16 → inside g ≡ false → Because g room x
+  -- no block says this day
+  unsayable : x ≡ 16 → ((b : List ℕ) → Says b (dayGiven g) → ⊥) → Because g room x
+  -- every block that says this day is longer than the room
+  no-room : x ≡ 15 → ((b : List ℕ) → Says b (dayGiven g) → room < length b) → Because g room x
