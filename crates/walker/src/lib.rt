@@ -1,0 +1,73 @@
+// A walker over the lent file hands out one record after another. It holds the file and a cursor; the work is done by `found_at`, which
+// takes both as they are. A caller goes through `record_at`, which has no walker in its contract.
+use record::lines::scan;
+ghost use mathlib.Core.Path.{_≡_};
+ghost use Rattle.walker.specs.Handed.{recordAt};
+
+// The file, and the place where the next record starts.
+pub struct Walker<'a> {
+    pub file: &'a [u8],
+    pub at: usize,
+}
+
+// A record: where it starts and ends, its first byte that is not plain (its end if there is none), and its commas before that byte. None,
+// where no CR LF follows.
+pub enum Record {
+    At {
+        start: usize,
+        end: usize,
+        bad: usize,
+        commas: usize,
+    },
+    None,
+}
+
+// The record that starts at a place of the file.
+fn found_at(file: &[u8], at: usize) -> Record
+    ensures { λ r. ⌜ r ≡ recordAt (now (file .entry)) at ⌝ }
+{
+    let n = file.len();
+    if n < at {
+        return Record::None;
+    }
+    let found = scan(file, at);
+    if found.end == n {
+        return Record::None;
+    }
+    Record::At {
+        start: at,
+        end: found.end,
+        bad: found.bad,
+        commas: found.commas,
+    }
+}
+
+impl<'a> Walker<'a> {
+    // A walker at the start of the file.
+    pub fn new(file: &'a [u8]) -> Walker<'a>
+        ensures { λ r. ⌜ (r .file ≡ file .entry) × (r .at ≡ 0) ⌝ }
+    {
+        Walker { file, at: 0 }
+    }
+
+    // The record at the cursor.
+    pub fn next(self) -> Record
+        ensures { λ r. ⌜ r ≡ recordAt (now (self .entry .file)) (self .entry .at) ⌝ }
+    {
+        found_at(self.file, self.at)
+    }
+
+    // The walker moved on to another place.
+    pub fn moved(self, at: usize) -> Walker<'a>
+        ensures { λ r. ⌜ (r .file ≡ self .entry .file) × (r .at ≡ at) ⌝ }
+    {
+        Walker { file: self.file, at }
+    }
+}
+
+// What a walker hands out at a place of the file.
+pub fn record_at(file: &[u8], at: usize) -> Record
+    ensures { λ r. ⌜ r ≡ recordAt (now (file .entry)) at ⌝ }
+{
+    Walker::new(file).moved(at).next()
+}
