@@ -1,24 +1,33 @@
--- What the walker hands out, made of what the pass over a record found, and what a caller knows of it. Assumes nothing.
+-- What the walker hands out at a place: made of what the pass over the record found, and read back by a caller. Assumes nothing.
 use Prim.Native.Nat.{ℕ, _+_, _-_, _≤_, _<_}
-use mathlib.Core.Path.{_≡_, refl, sym}
-use mathlib.Core.List.{List, [], _∷_}
+use mathlib.Core.Path.{_≡_, refl, sym, _∙_, subst}
+use mathlib.Core.List.{List}
+use mathlib.Core.Bool.{Bool, true, false}
 use native.Mathlib.Omega.{arith}
-use lib.ListN.{length, take, drop, drop-of-length-le}
+use lib.ListN.{length, take, drop, length-drop, drop-of-length-le}
+use lib.Dec.{ltb, eqb}
+use borrow.Author.Tests.{ltb-true, ltb-false, eqb-true, eqb-false}
 use Rattle.ground.specs.Lists.{spanOf, part}
-use Rattle.ground.proofs.Spans.{part-take}
+use Rattle.ground.proofs.Spans.{part-take, part-length, span-le}
 use Rattle.format.specs.Bytes.{plain}
-use Rattle.format.specs.Cut.{lines, fields}
-use Rattle.record.specs.Places.{Looked}
-use Rattle.record.proofs.Ends.{line-none, line-more, line-long}
+use Rattle.format.specs.Cut.{rest, lines, fields}
+use Rattle.format.proofs.Cut.{fields-some}
+use Rattle.record.specs.Places.{lineLen, LineEnd, Looked}
+use Rattle.record.proofs.Ends.{lineLen-le, line-none, line-more, line-long}
 use Rattle.walker.specs.declared.Record.{Record}
 use Rattle.walker.specs.declared.Record.the-variants.{At, None}
 use Rattle.walker.specs.Handed.{recordAt}
 
 module _ (file : List ℕ) (at : ℕ) where
-  -- a place behind the file's end
+  -- ---- made: a place behind the file's end, no CR LF, a record
+
+  behind : length file < at → lines (drop at file) ≡ rest (drop at file)
+  unfolding lines
+  behind h = rw (drop-of-length-le file {i = at} (omega arith))
+
   pub none-behind : length file < at → None ≡ recordAt file at
-  unfolding recordAt lines
-  none-behind h = rw (drop-of-length-le file {i = at} (omega arith))
+  unfolding recordAt
+  none-behind h = rw (behind h)
 
   module _ (e bad commas : ℕ) (l : Looked file at e bad commas) where
     pub none-here : e ≡ length file → None ≡ recordAt file at
@@ -34,3 +43,47 @@ module _ (file : List ℕ) (at : ℕ) where
         let n : at + (e - at) ≡ e = omega (arith, l .ends .order) in
         let c : length (fields (part file at bad)) - 1 ≡ commas = omega (arith, l .count) in
         rw (line-more file at e (l .ends) h, line-long file at e (l .ends), n, s, t, b, c)
+
+  -- ---- read back: what a caller knows of each case
+
+  abbrev Told : Record → Type 0
+  Told (At s e bad commas) = Looked file at e bad commas × (e ≡ length file → ⊥)
+  Told None = lines (drop at file) ≡ rest (drop at file)
+
+  abbrev end : ℕ
+  end = at + lineLen (drop at file)
+
+  abbrev stop : ℕ
+  stop = at + spanOf plain (part file at end)
+
+  -- what a pass finds, wherever it starts in the file
+  found : at ≤ length file → Looked file at end stop (length (fields (part file at stop)) - 1)
+  found h =
+      let l : LineEnd file at end = record { order = omega arith; within = omega (arith, lineLen-le (drop at file) .1, length-drop at file); is = refl } in
+      let w : spanOf plain (part file at end) ≤ end - at = rw (part-length file at end (l .within)) at (span-le plain (part file at end)) in
+      record { ends = l; order = omega arith; within = omega (arith, w); first = refl; count = omega (arith, fields-some (part file at stop)) }
+
+  told : Told (recordAt file at)
+  told = by (ltb (length file) at) refl
+    where
+      here : at ≤ length file → (t : Bool) → eqb end (length file) ≡ t → Told (recordAt file at)
+      here h true q =
+          let f : Looked file at end stop _ = found h in
+          let e : end ≡ length file = eqb-true _ _ q in
+          subst Told (none-here _ _ _ f e) (line-none file at _ (f .ends) e)
+      here h false q = let f : Looked file at end stop _ = found h in subst Told (one-here _ _ _ f (eqb-false _ _ q)) (f, eqb-false _ _ q)
+
+      by : (t : Bool) → ltb (length file) at ≡ t → Told (recordAt file at)
+      by true q = let h : length file < at = ltb-true _ _ q in subst Told (none-behind h) (behind h)
+      by false q = here (ltb-false _ _ q) (eqb end (length file)) refl
+
+  module _ (r : Record) (is : r ≡ recordAt file at) where
+    pub handed-none : r ≡ None → lines (drop at file) ≡ rest (drop at file)
+    handed-none q = subst Told (sym is ∙ q) told
+
+    module _ (s e bad commas : ℕ) (q : r ≡ At s e bad commas) where
+      pub handed-looked : Looked file at e bad commas
+      handed-looked = subst Told (sym is ∙ q) told .0
+
+      pub handed-inside : e ≡ length file → ⊥
+      handed-inside = subst Told (sym is ∙ q) told .1

@@ -1,17 +1,17 @@
-// A walker over the lent file hands out one record after another. It holds the file and a cursor; the work is done by `found_at`, which
-// takes both as they are. A caller goes through `record_at`, which has no walker in its contract.
+// A walker over the lent file hands out one record after another. It holds the file and a cursor, and leaves the work to `found_at`, which
+// takes the two as they are. A caller goes through `record_at`: its contract has no walker, so nothing above it is proved by hand.
 use record::lines::scan;
 ghost use mathlib.Core.Path.{_≡_};
 ghost use Rattle.walker.specs.Handed.{recordAt};
 
 // The file, and the place where the next record starts.
-pub struct Walker<'a> {
-    pub file: &'a [u8],
-    pub at: usize,
+struct Walker<'a> {
+    file: &'a [u8],
+    at: usize,
 }
 
-// A record: where it starts and ends, its first byte that is not plain (its end if there is none), and its commas before that byte. None,
-// where no CR LF follows.
+// What the walker hands out: where the record starts and ends, its first byte that is not plain (its end if there is none), and its commas
+// before that byte; or none, where no CR LF follows.
 pub enum Record {
     At {
         start: usize,
@@ -44,30 +44,33 @@ fn found_at(file: &[u8], at: usize) -> Record
 
 impl<'a> Walker<'a> {
     // A walker at the start of the file.
-    pub fn new(file: &'a [u8]) -> Walker<'a>
+    fn new(file: &'a [u8]) -> Walker<'a>
         ensures { λ r. ⌜ (r .file ≡ file .entry) × (r .at ≡ 0) ⌝ }
     {
         Walker { file, at: 0 }
     }
 
     // The record at the cursor.
-    pub fn next(self) -> Record
+    fn next(self) -> Record
         ensures { λ r. ⌜ r ≡ recordAt (now (self .entry .file)) (self .entry .at) ⌝ }
     {
         found_at(self.file, self.at)
     }
 
-    // The walker moved on to another place.
-    pub fn moved(self, at: usize) -> Walker<'a>
+    // The walker moved on to another place, as behind the record that it handed out.
+    fn moved(self, at: usize) -> Walker<'a>
         ensures { λ r. ⌜ (r .file ≡ self .entry .file) × (r .at ≡ at) ⌝ }
     {
-        Walker { file: self.file, at }
+        Walker {
+            file: self.file,
+            at,
+        }
     }
 }
 
 // What a walker hands out at a place of the file.
 pub fn record_at(file: &[u8], at: usize) -> Record
-    ensures { λ r. ⌜ r ≡ recordAt (now (file .entry)) at ⌝ }
+    ensures { λ handed. ⌜ handed ≡ recordAt (now (file .entry)) at ⌝ }
 {
     Walker::new(file).moved(at).next()
 }

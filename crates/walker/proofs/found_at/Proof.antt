@@ -1,10 +1,8 @@
-use Rattle.walker.proofs.Handed.{none-behind, none-here, one-here}
+-- `walker::found_at` meets its contract: a law for each way out. Assumes nothing.
 use borrow.Author.Needs.{needs}
+use Rattle.walker.proofs.Handed.{none-behind, none-here, one-here}
 use Rattle.walker.proofs.found_at.Statement.{statement}
 use Rattle.walker.proofs.found_at.Tie as tie
-use Rattle.walker.proofs.found_at.Reads as reads
-use Rattle.walker.proofs.found_at.Lts as lts
-use Rattle.record.proofs.lines.scan.Reads as scan-reads
 
 returns : tie.Need-returns
 returns c = search none-behind
