@@ -1,5 +1,6 @@
 // A walker over the lent file hands out one record after another. It holds the file and a cursor, and leaves the work to `found_at`, which
 // takes the two as they are. A caller goes through `record_at`: its contract has no walker, so nothing above it is proved by hand.
+use record::lines::Found;
 use record::lines::scan;
 ghost use mathlib.Core.Path.{_≡_};
 ghost use Rattle.walker.specs.Handed.{recordAt};
@@ -10,15 +11,10 @@ struct Walker<'a> {
     at: usize,
 }
 
-// What the walker hands out: where the record starts and ends, its first byte that is not plain (its end if there is none), and its commas
-// before that byte; or none, where no CR LF follows.
+// What the walker hands out: where the record starts, and its end, its first byte that is not plain and its commas; or none, where no CR LF
+// follows.
 pub enum Record {
-    At {
-        start: usize,
-        end: usize,
-        bad: usize,
-        commas: usize,
-    },
+    At(usize, Found),
     None,
 }
 
@@ -34,12 +30,7 @@ fn found_at(file: &[u8], at: usize) -> Record
     if found.end == n {
         return Record::None;
     }
-    Record::At {
-        start: at,
-        end: found.end,
-        bad: found.bad,
-        commas: found.commas,
-    }
+    Record::At(at, found)
 }
 
 impl<'a> Walker<'a> {
