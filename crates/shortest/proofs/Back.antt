@@ -31,7 +31,7 @@ use Rattle.shortest.specs.Writer.{ReadsBack}
 use Rattle.shortest.proofs.Shapes.{TopSays, top-says}
 use Rattle.shortest.proofs.Forms.{uniform-top, uniform-tail, varied-top, varied-tail}
 use Rattle.shortest.proofs.Pass.{block-reads, block-accepted}
-use Rattle.shortest.proofs.Texts.{Carried, mark-said, mark-carried, v-carried}
+use Rattle.shortest.proofs.Texts.{Carried, fit-parts, mark-said, mark-carried, v-carried}
 use Rattle.shortest.proofs.Written.{three, topWritten, top-record, top-text, runWritten, coverWritten, cover-text, Fitting, fitting, written-first, written-last, written-mark, cover-records, cover-covers, cover-alike}
 
 -- ---- a day that may be written
@@ -140,13 +140,8 @@ first-fit (m ∷ ms) h a = and-true (fitMark m) (all fitMark ms) a .0
 
 -- V is no quality of a fit mark
 no-v : (m : Mark) → fitMark m ≡ true → m .flag ≢ 86
-unfolding fitMark fitQuality standsAlone takesMethod
-no-v m h e =
-    let a = and-true _ _ h in
-    let b = and-true _ _ (a .0) in
-    let c = and-true _ _ (b .0) in
-    let g = and-true (fitQuality (m .flag) (m .method)) _ (c .0) in
-    false≢true (rw e at (g .0))
+unfolding fitQuality standsAlone takesMethod
+no-v m h e = false≢true (rw e at (fit-parts m h .quality))
 
 module _ (d : Day) (w : Whole d) where
   alike-rows : isUniform (d .marks) ≡ true → Written d

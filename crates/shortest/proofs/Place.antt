@@ -1,8 +1,8 @@
 -- For each interval length there is a file's beginning behind which a day of it may stand. Assumes nothing.
-use Prim.Native.Nat.{ℕ, _<_}
-use mathlib.Core.Path.{_≡_, refl}
+use Prim.Native.Nat.{ℕ}
+use mathlib.Core.Path.{refl}
 use mathlib.Core.Logic.{_≢_}
-use mathlib.Core.List.{List, [], _∷_, _++_}
+use mathlib.Core.List.{List, [], _∷_}
 use Prim.Native.String.{String}
 use lib.Dec.{eqb}
 use borrow.Author.Tests.{eqb-true}
@@ -15,10 +15,10 @@ use Rattle.format.specs.Numbers.{numberOf, leadingZero, smallOf, isLength, leng
 use Rattle.format.specs.Dates.{isLeap, daysIn, isDay, isDate, isTime, isMinute, dateOf, createdOf, nextReadOf}
 use Rattle.format.specs.Cut.{lines, fields}
 use Rattle.format.specs.Records.{isKind, indicatorOf, kindIn, rowOf, countOf, ruleOf, obeys, versionIn, intervalsIn, qualitiesOf, firstBroken}
-use Rattle.format.specs.Order.{Due, due, mayCome, afterOf}
+use Rattle.format.specs.Order.{due, mayCome, afterOf}
 use Rattle.format.specs.Faults.{isOpen, faultIn, brokenIn, isLate, isOff, isAlike, isElsewhere, faultAt, faultOf}
 use Rattle.format.specs.Settled.{records}
-use Rattle.shortest.specs.Blocks.{Awaits, Leads}
+use Rattle.shortest.specs.Blocks.{Leads}
 
 -- a 100, and a 200 that ends so
 abbrev opening : String → List ℕ
