@@ -3,7 +3,7 @@ use Prim.Native.Nat.{ℕ, zero, suc, _+_, _-_, _^_, _≤_, _<_}
 use mathlib.Core.Path.{_≡_, refl, sym, ap, ap₂, _∙_, subst}
 use mathlib.Core.Logic.{_≢_}
 use mathlib.Core.Bool.{true, false, cond, _&&_, _||_, true≢false, false≢true}
-use mathlib.Core.List.{List, [], _∷_, _++_, map}
+use mathlib.Core.List.{List, [], _∷_, _++_, map, append-nil}
 use native.Mathlib.Omega.{arith}
 use lib.ListN.{length, getD, replicate, getD-replicate, length-map}
 use lib.Dec.{eqb}
@@ -17,24 +17,21 @@ use Rattle.ground.proofs.Cases.{by}
 use Rattle.format.specs.Numbers.{numberIn}
 use Rattle.format.specs.Dates.{isDate, isTime}
 use Rattle.format.specs.Quality.{standsAlone, takesMethod, qualityOf, Mark, noMark}
-use Rattle.format.specs.Cut.{Lines, fields}
-use Rattle.format.specs.Records.{dateIn, millionths, valuesIn, firstIn, lastIn, markAt, markIn}
+use Rattle.format.specs.Records.{dateIn, millionths, firstIn, lastIn, markAt, markIn}
 use Rattle.format.specs.Order.{Due, isVaried}
-use Rattle.format.specs.Day.{DayRows, runsFrom, daysFrom, coverOf, eachOf, valuesOf, updateIn, loadIn, Day, marksOf, dayOf}
+use Rattle.format.specs.Day.{coverOf, eachOf, valuesOf, Day, marksOf, dayOf}
 use Rattle.format.specs.Block.{fitQuality, fitMark, fitValue, fitDay, valueText, qualityText, reasonText, loadText, comma, crlf, markText, valuesText, runsIn, isUniform, topText, tailText, blockOf}
 use Rattle.format.proofs.NumberText.{date-back, time-back, load-back}
 use Rattle.format.proofs.ValueText.{value-back}
 use Rattle.format.proofs.CoverText.{runs-spell, runs-are-proper, uniform-is, uniform}
-use Rattle.theorems.specs.Grammar.{Each, Record, join, text, IsRecord, Covers, IsBlock}
-use Rattle.theorems.proofs.Rows.{record-fields}
-use Rattle.theorems.proofs.Takes.{fields-of}
+use Rattle.theorems.specs.Days.{rowsAt, rowsOf, dayIn}
+use Rattle.theorems.specs.Grammar.{Record, join, text, IsRecord, Block, Covers, IsBlock}
 use Rattle.shortest.specs.Blocks.{Accepted, Reads, Awaits}
 use Rattle.shortest.specs.Writer.{ReadsBack}
 use Rattle.shortest.proofs.Shapes.{TopSays, top-says}
 use Rattle.shortest.proofs.Forms.{uniform-top, uniform-tail, varied-top, varied-tail}
-use Rattle.shortest.proofs.Steps.{runs-more, dayAt, days-more}
-use Rattle.shortest.proofs.Pass.{cut, kind-of, block-lines, block-accepted}
-use Rattle.shortest.proofs.Texts.{Carried, mark-said, mark-carried, v-carried}
+use Rattle.shortest.proofs.Pass.{block-reads, block-accepted}
+use Rattle.shortest.proofs.Texts.{Carried, fit-parts, mark-said, mark-carried, v-carried}
 use Rattle.shortest.proofs.Written.{three, topWritten, top-record, top-text, runWritten, coverWritten, cover-text, Fitting, fitting, written-first, written-last, written-mark, cover-records, cover-covers, cover-alike}
 
 -- ---- a day that may be written
@@ -46,14 +43,14 @@ pub record Whole (d : Day) : Type 0 where
   pub some : 1 ≤ d .n
   pub few : d .n < 10 ^ 4
 
-pub record Parts (d : Day) : Type 0 where
-  pub date : isDate (d .date) ≡ true
-  pub update : isTime (d .update) ≡ true
-  pub load : (eqb (d .load) 0 || isTime (d .load)) ≡ true
-  pub values : all fitValue (d .values) ≡ true
-  pub marks : all fitMark (d .marks) ≡ true
+record Parts (d : Day) : Type 0 where
+  date : isDate (d .date) ≡ true
+  update : isTime (d .update) ≡ true
+  load : (eqb (d .load) 0 || isTime (d .load)) ≡ true
+  values : all fitValue (d .values) ≡ true
+  marks : all fitMark (d .marks) ≡ true
 
-pub parts : (d : Day) → fitDay d ≡ true → Parts d
+parts : (d : Day) → fitDay d ≡ true → Parts d
 unfolding fitDay
 parts d h =
     let a = and-true (isDate (d .date) && isTime (d .update) && (eqb (d .load) 0 || isTime (d .load)) && all fitValue (d .values)) (all fitMark (d .marks)) h in
@@ -64,24 +61,14 @@ parts d h =
 
 -- ---- what is read
 
-days-none : (p n : ℕ) (rs : List Record) → Each (IsRecord 400 0) rs → daysFrom p n (cut rs) ≡ []
-unfolding daysFrom
-days-none p n [] h = refl
-days-none p n (r ∷ rs) h = rw (kind-of 400 0 r (h .0)) (days-none (p + length (join r) + 2) n rs (h .1))
-
-cover-says : (p a : ℕ) (c : List (Run Mark)) → Fitting a c → coverOf (λ x. markAt 400 3 (x .cells)) (runsFrom p (cut (coverWritten a c))) ≡ spell c
-unfolding coverOf runsFrom spell
+cover-says : (p a : ℕ) (c : List (Run Mark)) → Fitting a c → coverOf (λ x. markAt 400 3 (x .cells)) (rowsAt p (coverWritten a c)) ≡ spell c
+unfolding coverOf spell
 cover-says p a [] h = refl
 cover-says p a (run k m ∷ c) h =
     let row : Record = runWritten a (a + k) m in
-    let i : IsRecord 400 0 row = cover-records a (run k m ∷ c) h .0 in
-    let e : fields (join row) ≡ row = fields-of row (record-fields 400 0 row i) .0 in
     let s : 1 ≤ k = h .0 in
     let w : lastIn row + 1 - firstIn row ≡ k = omega (arith, written-first a k m (h .0) (h .1) (h .2), written-last a k m (h .0) (h .1) (h .2)) in
-    let f : List (List ℕ) → List Mark = λ cells. replicate (lastIn cells + 1 - firstIn cells) (markIn cells) in
-    ap (coverOf (λ x. markAt 400 3 (x .cells))) (runs-more p (join row) (cut (coverWritten (a + k) c)) (kind-of 400 0 row i))
-    ∙ ap (λ (x : List Mark). f (fields (join row)) ++ x) (cover-says (p + length (join row) + 2) (a + k) c (h .3))
-    ∙ ap (λ (x : List (List ℕ)). f x ++ spell c) e
+    ap (λ (x : List Mark). replicate (lastIn row + 1 - firstIn row) (markIn row) ++ x) (cover-says (p + length (join row) + 2) (a + k) c (h .3))
     ∙ ap (λ (x : ℕ). replicate x (markIn row) ++ spell c) w
     ∙ ap (λ (x : Mark). replicate k x ++ spell c) (written-mark a k m (h .0) (h .1) (h .2))
 
@@ -108,9 +95,6 @@ module _ (d : Day) (w : Whole d) (q s x : List ℕ) (c : Carried 300 q s x) wher
       let p = parts d (w .fit) in
       top-record (d .date) (d .update) (d .load) (d .values) q s x (d .n) (w .values) (p .date) (p .update) (p .load) (p .values) c
 
-  cells : fields (join top) ≡ top
-  cells = fields-of top (record-fields 300 (d .n) top top-is) .0
-
   says : TopSays (d .n) top (padded 8 (d .date)) (map valueText (d .values)) q s x (padded 14 (d .update)) (loadText (d .load))
   unfolding top
   says = top-says three (padded 8 (d .date)) (map valueText (d .values)) q s x (padded 14 (d .update)) (loadText (d .load)) (d .n) (length-map (d .values) valueText ∙ w .values)
@@ -124,33 +108,27 @@ module _ (d : Day) (w : Whole d) (q s x : List ℕ) (c : Carried 300 q s x) wher
       top-text (d .date) (d .update) (d .load) (d .values) q s x rows
       ∙ ap₂ (λ (y z : List ℕ). bytes "300," ++ padded 8 (d .date) ++ comma ++ valuesText (d .values) ++ y ++ comma ++ padded 14 (d .update) ++ comma ++ loadText (d .load) ++ crlf ++ z) e f
 
-  -- the day that is read from it and its 400s
-  day-by : (p : ℕ) (runs : List Record) → Each (IsRecord 400 0) runs
-      → ((p : ℕ) → cond (isVaried (d .n) top) (coverOf (λ x. markAt 400 3 (x .cells)) (runsFrom p (cut runs))) (replicate (d .n) (markAt 300 (d .n + 2) top)) ≡ d .marks)
-      → map dayOf (daysFrom p (d .n) (cut (top ∷ runs))) ≡ d ∷ []
-  unfolding dayOf valuesOf marksOf eachOf
-  day-by p runs h e =
-      let p′ : ℕ = p + length (join top) + 2 in
-      let g : dayOf (dayAt p (join top) (cut runs) (d .n)) ≡ d =
+  -- the day that it and its 400s say
+  day-by : (runs : List Record)
+      → ((p : ℕ) → cond (isVaried (d .n) top) (coverOf (λ x. markAt 400 3 (x .cells)) (rowsAt p runs)) (replicate (d .n) (markAt 300 (d .n + 2) top)) ≡ d .marks)
+      → dayIn (d .n) (record { top = top; runs = runs; extra = [] }) ≡ d
+  unfolding dayIn dayOf valuesOf marksOf eachOf
+  day-by runs e =
       day-is
-      (ap dateIn cells ∙ date-by)
-      (ap (updateIn (d .n)) cells ∙ says .update ∙ ap numberIn (time-back (d .update) (parts d (w .fit) .update)))
-      (ap (loadIn (d .n)) cells ∙ says .load ∙ ap numberIn (load-back (d .load) (parts d (w .fit) .load)))
-      (ap (valuesIn (d .n)) cells ∙ says .values ∙ values-back (d .values) (parts d (w .fit) .values))
-      (ap (λ (x : Record). cond (isVaried (d .n) x) (coverOf (λ x. markAt 400 3 (x .cells)) (runsFrom p′ (cut runs))) (replicate (d .n) (markAt 300 (d .n + 2) x))) cells ∙ e p′) in
-      ap (map dayOf) (days-more p (join top) (cut runs) (d .n) (kind-of 300 (d .n) top top-is))
-      ∙ ap (λ (x : List DayRows). dayOf (dayAt p (join top) (cut runs) (d .n)) ∷ map dayOf x) (days-none p′ (d .n) runs h)
-      ∙ ap (λ (x : Day). x ∷ []) g
+      date-by
+      (says .update ∙ ap numberIn (time-back (d .update) (parts d (w .fit) .update)))
+      (says .load ∙ ap numberIn (load-back (d .load) (parts d (w .fit) .load)))
+      (says .values ∙ values-back (d .values) (parts d (w .fit) .values))
+      (e (0 + length (join top) + 2))
 
 -- ---- the two forms of the block
 
-record Rows (d : Day) : Type 0 where
-  first : Record
-  runs : List Record
-  bytes-are : text (first ∷ runs) ≡ blockOf d
-  block : IsBlock (d .n) (record { top = first; runs = runs; extra = [] })
-  date : dateIn first ≡ d .date
-  day : (p : ℕ) → map dayOf (daysFrom p (d .n) (cut (first ∷ runs))) ≡ d ∷ []
+-- a block of the grammar that is the day, and whose bytes are written
+pub record Written (d : Day) : Type 0 where
+  pub block : Block
+  pub good : IsBlock (d .n) block
+  pub bytes-are : text (rowsOf block) ≡ blockOf d
+  pub day : dayIn (d .n) block ≡ d
 
 uniform-all : (n : ℕ) (m : Mark) → 1 ≤ n → isUniform (replicate n m) ≡ true
 uniform-all zero m h = absurd (let z : ⊥ = omega arith in z)
@@ -162,16 +140,11 @@ first-fit (m ∷ ms) h a = and-true (fitMark m) (all fitMark ms) a .0
 
 -- V is no quality of a fit mark
 no-v : (m : Mark) → fitMark m ≡ true → m .flag ≢ 86
-unfolding fitMark fitQuality standsAlone takesMethod
-no-v m h e =
-    let a = and-true _ _ h in
-    let b = and-true _ _ (a .0) in
-    let c = and-true _ _ (b .0) in
-    let g = and-true (fitQuality (m .flag) (m .method)) _ (c .0) in
-    false≢true (rw e at (g .0))
+unfolding fitQuality standsAlone takesMethod
+no-v m h e = false≢true (rw e at (fit-parts m h .quality))
 
 module _ (d : Day) (w : Whole d) where
-  alike-rows : isUniform (d .marks) ≡ true → Rows d
+  alike-rows : isUniform (d .marks) ≡ true → Written d
   unfolding text markText
   alike-rows u =
       let m : Mark = getD (d .marks) 0 noMark in
@@ -186,10 +159,8 @@ module _ (d : Day) (w : Whole d) where
       let no : isVaried (d .n) (top d w q s x c) ≡ false =
       says d w q s x c .varied ∙ ap (λ (y : Mark). eqb (y .flag) 86) (mark-said 300 m f) ∙ ne-eqb (m .flag) 86 (no-v m f) in
       record {
-        first = top d w q s x c;
-        runs = [];
-        bytes-are = bytes-by d w q s x c [] (sym (uniform-top (d .marks) u)) (sym (uniform-tail (d .marks) u));
-        block = record {
+        block = record { top = top d w q s x c; runs = []; extra = [] };
+        good = record {
           top = top-is d w q s x c;
           runs = tt;
           extra = tt;
@@ -197,11 +168,11 @@ module _ (d : Day) (w : Whole d) where
           covers = λ e. absurd (true≢false (sym e ∙ no));
           unlike = λ e. absurd (true≢false (sym e ∙ no));
         };
-        date = date-by d w q s x c;
-        day = λ p. day-by d w q s x c p [] tt (λ p′. rw (no, says d w q s x c .mark, mark-said 300 m f) (ap (replicate (d .n)) k ∙ sym g));
+        bytes-are = bytes-by d w q s x c [] (sym (uniform-top (d .marks) u)) (sym (uniform-tail (d .marks) u));
+        day = day-by d w q s x c [] (λ p. rw (no, says d w q s x c .mark, mark-said 300 m f) (ap (replicate (d .n)) k ∙ sym g));
       }
 
-  varied-rows : isUniform (d .marks) ≡ false → Rows d
+  varied-rows : isUniform (d .marks) ≡ false → Written d
   unfolding qualityOf standsAlone
   varied-rows u =
       let c : List (Run Mark) = runsIn (d .marks) in
@@ -209,35 +180,38 @@ module _ (d : Day) (w : Whole d) where
       let l : length (spell c) ≡ d .n = ap length s ∙ w .marks in
       let f : Fitting 0 c =
       fitting 0 c (runs-are-proper (d .marks)) (subst (λ (ms : List Mark). all fitMark ms ≡ true) (sym s) (parts d (w .fit) .marks)) (omega (arith, w .few)) in
-      let yes-v : isVaried (d .n) (top d w (86 ∷ []) [] [] v-carried) ≡ true = says d w (86 ∷ []) [] [] v-carried .varied in
+      let v : Carried 300 (86 ∷ []) [] [] = v-carried in
+      let t : Record = top d w (86 ∷ []) [] [] v in
+      let yes-v : isVaried (d .n) t ≡ true = says d w (86 ∷ []) [] [] v .varied in
       record {
-        first = top d w (86 ∷ []) [] [] v-carried;
-        runs = coverWritten 0 c;
-        bytes-are = bytes-by d w (86 ∷ []) [] [] v-carried (coverWritten 0 c) (sym (varied-top (d .marks) u)) (cover-text 0 c ∙ sym (varied-tail (d .marks) u));
-        block = record {
-          top = top-is d w (86 ∷ []) [] [] v-carried;
+        block = record { top = t; runs = coverWritten 0 c; extra = [] };
+        good = record {
+          top = top-is d w (86 ∷ []) [] [] v;
           runs = cover-records 0 c f;
           extra = tt;
           only-v = λ e. absurd (true≢false (sym yes-v ∙ e));
           covers = λ e. subst (λ (n : ℕ). Covers n 1 (coverWritten 0 c)) (omega arith) (cover-covers 0 c f);
           unlike = λ e a. absurd (true≢false (sym (ap isUniform (sym s ∙ cover-alike 0 c (a .0) f (a .1)) ∙ uniform-all (length (spell c)) (a .0) (omega (arith, w .some))) ∙ u));
         };
-        date = date-by d w (86 ∷ []) [] [] v-carried;
-        day = λ p. day-by d w (86 ∷ []) [] [] v-carried p (coverWritten 0 c) (cover-records 0 c f) (λ p′. rw yes-v (cover-says p′ 0 c f ∙ s));
+        bytes-are =
+            ap (λ (rs : List Record). text (t ∷ rs)) (append-nil (coverWritten 0 c))
+            ∙ bytes-by d w (86 ∷ []) [] [] v (coverWritten 0 c) (sym (varied-top (d .marks) u)) (cover-text 0 c ∙ sym (varied-tail (d .marks) u));
+        day = day-by d w (86 ∷ []) [] [] v (coverWritten 0 c) (λ p. rw yes-v (cover-says p 0 c f ∙ s));
       }
 
--- ---- the theorem
+  pub written : Written d
+  written = by (isUniform (d .marks)) alike-rows varied-rows
 
-pub back : (d : Day) → Whole d → (st : Due) → Awaits st (d .n) (d .date) → ReadsBack d st
-back d w st a =
-    let r : Rows d = by (isUniform (d .marks)) (alike-rows d w) (varied-rows d w) in
-    let b : IsBlock (st .n) (record { top = r .first; runs = r .runs; extra = [] }) =
-    subst (λ (n : ℕ). IsBlock n (record { top = r .first; runs = r .runs; extra = [] })) (sym (a .intervals)) (r .block) in
-    let l : st .date < dateIn (r .first) = rw (r .date) (a .earlier) in
-    record {
-      accepted = subst (Accepted st) (r .bytes-are) (block-accepted st (r .first) (r .runs) b (a .free) l);
-      same = λ p.
-          subst (λ (x : List ℕ). Reads p (st .n) x d) (r .bytes-are)
-          (ap (λ (x : Lines). map dayOf (daysFrom p (st .n) x)) (block-lines st (r .first) (r .runs) b (a .free) l)
-          ∙ ap (λ (n : ℕ). map dayOf (daysFrom p n (cut (r .first ∷ r .runs)))) (a .intervals) ∙ r .day p);
-    }
+  -- ---- the theorem
+
+  pub back : (st : Due) → Awaits st (d .n) (d .date) → ReadsBack d st
+  unfolding dayIn dayOf
+  back st a =
+      let r = written in
+      let e : dayIn (st .n) (r .block) ≡ d = ap (λ (n : ℕ). dayIn n (r .block)) (a .intervals) ∙ r .day in
+      let g : IsBlock (st .n) (r .block) = subst (λ (n : ℕ). IsBlock n (r .block)) (sym (a .intervals)) (r .good) in
+      let t : dateIn (r .block .top) ≡ d .date = ap (λ (x : Day). x .date) (r .day) in
+      record {
+        accepted = subst (Accepted st) (r .bytes-are) (block-accepted (r .block) st g (a .free) (rw t (a .earlier)));
+        same = λ p. subst (λ (x : List ℕ). Reads p (st .n) x d) (r .bytes-are) (subst (Reads p (st .n) (text (rowsOf (r .block)))) e (block-reads (r .block) (st .n) g p));
+      }

@@ -12,13 +12,13 @@ use borrow.Author.Tests.{eqb-true, eqb-false, ne-eqb}
 use Rattle.ground.proofs.Cases.{by}
 use Rattle.format.specs.Cut.{isCrlf, Lines, line, rest, onFirst, lines, fields}
 use Rattle.format.specs.Records.{kindIn, intervalsIn}
-use Rattle.format.specs.Order.{Due, begun, isVaried, afterOf}
+use Rattle.format.specs.Order.{Due, begun, isVaried, on200, on300, on400, on500, on250, on550, on900, afterOf}
 use Rattle.format.specs.File.{after, walkOf}
 use Rattle.format.specs.Day.{Row, DayRows, rowAt, runsFrom, daysFrom, daysOf}
 use Rattle.theorems.proofs.Bytes.{bytesOf, bytes-lines}
 use Rattle.theorems.proofs.Fit.{Fit, fine-fit, Head, h100, h200, more200, h300, h400, h500, h250, h550, h900, basic900, head}
 use Rattle.shortest.specs.Blocks.{Passes, kindsOf}
-use Rattle.shortest.proofs.Steps.{dayAt, days-more, days-skip}
+use Rattle.shortest.proofs.Steps.{dayFound, days-more, days-skip}
 
 -- ---- lines
 
@@ -106,25 +106,29 @@ record Carries (a : Due) (n : ℕ) : Type 0 where
 abbrev Stepped : Due → ℕ → ℕ → List (List ℕ) → Type 0
 Stepped a n k fs = Carries (afterOf a k fs) (cond (eqb k 200) (intervalsIn fs) n) × (afterOf a k fs .days ≡ a .days + cond (eqb k 300) 1 0)
 
-module _ (a : Due) (n k : ℕ) (fs : List (List ℕ)) (c : Carries a n) where
-  stepped : Head (a .expect) k → Stepped a n k fs
-  unfolding afterOf
-  stepped (h100 e x) =
-      let w = c .start x in
-      rw e (record { same = λ z. sym (w .0); start = λ z. (w .0, refl) }, omega (arith, w .1))
-  stepped (h200 e x) = rw e (record { same = λ z. refl; start = λ z. absurd (let y : ⊥ = omega arith in y) }, omega arith)
-  stepped (more200 e x y) = rw e (record { same = λ z. refl; start = λ z. absurd (let y : ⊥ = omega arith in y) }, omega arith)
-  stepped (h300 e x y) = rw e (record { same = λ z. c .same y; start = λ z. absurd (later (isVaried (a .n) fs) z) }, refl)
-    where
-      later : (b : Bool) → _≡_ {A = ℕ} (cond b 4 3) 0 → ⊥
-      later true z = omega arith
-      later false z = omega arith
-  stepped (h400 e x) = rw e (record { same = λ z. c .same (omega arith); start = λ z. absurd (let y : ⊥ = omega arith in y) }, omega arith)
-  stepped (h500 e x y) = rw e (record { same = λ z. c .same y; start = λ z. absurd (let y : ⊥ = omega arith in y) }, omega arith)
-  stepped (h250 e x y) = rw e (record { same = λ z. absurd (let y : ⊥ = omega arith in y); start = λ z. absurd (let y : ⊥ = omega arith in y) }, omega arith)
-  stepped (h550 e x) = rw e (record { same = λ z. absurd (let y : ⊥ = omega arith in y); start = λ z. absurd (let y : ⊥ = omega arith in y) }, omega arith)
-  stepped (h900 e x y) = rw e (record { same = λ z. absurd (let y : ⊥ = omega arith in y); start = λ z. absurd (let y : ⊥ = omega arith in y) }, omega arith)
-  stepped (basic900 e x y) = rw e (record { same = λ z. absurd (let y : ⊥ = omega arith in y); start = λ z. absurd (let y : ⊥ = omega arith in y) }, omega arith)
+-- behind the 100, where days may come, and where none do
+in-12 : (a : Due) (n : ℕ) → 1 ≤ a .expect → a .n ≡ n → Carries a n
+in-12 a n l e = record { same = λ z. e; start = λ z. absurd (let y : ⊥ = omega arith in y) }
+
+in-13 : (a : Due) (n : ℕ) → 6 ≤ a .expect → Carries a n
+in-13 a n l = record { same = λ z. absurd (let y : ⊥ = omega arith in y); start = λ z. absurd (let y : ⊥ = omega arith in y) }
+
+one-or-more : (b : Bool) → 1 ≤ cond b 4 3
+one-or-more true = omega arith
+one-or-more false = omega arith
+
+stepped : (a : Due) (n k : ℕ) (fs : List (List ℕ)) → Carries a n → Head (a .expect) k → Stepped a n k fs
+unfolding afterOf
+stepped a n k fs c (h100 e x) = let w = c .start x in rw e (record { same = λ z. sym (w .0); start = λ z. (w .0, refl) }, omega (arith, w .1))
+stepped a n k fs c (h200 e x) = rw e (in-12 (on200 a fs) (intervalsIn fs) (omega arith) refl, omega arith)
+stepped a n k fs c (more200 e x y) = rw e (in-12 (on200 a fs) (intervalsIn fs) (omega arith) refl, omega arith)
+stepped a n k fs c (h300 e x y) = rw e (in-12 (on300 a fs) n (one-or-more (isVaried (a .n) fs)) (c .same y), refl)
+stepped a n k fs c (h400 e x) = rw e (in-12 (on400 a fs) n (omega arith) (c .same (omega arith)), omega arith)
+stepped a n k fs c (h500 e x y) = rw e (in-12 (on500 a fs) n (omega arith) (c .same y), omega arith)
+stepped a n k fs c (h250 e x y) = rw e (in-13 (on250 a fs) n (omega arith), omega arith)
+stepped a n k fs c (h550 e x) = rw e (in-13 (on550 a fs) n (omega arith), omega arith)
+stepped a n k fs c (h900 e x y) = rw e (in-13 (on900 a fs) n (omega arith), omega arith)
+stepped a n k fs c (basic900 e x y) = rw e (in-13 (on900 a fs) n (omega arith), omega arith)
 
 -- the days of these lines, and then those of others behind them
 record Split (a e : Due) (p n : ℕ) (ls m : Lines) : Type 0 where
@@ -144,11 +148,11 @@ module _ (a e : Due) (p n : ℕ) (r : List ℕ) (ls m : Lines) (f : Fit a r) (c 
       let k : kindIn (fields r) ≡ 300 = eqb-true _ _ t in
       let w = g n (subst (λ (x : ℕ). Carries (after a r) (cond (eqb x 200) (intervalsIn (fields r)) n)) k (s .0)) in
       record {
-        before = dayAt p r (onto ls m) n ∷ w .before;
+        before = dayFound p r (onto ls m) n ∷ w .before;
         behind = w .behind;
         is =
             days-more p r (onto ls m) n k
-            ∙ ap (λ (x : List DayRows). dayAt p r (onto ls m) n ∷ x) (w .is ∙ ap (λ (i : ℕ). w .before ++ daysFrom i (w .behind) m) u);
+            ∙ ap (λ (x : List DayRows). dayFound p r (onto ls m) n ∷ x) (w .is ∙ ap (λ (i : ℕ). w .before ++ daysFrom i (w .behind) m) u);
         count = omega (arith, s .1, ap {B = ℕ} (λ (x : Bool). cond x 1 0) t, w .count);
         carries = w .carries;
       })

@@ -13,12 +13,10 @@ use Rattle.ground.proofs.Tests.{and-true}
 use Rattle.ground.proofs.Cases.{by}
 use Rattle.ground.proofs.From.{length-from}
 use Rattle.format.specs.Numbers.{isLength, intervalsOf}
-use Rattle.format.specs.Dates.{isDate}
 use Rattle.format.specs.Day.{enoughFor}
-use Rattle.format.proofs.Dates.{day-is}
 use Rattle.format.specs.Block.{Given, intervalsGiven, markGiven, dayGiven, isInside, fitGiven, fitDay}
 use Rattle.shortest.specs.Writer.{Writable}
-use Rattle.shortest.proofs.Back.{Whole, parts}
+use Rattle.shortest.proofs.Back.{Whole}
 
 few : (m : ℕ) → intervalsOf m < 10 ^ 4
 unfolding intervalsOf isLength
@@ -48,8 +46,3 @@ whole g w =
       some = omega arith;
       few = few (g .head .length);
     }
-
--- its date is not 0
-pub date-some : (g : Given) → Writable g → 0 < g .head .date
-unfolding dayGiven isDate
-date-some g w = let d = day-is _ _ _ (parts (dayGiven g) (whole g w .fit) .date) in omega (arith, d .from)

@@ -29,7 +29,7 @@ use Rattle.theorems.proofs.Bytes.{bytesOf, bytes-lines}
 use Rattle.theorems.proofs.Fit.{fine-fit, fit-fine, free-of, free-if}
 use Rattle.theorems.proofs.Format.{walk-of, of-walk}
 use Rattle.shortest.specs.Blocks.{Passes, kindsOf, Free, Accepted, Reads, Awaits, Leads, markOf, Stands}
-use Rattle.shortest.proofs.Steps.{fit-cover, after-300, after-400, after-500, runs-end, dayAt, days-more, headed}
+use Rattle.shortest.proofs.Steps.{fit-cover, after-300, after-400, after-500, runs-end, dayFound, days-more, headed}
 use Rattle.shortest.proofs.Tags.{tags-marks, read-is}
 use Rattle.shortest.proofs.Files.{onto, lines-behind, passes-append, walk-append, days-append, runs-lines}
 
@@ -160,7 +160,7 @@ module _ (before b behind : List ℕ) (st : Due) (d : Day) (h : Leads before st)
 
   -- the rows of the block's day
   rows : DayRows
-  rows = let w = headed st b a in dayAt (length before) (w .first) (onto (w .others) (lines behind)) (st .n)
+  rows = let w = headed st b a in dayFound (length before) (w .first) (onto (w .others) (lines behind)) (st .n)
 
   cut-there : lines (b ++ behind) ≡ line (headed st b a .first) (onto (headed st b a .others) (lines behind))
   cut-there = lines-behind st (a .end) b behind (a .passes) ∙ ap (λ (l : Lines). onto l (lines behind)) (headed st b a .is)

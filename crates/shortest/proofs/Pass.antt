@@ -1,25 +1,32 @@
--- A block of the grammar without 500s is accepted where a block may stand. Assumes nothing.
+-- A block of the grammar is accepted where one may stand, and read as the day that it is by the grammar. Assumes nothing.
 use Prim.Native.Nat.{ℕ, _+_, _≤_, _<_}
-use mathlib.Core.Path.{_≡_, refl, sym, ap, _∙_, subst}
+use mathlib.Core.Path.{_≡_, refl, sym, ap, ap₂, _∙_, subst}
+use mathlib.Core.Logic.{_⊎_, inl, inr}
 use mathlib.Core.Bool.{true, false, _||_}
-use mathlib.Core.List.{List, [], _∷_}
+use mathlib.Core.List.{List, [], _∷_, _++_, map}
 use native.Mathlib.Omega.{arith}
+use lib.ListN.{length}
 use lib.Dec.{eqb}
 use borrow.Author.Tests.{eqb-true, eq-eqb, le-leb, lt-leb}
 use Rattle.ground.specs.Lists.{all}
 use Rattle.ground.proofs.Cases.{by}
 use Rattle.format.specs.Cut.{Lines, line, rest, lines, fields}
 use Rattle.format.specs.Records.{kindIn, dateIn, firstIn, lastIn}
-use Rattle.format.specs.Order.{Due, mayCome, isVaried, alikeWith, on300, on400, afterOf}
+use Rattle.format.specs.Order.{Due, due, mayCome, isVaried, alikeWith, on300, on400, on500, afterOf}
 use Rattle.format.specs.Faults.{size, isOpen, isLate, covers, isOff, isAlike, isElsewhere, faultOf}
 use Rattle.format.specs.File.{after}
+use Rattle.format.specs.Day.{Row, DayRows, runsFrom, daysFrom, Day, dayOf}
 use Rattle.format.specs.declared.Fault.the-variants.{Fine}
-use Rattle.theorems.specs.Grammar.{Each, Record, join, text, IsRecord, Covers, Marked, IsBlock}
+use Rattle.theorems.specs.Grammar.{Each, Record, join, text, IsRecord, Block, Covers, Marked, Extra, IsBlock}
+use Rattle.theorems.specs.Days.{rowsAt, rowsOf, dayAt, dayIn}
 use Rattle.theorems.proofs.Bytes.{lines-row}
 use Rattle.theorems.proofs.Rows.{Fields, Ok, record-fields, record-ok}
+use Rattle.theorems.proofs.Says.{date-some, day-on}
+use Rattle.theorems.proofs.Meaning.{day-anywhere}
 use Rattle.theorems.proofs.Takes.{fields-of}
 use Rattle.theorems.proofs.Fit.{fit-fine, free-if, free-400, Apart, apart-on, marked-end}
-use Rattle.shortest.specs.Blocks.{Passes, kindsOf, isBlock, Free, Accepted}
+use Rattle.shortest.specs.Blocks.{Passes, kindsOf, isBlock, Free, Accepted, Reads, Says}
+use Rattle.shortest.proofs.Steps.{dayFound, days-more}
 
 -- ---- records as their fields, and as the lines of a file
 
@@ -89,82 +96,152 @@ module _ (st : Due) (fs : Record) where
         day = refl;
       }
 
--- ---- the 400s
+  tests-500 : Extra (st .date) fs → 3 ≤ st .expect → st .expect ≤ 5 → (st .expect ≡ 4 → st .n < st .next) → Tests st 500 fs
+  unfolding mayCome isLate isOff isAlike isElsewhere
+  tests-500 x l h f =
+      record {
+        free = free-if st 500 f;
+        may = rw (le-leb _ _ l, le-leb _ _ h);
+        rises = refl;
+        cover = refl;
+        apart = refl;
+        day = rw (day-on (st .date) fs x);
+      }
 
+-- ---- the lists
+
+-- passed to where a day may end
 record Done (st : Due) (ls : Lines) : Type 0 where
   end : Due
   passes : Passes st ls end
-  under : end .expect ≡ 4
-  full : end .n < end .next
+  free : Free end
 
-runs-pass : (rs : List Record) (st : Due) → st .expect ≡ 4 → 1 ≤ st .next → Each (IsRecord 400 0) rs → Covers (st .n) (st .next) rs → Apart st rs → Done st (cut rs)
+free-here : (st : Due) → 3 ≤ st .expect → st .expect ≤ 5 → (st .expect ≡ 4 → st .n < st .next) → Free st
+unfolding mayCome
+free-here st l h f = let a : 2 ≤ st .expect = omega arith in (rw (le-leb _ _ a, le-leb _ _ h), free-if st 300 f)
+
+extras-pass : (xs : List Record) (st : Due) → 3 ≤ st .expect → st .expect ≤ 5 → (st .expect ≡ 4 → st .n < st .next) → Each (Extra (st .date)) xs → Done st (cut xs)
 unfolding afterOf
-runs-pass [] st x o h cv a = record { end = st; passes = (refl, refl); under = x; full = omega arith }
-runs-pass (r ∷ rs) st x o h cv a =
+extras-pass [] st l h f x = record { end = st; passes = (refl, refl); free = free-here st l h f }
+extras-pass (r ∷ rs) st l h f x =
+    let w = extras-pass rs (on500 st r) (omega arith) (omega arith) (λ z. absurd (let y : ⊥ = omega arith in y)) (x .1) in
+    record { end = w .end; passes = go-on st 500 r (x .0 .0) (cut rs) (w .end) (tests-500 st r (x .0) l h f) (w .passes); free = w .free }
+
+runs-pass : (rs xs : List Record) (st : Due) → st .expect ≡ 4 → 1 ≤ st .next → Each (IsRecord 400 0) rs → Covers (st .n) (st .next) rs → Apart st rs → Each (Extra (st .date)) xs
+    → Done st (cut (rs ++ xs))
+unfolding afterOf
+runs-pass [] xs st x o h cv a g = extras-pass xs st (omega arith) (omega arith) (λ z. omega arith) g
+runs-pass (r ∷ rs) xs st x o h cv a g =
     let on : alikeWith st r ≡ true → Marked (on400 st r .mark) rs → ⊥ = apart-on st r rs a in
     let no : lastIn r ≡ st .n → alikeWith st r ≡ false =
     λ z. by (alikeWith st r) (λ t. absurd (on t (marked-end (st .n) (lastIn r + 1) rs (on400 st r .mark) (omega arith) (cv .3)))) (λ t. t) in
     let le : firstIn r ≤ lastIn r = cv .1 in
     let eq : firstIn r ≡ st .next = cv .0 in
-    let w = runs-pass rs (on400 st r) refl (omega arith) (h .1) (cv .3) (record { first = λ z q. (let y : lastIn r + 1 ≡ 1 = z in omega arith); later = λ z. on }) in
-    record {
-      end = w .end;
-      passes = go-on st 400 r (h .0) (cut rs) (w .end) (tests-400 st r x (cv .0) (cv .1) (cv .2) no) (w .passes);
-      under = w .under;
-      full = w .full;
-    }
+    let w = runs-pass rs xs (on400 st r) refl (omega arith) (h .1) (cv .3) (record { first = λ z q. (let y : lastIn r + 1 ≡ 1 = z in omega arith); later = λ z. on }) g in
+    record { end = w .end; passes = go-on st 400 r (h .0) (cut (rs ++ xs)) (w .end) (tests-400 st r x (cv .0) (cv .1) (cv .2) no) (w .passes); free = w .free }
+
+block-pass : (b : Block) (st : Due) → IsBlock (st .n) b → Free st → st .date < dateIn (b .top) → Done st (cut (rowsOf b))
+unfolding afterOf
+block-pass b st h f l = by (isVaried (st .n) (b .top)) varied alike
+  where
+    under : Done (on300 st (b .top)) (cut (b .runs ++ b .extra)) → Done st (cut (rowsOf b))
+    under w = record { end = w .end; passes = go-on st 300 (b .top) (h .top) (cut (b .runs ++ b .extra)) (w .end) (tests-300 st (b .top) f l) (w .passes); free = w .free }
+
+    varied : isVaried (st .n) (b .top) ≡ true → Done st (cut (rowsOf b))
+    varied e =
+        under (runs-pass (b .runs) (b .extra) (on300 st (b .top)) (rw e) (omega arith) (h .runs) (h .covers e) (record { first = λ z. h .unlike e; later = λ z. absurd (z refl) }) (h .extra))
+
+    alike : isVaried (st .n) (b .top) ≡ false → Done st (cut (rowsOf b))
+    alike e =
+        let x : on300 st (b .top) .expect ≡ 3 = rw e in
+        let w = extras-pass (b .extra) (on300 st (b .top)) (omega (arith, x)) (omega (arith, x)) (λ z. absurd (let y : ⊥ = omega (arith, x) in y)) (h .extra) in
+        under (subst (λ (rs : List Record). Done (on300 st (b .top)) (cut (rs ++ b .extra))) (sym (h .only-v e)) w)
 
 -- ---- the block
 
-pub kind-of : (k n : ℕ) (fs : Record) → IsRecord k n fs → kindIn (fields (join fs)) ≡ k
+kind-of : (k n : ℕ) (fs : Record) → IsRecord k n fs → kindIn (fields (join fs)) ≡ k
 kind-of k n fs h = ap kindIn (fields-of fs (record-fields k n fs h) .0) ∙ h .indicator
 
-kinds-under : (rs : List Record) → Each (IsRecord 400 0) rs → all (λ x. eqb x 400 || eqb x 500) (kindsOf (cut rs)) ≡ true
-kinds-under [] h = refl
-kinds-under (r ∷ rs) h = rw (kind-of 400 0 r (h .0)) (kinds-under rs (h .1))
+-- records of the kinds that stand under a 300
+abbrev Under : List Record → Type 0
+Under rs = Each (λ r. (IsRecord 400 0 r) ⊎ (IsRecord 500 0 r)) rs
 
-free-end : (st : Due) → 3 ≤ st .expect → st .expect ≤ 4 → (st .expect ≡ 4 → st .n < st .next) → Free st
-unfolding mayCome
-free-end st l h f =
-    let a : 2 ≤ st .expect = omega arith in
-    let b : st .expect ≤ 5 = omega arith in
-    (rw (le-leb _ _ a, le-leb _ _ b), free-if st 300 f)
+under-of : (t : ℕ) (rs xs : List Record) → Each (IsRecord 400 0) rs → Each (Extra t) xs → Under (rs ++ xs)
+under-of t [] [] h g = tt
+under-of t [] (x ∷ xs) h g = (inr (g .0 .0), under-of t [] xs h (g .1))
+under-of t (r ∷ rs) xs h g = (inl (h .0), under-of t rs xs (h .1) g)
 
-fields-each : (rs : List Record) → Each (IsRecord 400 0) rs → Each Fields rs
-fields-each [] h = tt
-fields-each (r ∷ rs) h = (record-fields 400 0 r (h .0), fields-each rs (h .1))
+under-fields : (rs : List Record) → Under rs → Each Fields rs
+under-fields [] h = tt
+under-fields (r ∷ rs) h = (one (h .0), under-fields rs (h .1))
+  where
+    one : (IsRecord 400 0 r) ⊎ (IsRecord 500 0 r) → Fields r
+    one (inl i) = record-fields 400 0 r i
+    one (inr i) = record-fields 500 0 r i
 
-module _ (st : Due) (top : Record) (runs : List Record) (h : IsBlock (st .n) (record { top = top; runs = runs; extra = [] })) (f : Free st) (l : st .date < dateIn top) where
-  block-pass : (end : Due) × Passes st (cut (top ∷ runs)) end × Free end
-  unfolding afterOf
-  block-pass =
-      by (isVaried (st .n) top) varied alike
-    where
-      varied : isVaried (st .n) top ≡ true → (end : Due) × Passes st (cut (top ∷ runs)) end × Free end
-      varied e =
-          let x : on300 st top .expect ≡ 4 = rw e in
-          let w = runs-pass runs (on300 st top) x (omega arith) (h .runs) (h .covers e) (record { first = λ z. h .unlike e; later = λ z. absurd (z refl) }) in
-          (w .end, go-on st 300 top (h .top) (cut runs) (w .end) (tests-300 st top f l) (w .passes), free-end (w .end) (omega (arith, w .under)) (omega (arith, w .under)) (λ z. w .full))
+under-kinds : (rs : List Record) → Under rs → all (λ x. eqb x 400 || eqb x 500) (kindsOf (cut rs)) ≡ true
+under-kinds [] h = refl
+under-kinds (r ∷ rs) h = one (h .0) (under-kinds rs (h .1))
+  where
+    one : (IsRecord 400 0 r) ⊎ (IsRecord 500 0 r) → all (λ x. eqb x 400 || eqb x 500) (kindsOf (cut rs)) ≡ true → all (λ x. eqb x 400 || eqb x 500) (kindsOf (cut (r ∷ rs))) ≡ true
+    one (inl i) e = rw (kind-of 400 0 r i) e
+    one (inr i) e = rw (kind-of 500 0 r i) e
 
-      alike : isVaried (st .n) top ≡ false → (end : Due) × Passes st (cut (top ∷ runs)) end × Free end
-      alike e =
-          let x : on300 st top .expect ≡ 3 = rw e in
-          let q : Passes (on300 st top) (cut runs) (on300 st top) = subst (λ (rs : List Record). Passes (on300 st top) (cut rs) (on300 st top)) (sym (h .only-v e)) (refl, refl) in (
-            on300 st top,
-            go-on st 300 top (h .top) (cut runs) (on300 st top) (tests-300 st top f l) q,
-            free-end (on300 st top) (omega (arith, x)) (omega (arith, x)) (λ z. absurd (let y : ⊥ = omega (arith, x) in y)),
-          )
+under-days : (p n : ℕ) (rs : List Record) → Under rs → daysFrom p n (cut rs) ≡ []
+unfolding daysFrom
+under-days p n [] h = refl
+under-days p n (r ∷ rs) h = one (h .0) (under-days (p + length (join r) + 2) n rs (h .1))
+  where
+    one : (IsRecord 400 0 r) ⊎ (IsRecord 500 0 r) → daysFrom (p + length (join r) + 2) n (cut rs) ≡ [] → daysFrom p n (cut (r ∷ rs)) ≡ []
+    one (inl i) e = rw (kind-of 400 0 r i) e
+    one (inr i) e = rw (kind-of 500 0 r i) e
 
-  pub block-lines : lines (text (top ∷ runs)) ≡ cut (top ∷ runs)
-  block-lines = lines-cut (top ∷ runs) (record-fields 300 (st .n) top (h .top), fields-each runs (h .runs))
+runs-of : (p t : ℕ) (rs xs : List Record) → Each (IsRecord 400 0) rs → Each (Extra t) xs → runsFrom p (cut (rs ++ xs)) ≡ rowsAt p rs
+unfolding runsFrom
+runs-of p t [] [] h g = refl
+runs-of p t [] (x ∷ xs) h g = rw (kind-of 500 0 x (g .0 .0))
+runs-of p t (r ∷ rs) xs h g =
+    rw (kind-of 400 0 r (h .0), fields-of r (record-fields 400 0 r (h .0)) .0)
+    (ap (λ (x : List Row). record { place = p; cells = r } ∷ x) (runs-of (p + length (join r) + 2) t rs xs (h .1) g))
 
-  pub block-accepted : Accepted st (text (top ∷ runs))
-  block-accepted =
-      let w = block-pass in
-      let k : isBlock (kindsOf (cut (top ∷ runs))) ≡ true = rw (kind-of 300 (st .n) top (h .top)) (kinds-under runs (h .runs)) in
-      record {
-        kinds = subst (λ (x : Lines). isBlock (kindsOf x) ≡ true) (sym block-lines) k;
-        end = w .0;
-        passes = subst (λ (x : Lines). Passes st x (w .0)) (sym block-lines) (w .1);
-        free = w .2;
-      }
+module _ (b : Block) (n : ℕ) (h : IsBlock n b) where
+  under : Under (b .runs ++ b .extra)
+  under = under-of (dateIn (b .top)) (b .runs) (b .extra) (h .runs) (h .extra)
+
+  block-lines : lines (text (rowsOf b)) ≡ cut (rowsOf b)
+  block-lines = lines-cut (rowsOf b) (record-fields 300 n (b .top) (h .top), under-fields (b .runs ++ b .extra) under)
+
+  -- the day of a block, by its lines and by its fields
+  day-same : (p : ℕ) → dayFound p (join (b .top)) (cut (b .runs ++ b .extra)) n ≡ dayAt p n b
+  day-same p =
+      let q : ℕ = p + length (join (b .top)) + 2 in
+      ap₂ (λ (x : Record) (y : List Row). record { n = n; top = record { place = p; cells = x }; runs = y })
+      (fields-of (b .top) (record-fields 300 n (b .top) (h .top)) .0)
+      (runs-of q (dateIn (b .top)) (b .runs) (b .extra) (h .runs) (h .extra))
+
+  pub block-reads : (p : ℕ) → Reads p n (text (rowsOf b)) (dayIn n b)
+  block-reads p =
+      let ls : Lines = cut (b .runs ++ b .extra) in
+      ap (λ (x : Lines). map dayOf (daysFrom p n x)) block-lines
+      ∙ ap (map dayOf) (days-more p (join (b .top)) ls n (kind-of 300 n (b .top) (h .top)))
+      ∙ ap (λ (x : List DayRows). dayOf (dayFound p (join (b .top)) ls n) ∷ map dayOf x) (under-days (p + length (join (b .top)) + 2) n (b .runs ++ b .extra) under)
+      ∙ ap (λ (x : Day). x ∷ []) (ap dayOf (day-same p) ∙ day-anywhere p n b)
+
+pub block-accepted : (b : Block) (st : Due) → IsBlock (st .n) b → Free st → st .date < dateIn (b .top) → Accepted st (text (rowsOf b))
+block-accepted b st h f l =
+    let w = block-pass b st h f l in
+    let e : lines (text (rowsOf b)) ≡ cut (rowsOf b) = block-lines b (st .n) h in
+    let k : isBlock (kindsOf (cut (rowsOf b))) ≡ true = rw (kind-of 300 (st .n) (b .top) (h .top)) (under-kinds (b .runs ++ b .extra) (under b (st .n) h)) in
+    record {
+      kinds = subst (λ (x : Lines). isBlock (kindsOf x) ≡ true) (sym e) k;
+      end = w .end;
+      passes = subst (λ (x : Lines). Passes st x (w .end)) (sym e) (w .passes);
+      free = w .free;
+    }
+
+-- every block of the grammar says the day that it is
+pub block-says : (b : Block) (n : ℕ) → IsBlock n b → Says (text (rowsOf b)) (dayIn n b)
+unfolding mayCome isOpen
+block-says b n h =
+    let st : Due = due 2 12 n 0 1 0 in
+    record { st = st; accepted = block-accepted b st h (refl, refl) (date-some n (b .top) (h .top)); place = 0; reads = block-reads b n h 0 }

@@ -1,10 +1,10 @@
 -- A day is written exactly where nothing is wrong with what was handed in and the block fits into the room; and what is refused for being unfit, or for its
 -- room, no accepted block would say in that room. Assumes nothing.
 use Prim.Native.Nat.{ℕ, _≤_, _<_}
-use mathlib.Core.Path.{_≡_, sym, _∙_}
+use mathlib.Core.Path.{_≡_, sym, ap, _∙_}
 use mathlib.Core.Logic.{_≢_, _↔_}
 use mathlib.Core.Bool.{true, false, true≢false}
-use mathlib.Core.List.{[], _∷_}
+use mathlib.Core.List.{List, [], _∷_}
 use native.Mathlib.Omega.{arith}
 use lib.ListN.{length}
 use lib.Dec.{eqb, leb}
@@ -44,18 +44,23 @@ module _ (g : Given) (room : ℕ) where
       (λ f. unfit (rw (e, l, f)) f))
       (λ l. short (rw (e, l)) l)
 
-  pub writes-exactly : (writeOf g room ≡ done) ↔ (Writable g × (length (blockOf (dayGiven g)) ≤ room))
-  writes-exactly = (λ e. only outcome e, λ h. writes (h .0) (h .1))
+  pub writes-exactly : (xs : List ℕ) → (writeOf g room ≡ accepted xs)
+      ↔ (Writable g × (length (blockOf (dayGiven g)) ≤ room) × (xs ≡ length (blockOf (dayGiven g)) ∷ recordsOf (dayGiven g) ∷ []))
+  writes-exactly xs = (λ e. only outcome e, λ h. writes (h .0) (h .1) ∙ ap accepted (sym (h .2)))
     where
-      not-done : {A : Type 0} (x : Answer) (n : ℕ) → x ≡ refusal n → x ≡ done → A
-      not-done x n p q = absurd (let z : true ≡ false = cc in true≢false z)
+      refused-not : {A : Type 0} (x : Answer) (n : ℕ) → x ≡ refusal n → x ≡ accepted xs → A
+      refused-not x n p q = absurd (let z : true ≡ false = cc in true≢false z)
 
-      only : Outcome (writeOf g room) → writeOf g room ≡ done → Writable g × (length (blockOf (dayGiven g)) ≤ room)
-      only (unknown p z) e = not-done (writeOf g room) 16 p e
-      only (short p z) e = not-done (writeOf g room) 15 p e
-      only (unfit p z) e = not-done (writeOf g room) 16 p e
-      only (small p z l) e = not-done (writeOf g room) 15 p e
-      only (written p w l) e = (w, l)
+      same : (x : Answer) → x ≡ done → x ≡ accepted xs → xs ≡ length (blockOf (dayGiven g)) ∷ recordsOf (dayGiven g) ∷ []
+      same x p q = cc
+
+      only : Outcome (writeOf g room) → writeOf g room ≡ accepted xs
+          → Writable g × (length (blockOf (dayGiven g)) ≤ room) × (xs ≡ length (blockOf (dayGiven g)) ∷ recordsOf (dayGiven g) ∷ [])
+      only (unknown p z) e = refused-not (writeOf g room) 16 p e
+      only (short p z) e = refused-not (writeOf g room) 15 p e
+      only (unfit p z) e = refused-not (writeOf g room) 16 p e
+      only (small p z l) e = refused-not (writeOf g room) 15 p e
+      only (written p w l) e = (w, l, same (writeOf g room) p e)
 
   -- an unfit day: a description outside the text, or what no block says
   why-unfit : fitGiven g ≡ false → (x : ℕ) → x ≡ 16 → Because g room x

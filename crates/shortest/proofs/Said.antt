@@ -9,16 +9,14 @@ use lib.ListN.{length, getD, drop, replicate}
 use lib.Dec.{eqb, ltb}
 use borrow.Author.Tests.{eqb-true, eqb-false, ne-eqb, lt-ltb}
 use Rattle.ground.specs.Lists.{all}
-use Rattle.ground.proofs.Tests.{or-true}
 use Rattle.ground.proofs.Cases.{by, both}
 use Rattle.ground.proofs.Digits.{all-append}
 use Rattle.format.specs.Numbers.{isNumber, numberIn, that, numberOf, smallOf, noReason, reasonOf, decimals, valueOf}
 use Rattle.format.specs.Dates.{isDate, isTime, dateOf, timeOf, loadOf}
 use Rattle.format.specs.Quality.{standsAlone, takesMethod, noMethod, withMethod, qualityOf, isGraded, flagIn, methodIn, Mark}
 use Rattle.format.specs.Cut.{Lines, line, rest, fields}
-use Rattle.format.specs.Records.{kindIn, millionths, firstIn, lastIn, markAt, markIn, agrees, qualitiesOf, firstBroken}
+use Rattle.format.specs.Records.{kindIn, millionths, firstIn, lastIn, markAt, markIn, agrees, qualitiesOf}
 use Rattle.format.specs.Order.{Due, isVaried}
-use Rattle.format.specs.Faults.{brokenIn}
 use Rattle.format.specs.File.{after}
 use Rattle.format.specs.Day.{runsFrom, coverOf, eachOf, valuesOf, Day, marksOf, dayOf}
 use Rattle.format.specs.Block.{fitQuality, fitReason, fitMark, fitValue, fitDay}
@@ -29,16 +27,14 @@ use Rattle.format.specs.declared.Number.the-variants.{Is, Bad}
 use Rattle.format.proofs.Numbers.{under, under-is, number-under, small-under, value-below}
 use Rattle.format.proofs.MarkText.{method-flag}
 use Rattle.theorems.specs.Grammar.{Each, Record, IsRecord}
-use Rattle.theorems.proofs.Across.{together-unbroken}
+use Rattle.theorems.proofs.Tests.{or-right}
+use Rattle.theorems.proofs.Across.{together-agrees}
 use Rattle.theorems.proofs.Fit.{Fit, fine-fit}
 use Rattle.shortest.specs.Blocks.{Passes, Says}
 use Rattle.shortest.proofs.Shapes.{number-is, said, Marking, Top, top-of, stretch-of}
-use Rattle.shortest.proofs.Steps.{fit-record, dayAt, headed}
+use Rattle.shortest.proofs.Steps.{fit-record, dayFound, headed}
 
 -- ---- single fields
-
-or-right : (a b : Bool) → b ≡ true → (a || b) ≡ true
-or-right a b e = rw e (or-true a)
 
 that-holds : (p : ℕ → Bool) (x : Number) → isNumber (that p x) ≡ true → p (numberIn (that p x)) ≡ true
 that-holds p (Is v) h = by (p v) (λ t. rw (t, t)) (λ t. absurd (false≢true (let z : false ≡ true = (rw t at h) in z)))
@@ -129,16 +125,12 @@ unfolding fitMark
 mark-fit k q s x m n a = rw (quality-fit k q (m .graded) n, reason-fit s (m .reasoned), m .described, m .bytes, a)
 
 agrees-300 : (n : ℕ) (fs : Record) → IsRecord 300 n fs → agrees (markAt 300 (n + 2) fs) ≡ true
-unfolding brokenIn qualitiesOf firstBroken
-agrees-300 n fs r =
-    by (agrees (markAt 300 (n + 2) fs)) (λ t. t)
-    (λ t. absurd (let z : n + 2 + 1 ≡ 0 = (rw t at (together-unbroken 300 fs n (r .together))) in let y : ⊥ = omega arith in y))
+unfolding qualitiesOf
+agrees-300 n fs r = together-agrees (markAt 300 (n + 2) fs) (r .together .0)
 
 agrees-400 : (fs : Record) → IsRecord 400 0 fs → agrees (markIn fs) ≡ true
-unfolding brokenIn qualitiesOf firstBroken
-agrees-400 fs r =
-    by (agrees (markIn fs)) (λ t. t)
-    (λ t. absurd (let z : 3 + 1 ≡ 0 = (rw t at (together-unbroken 400 fs 0 (r .together))) in let y : ⊥ = omega arith in y))
+unfolding qualitiesOf
+agrees-400 fs r = together-agrees (markIn fs) (r .together .0)
 
 stretch-fit : (fs : Record) → IsRecord 400 0 fs → fitMark (markIn fs) ≡ true
 stretch-fit fs r =
@@ -164,7 +156,7 @@ cover-fit p st end (line r ls) h =
 -- ---- the day
 
 module _ (st end : Due) (p : ℕ) (r : List ℕ) (ls : Lines) (k : kindIn (fields r) ≡ 300) (f : Fit st r) (h : Passes (after st r) ls end) where
-  marks-fit : (t : Top (st .n) (fields r)) → all fitMark (marksOf (dayAt p r ls (st .n))) ≡ true
+  marks-fit : (t : Top (st .n) (fields r)) → all fitMark (marksOf (dayFound p r ls (st .n))) ≡ true
   unfolding marksOf eachOf
   marks-fit t =
       let i : IsRecord 300 (st .n) (fields r) = fit-record st r f 300 (λ z. omega arith) k in
@@ -173,7 +165,7 @@ module _ (st end : Due) (p : ℕ) (r : List ℕ) (ls : Lines) (k : kindIn (field
       (λ e. rw e (all-replicate (st .n) (markAt 300 (st .n + 2) (fields r))
       (rw (t .says .mark) (mark-fit 300 (t .quality) (t .reason) (t .text) (t .marking) (eqb-false _ _ (sym (t .says .varied) ∙ e)) (rw (t .says .mark) at (agrees-300 (st .n) (fields r) i))))))
 
-  day-fit : fitDay (dayOf (dayAt p r ls (st .n))) ≡ true
+  day-fit : fitDay (dayOf (dayFound p r ls (st .n))) ≡ true
   unfolding fitDay dayOf valuesOf
   day-fit =
       let t = top-of (st .n) (fields r) (fit-record st r f 300 (λ z. omega arith) k) in

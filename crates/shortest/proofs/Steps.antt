@@ -60,10 +60,10 @@ module _ (p : ℕ) (r : List ℕ) (ls : Lines) where
   runs-end e = rw (ne-eqb _ _ e)
 
   -- the day of a 300
-  abbrev pub dayAt : ℕ → DayRows
-  dayAt n = record { n = n; top = rowAt p r; runs = runsFrom (p + length r + 2) ls }
+  abbrev pub dayFound : ℕ → DayRows
+  dayFound n = record { n = n; top = rowAt p r; runs = runsFrom (p + length r + 2) ls }
 
-  pub days-more : (n : ℕ) → kindIn (fields r) ≡ 300 → daysFrom p n (line r ls) ≡ dayAt n ∷ daysFrom (p + length r + 2) n ls
+  pub days-more : (n : ℕ) → kindIn (fields r) ≡ 300 → daysFrom p n (line r ls) ≡ dayFound n ∷ daysFrom (p + length r + 2) n ls
   unfolding daysFrom
   days-more n e = rw e
 
@@ -82,7 +82,7 @@ pub record Headed (st end : Due) (bl : Lines) : Type 0 where
   pub fit : Fit st first
   pub passes : Passes (after st first) others end
   pub under : all (λ x. eqb x 400 || eqb x 500) (kindsOf others) ≡ true
-  pub day : (p : ℕ) (d : Day) → map dayOf (daysFrom p (st .n) bl) ≡ d ∷ [] → dayOf (dayAt p first others (st .n)) ≡ d
+  pub day : (p : ℕ) (d : Day) → map dayOf (daysFrom p (st .n) bl) ≡ d ∷ [] → dayOf (dayFound p first others (st .n)) ≡ d
 
 pub headed : (st : Due) (b : List ℕ) (a : Accepted st b) → Headed st (a .end) (lines b)
 headed st b a = go (lines b) (a .kinds) (a .passes)

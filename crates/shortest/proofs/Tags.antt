@@ -21,7 +21,7 @@ use Rattle.format.specs.declared.Tag.{Tag}
 use Rattle.theorems.specs.Grammar.{Record, join}
 use Rattle.theorems.proofs.Bytes.{bytesOf, join-fields}
 use Rattle.shortest.specs.Blocks.{markOf, Read}
-use Rattle.shortest.proofs.Steps.{dayAt}
+use Rattle.shortest.proofs.Steps.{dayFound}
 
 -- ---- a field in its record
 
@@ -90,7 +90,7 @@ module _ (file : List ℕ) where
       ∙ ap₂ (λ (x y : List Mark). x ++ y) (map-replicate k (tagAt 400 (rowAt p r) 3) ∙ ap (replicate k) (tag-mark 400 p 3 r (13 ∷ 10 ∷ bytesOf ls) h)) (cover-tags (p + length r + 2) ls (next-at p r ls h))))
       (λ t. rw t)
 
-  pub tags-marks : (p n : ℕ) (r : List ℕ) (ls : Lines) → drop p file ≡ bytesOf (line r ls) → map (markOf file) (tagsOf (dayAt p r ls n)) ≡ marksOf (dayAt p r ls n)
+  pub tags-marks : (p n : ℕ) (r : List ℕ) (ls : Lines) → drop p file ≡ bytesOf (line r ls) → map (markOf file) (tagsOf (dayFound p r ls n)) ≡ marksOf (dayFound p r ls n)
   unfolding tagsOf marksOf eachOf
   tags-marks p n r ls h =
       by (isVaried n (fields r))

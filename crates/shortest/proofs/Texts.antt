@@ -36,7 +36,7 @@ digit-byte b h =
     let k : b ≤ 57 = leb-true b 57 (w .1) in
     rw (le-leb 32 b (omega arith), le-leb b 126 (omega arith), ne-eqb b 44 (λ e. omega arith))
 
-pub digits-bytes : (s : List ℕ) → all isDigit s ≡ true → Bytes s
+digits-bytes : (s : List ℕ) → all isDigit s ≡ true → Bytes s
 digits-bytes s h = all-map isDigit fieldByte digit-byte s h
 
 pub padded-bytes : (k n : ℕ) → Bytes (padded k n)
@@ -87,39 +87,41 @@ pub record Carried (k : ℕ) (q s x : List ℕ) : Type 0 where
   pub reason-bytes : Bytes s
   pub together : agrees (said k q s x) ≡ true
 
+-- what a fit mark is
+pub record FitParts (m : Mark) : Type 0 where
+  pub quality : fitQuality (m .flag) (m .method) ≡ true
+  pub reason : fitReason (m .reason) ≡ true
+  pub described : isDescription (m .text) ≡ true
+  pub bytes : Bytes (m .text)
+  pub together : agrees m ≡ true
+
+pub fit-parts : (m : Mark) → fitMark m ≡ true → FitParts m
+unfolding fitMark
+fit-parts m h =
+    let a = and-true (fitQuality (m .flag) (m .method) && fitReason (m .reason) && isDescription (m .text) && all fieldByte (m .text)) (agrees m) h in
+    let b = and-true (fitQuality (m .flag) (m .method) && fitReason (m .reason) && isDescription (m .text)) (all fieldByte (m .text)) (a .0) in
+    let c = and-true (fitQuality (m .flag) (m .method) && fitReason (m .reason)) (isDescription (m .text)) (b .0) in
+    let d = and-true (fitQuality (m .flag) (m .method)) (fitReason (m .reason)) (c .0) in
+    record { quality = d .0; reason = d .1; described = c .1; bytes = b .1; together = a .1 }
+
 module _ (k : ℕ) (m : Mark) (h : fitMark m ≡ true) where
-  record Fit : Type 0 where
-    quality : fitQuality (m .flag) (m .method) ≡ true
-    reason : fitReason (m .reason) ≡ true
-    described : isDescription (m .text) ≡ true
-    bytes : Bytes (m .text)
-    together : agrees m ≡ true
-
-  fit : Fit
-  unfolding fitMark
-  fit =
-      let a = and-true (fitQuality (m .flag) (m .method) && fitReason (m .reason) && isDescription (m .text) && all fieldByte (m .text)) (agrees m) h in
-      let b = and-true (fitQuality (m .flag) (m .method) && fitReason (m .reason) && isDescription (m .text)) (all fieldByte (m .text)) (a .0) in
-      let c = and-true (fitQuality (m .flag) (m .method) && fitReason (m .reason)) (isDescription (m .text)) (b .0) in
-      let d = and-true (fitQuality (m .flag) (m .method)) (fitReason (m .reason)) (c .0) in
-      record { quality = d .0; reason = d .1; described = c .1; bytes = b .1; together = a .1 }
-
   -- a fit mark's texts say the mark
   pub mark-said : said k (qualityText (m .flag) (m .method)) (reasonText (m .reason)) (m .text) ≡ m
-  mark-said = rw (quality-back k (m .flag) (m .method) (fit .quality), reason-back (m .reason) (fit .reason))
+  mark-said = let f = fit-parts m h in rw (quality-back k (m .flag) (m .method) (f .quality), reason-back (m .reason) (f .reason))
 
   pub mark-carried : Carried k (qualityText (m .flag) (m .method)) (reasonText (m .reason)) (m .text)
   mark-carried =
+      let f = fit-parts m h in
       record {
         marking = record {
-          graded = rw (quality-back k (m .flag) (m .method) (fit .quality));
-          reasoned = rw (reason-back (m .reason) (fit .reason));
-          described = fit .described;
-          bytes = fit .bytes;
+          graded = rw (quality-back k (m .flag) (m .method) (f .quality));
+          reasoned = rw (reason-back (m .reason) (f .reason));
+          described = f .described;
+          bytes = f .bytes;
         };
-        quality-bytes = quality-bytes (m .flag) (m .method) (fit .quality);
+        quality-bytes = quality-bytes (m .flag) (m .method) (f .quality);
         reason-bytes = reason-bytes (m .reason);
-        together = rw mark-said (fit .together);
+        together = rw mark-said (f .together);
       }
 
 -- V alone

@@ -1,20 +1,29 @@
 -- The theorems of the block that is written for what was handed in: it reads back, and none is shorter. Assumes nothing.
 use Prim.Native.Nat.{ℕ, _+_, _≤_}
-use mathlib.Core.Path.{_≡_, refl}
+use mathlib.Core.Path.{_≡_, sym, ap, _∙_, subst}
 use mathlib.Core.List.{List, [], _∷_, _++_}
 use lib.ListN.{length}
 use Rattle.ground.specs.Text.{bytes}
-use Rattle.format.specs.Order.{Due, due, mayCome}
-use Rattle.format.specs.Faults.{isOpen}
+use Rattle.format.specs.Records.{intervalsIn}
+use Rattle.format.specs.Order.{Due}
 use Rattle.format.specs.Answers.{accepted}
 use Rattle.format.specs.File.{most, checkOf}
+use Rattle.format.specs.Day.{Day}
 use Rattle.format.specs.Block.{Given, intervalsGiven, dayGiven, blockOf}
+use Rattle.theorems.specs.Grammar.{Record, text, IsRecord}
+use Rattle.theorems.specs.Days.{rowsOf, dayIn, ReadsAs}
 use Rattle.shortest.specs.Blocks.{Says, Awaits, Leads, Stands}
 use Rattle.shortest.specs.Writer.{Writable, ReadsBack, NoLonger}
-use Rattle.shortest.proofs.Handed.{whole, date-some}
-use Rattle.shortest.proofs.Back.{back}
+use Rattle.shortest.proofs.Handed.{whole}
+use Rattle.shortest.proofs.Back.{written, back}
+use Rattle.shortest.proofs.Pass.{block-says}
 use Rattle.shortest.proofs.Inside.{stands, closes}
 use Rattle.shortest.proofs.Least.{no-longer}
+
+-- what is a day by the grammar says that day: so no block of the grammar is left out below
+pub grammar-says : (head : Record) (b : List ℕ) (d : Day) → ReadsAs head b d → Says b d
+grammar-says head b d r =
+    subst (λ (x : List ℕ). Says x d) (sym (r .bytes)) (subst (Says (text (rowsOf (r .block)))) (sym (r .is)) (block-says (r .block) (intervalsIn head) (r .good)))
 
 module _ (g : Given) (w : Writable g) where
   pub reads-back : (st : Due) → Awaits st (intervalsGiven g) (g .head .date) → ReadsBack (dayGiven g) st
@@ -33,13 +42,25 @@ module _ (g : Given) (w : Writable g) where
       let r = reads-back st a in
       closes before (blockOf (dayGiven g)) st (dayGiven g) h (r .accepted) (r .same (length before)) l
 
+  -- by the grammar: behind any 200 of that interval length, the written block is the day
+  pub by-the-grammar : (head : Record) → IsRecord 200 0 head → intervalsIn head ≡ intervalsGiven g → ReadsAs head (blockOf (dayGiven g)) (dayGiven g)
+  unfolding dayGiven
+  by-the-grammar head h e =
+      let r = written (dayGiven g) (whole g w) in
+      record {
+        is-head = h;
+        block = r .block;
+        good = rw e (r .good);
+        bytes = sym (r .bytes-are);
+        is = sym (ap (λ (n : ℕ). dayIn n (r .block)) e ∙ r .day);
+      }
+
   -- the written block says the day
   pub says-it : Says (blockOf (dayGiven g)) (dayGiven g)
-  unfolding mayCome isOpen
+  unfolding dayGiven
   says-it =
-      let st : Due = due 2 12 (intervalsGiven g) 0 1 0 in
-      let r = reads-back st (record { free = (refl, refl); intervals = refl; earlier = date-some g w }) in
-      record { st = st; accepted = r .accepted; place = 0; reads = r .same 0 }
+      let r = written (dayGiven g) (whole g w) in
+      subst (λ (b : List ℕ). Says b (dayGiven g)) (r .bytes-are) (subst (Says (text (rowsOf (r .block)))) (r .day) (block-says (r .block) (intervalsGiven g) (r .good)))
 
   -- and no bytes that say it, with 500s or without, have fewer records, or are fewer
   pub shortest : (b : List ℕ) → Says b (dayGiven g) → NoLonger (dayGiven g) b

@@ -17,16 +17,15 @@ use Rattle.format.specs.Bytes.{fieldByte, areAll}
 use Rattle.format.specs.Numbers.{numberOf, intervalOf}
 use Rattle.format.specs.Dates.{isDate, isTime}
 use Rattle.format.specs.Quality.{Mark}
-use Rattle.format.specs.Records.{isKind, indicatorOf, kindIn, rowOf, obeys, qualitiesOf, markIn, firstBroken, firstIn, lastIn}
-use Rattle.format.specs.Faults.{brokenIn}
+use Rattle.format.specs.Records.{isKind, indicatorOf, kindIn, rowOf, obeys, qualitiesOf, markAt, markIn, firstIn, lastIn}
 use Rattle.format.specs.Block.{fitMark, fitValue, valueText, qualityText, reasonText, loadText, comma, crlf, markText, valuesText, runText, coverText}
 use Rattle.format.specs.declared.Number.the-variants.{Is}
 use Rattle.format.specs.declared.Rule.{Rule}
 use Rattle.format.specs.declared.Rule.the-variants.{Indicator, Date, Value, Quality, Reason, Description, Time, Load, Interval}
 use Rattle.format.proofs.NumberText.{small-back, date-back, time-back, load-back}
 use Rattle.format.proofs.ValueText.{value-back}
-use Rattle.theorems.specs.Grammar.{Each, Record, join, text, Meets, IsRecord, Covers, Marked}
-use Rattle.theorems.proofs.Across.{unbroken-together}
+use Rattle.theorems.specs.Grammar.{Each, Record, join, text, Meets, Together, IsRecord, Covers, Marked}
+use Rattle.theorems.proofs.Across.{agrees-together}
 use Rattle.theorems.proofs.Ends.{Tidy, tidied, indicator-tidy}
 use Rattle.shortest.proofs.Shapes.{topRow, top-says, runRow, run-says}
 use Rattle.shortest.proofs.Texts.{Bytes, padded-bytes, dec-bytes, value-bytes, load-bytes, Carried, mark-said, mark-carried}
@@ -47,13 +46,13 @@ good-meets k (u ∷ us) [] t h = h
 good-meets k (u ∷ us) (f ∷ fs) t h = ((h .0, t .0 k f (h .1)), h .1, good-meets k us fs (t .1) (h .2))
 
 good-record : (k n : ℕ) (us : List Rule) (f : List ℕ) (fs : Record) → rowOf k n ≡ Indicator ∷ us → k ≢ 0 → kindIn (f ∷ fs) ≡ k → Bytes f → Good k us fs
-    → brokenIn k n (f ∷ fs) ≡ 0 → IsRecord k n (f ∷ fs)
+    → Each (λ i. Together (markAt k i (f ∷ fs))) (qualitiesOf k n) → IsRecord k n (f ∷ fs)
 unfolding obeys
 good-record k n us f fs e z i b g c =
     let w = tidied k n in
     let t : Each Tidy us = subst (Each Tidy) (tail-eq-of-cons-eq (sym (w .is) ∙ e)) (w .tidy) in
     let m : Meets k (Indicator ∷ us) (f ∷ fs) = ((b, indicator-tidy f fs (λ y. z (sym i ∙ y))), refl, good-meets k us fs t g) in
-    record { indicator = i; meets = subst (λ (x : List Rule). Meets k x (f ∷ fs)) (sym e) m; together = unbroken-together k (f ∷ fs) n c }
+    record { indicator = i; meets = subst (λ (x : List Rule). Meets k x (f ∷ fs)) (sym e) m; together = c }
 
 -- ---- the 300
 
@@ -73,7 +72,7 @@ topWritten t u l vs q s x = topRow three (padded 8 t) (map valueText vs) q s x (
 
 module _ (t u l : ℕ) (vs : List ℕ) (q s x : List ℕ) (n : ℕ) (e : length vs ≡ n) where
   pub top-record : isDate t ≡ true → isTime u ≡ true → (eqb l 0 || isTime l) ≡ true → all fitValue vs ≡ true → Carried 300 q s x → IsRecord 300 n (topWritten t u l vs q s x)
-  unfolding rowOf obeys kindIn indicatorOf isKind numberOf areAll isDigit fieldByte brokenIn qualitiesOf firstBroken
+  unfolding rowOf obeys kindIn indicatorOf isKind numberOf areAll isDigit fieldByte qualitiesOf
   top-record d h g v c =
       let five : Good 300 (Quality ∷ Reason ∷ Description ∷ Time ∷ Load ∷ []) (q ∷ s ∷ x ∷ padded 14 u ∷ loadText l ∷ []) = (
         c .quality-bytes,
@@ -97,7 +96,7 @@ module _ (t u l : ℕ) (vs : List ℕ) (q s x : List ℕ) (n : ℕ) (e : length 
       good-record 300 n (Date ∷ (replicate n Value ++ (Quality ∷ Reason ∷ Description ∷ Time ∷ Load ∷ []))) three (padded 8 t ∷ (map valueText vs ++ (q ∷ s ∷ x ∷ padded 14 u ∷ loadText l ∷ [])))
       refl (λ z. omega arith) refl refl
       (padded-bytes 8 t, rw (date-back t d), w)
-      (rw (top-says three (padded 8 t) (map valueText vs) q s x (padded 14 u) (loadText l) n (length-map vs valueText ∙ e) .mark, c .together))
+      (agrees-together (markAt 300 (n + 2) (topWritten t u l vs q s x)) (rw (top-says three (padded 8 t) (map valueText vs) q s x (padded 14 u) (loadText l) n (length-map vs valueText ∙ e) .mark) (c .together)), tt)
 
 join-more : (f : List ℕ) (xs : Record) (q : List ℕ) (fs : Record) → join (f ∷ (xs ++ (q ∷ fs))) ≡ f ++ 44 ∷ join (xs ++ (q ∷ fs))
 unfolding join
@@ -188,7 +187,7 @@ module _ (a k : ℕ) (m : Mark) (s : 1 ≤ k) (b : a + k < 10 ^ 4) (h : fitMark 
       run-says four (dec (a + 1)) (dec (a + k)) (qualityText (m .flag) (m .method)) (reasonText (m .reason)) (m .text) .mark ∙ mark-said 400 m h
 
   run-record : IsRecord 400 0 (runWritten a (a + k) m)
-  unfolding rowOf obeys kindIn indicatorOf isKind numberOf areAll isDigit fieldByte brokenIn qualitiesOf firstBroken
+  unfolding rowOf obeys kindIn indicatorOf isKind numberOf areAll isDigit fieldByte qualitiesOf
   run-record =
       let c = mark-carried 400 m h in
       good-record 400 0 (Interval ∷ Interval ∷ Quality ∷ Reason ∷ Description ∷ []) four (dec (a + 1) ∷ dec (a + k) ∷ qualityText (m .flag) (m .method) ∷ reasonText (m .reason) ∷ m .text ∷ [])
@@ -209,7 +208,7 @@ module _ (a k : ℕ) (m : Mark) (s : 1 ≤ k) (b : a + k < 10 ^ 4) (h : fitMark 
           ),
         ),
       )
-      (rw (run-says four (dec (a + 1)) (dec (a + k)) (qualityText (m .flag) (m .method)) (reasonText (m .reason)) (m .text) .mark, c .together))
+      (agrees-together (markIn (runWritten a (a + k) m)) (rw (run-says four (dec (a + 1)) (dec (a + k)) (qualityText (m .flag) (m .method)) (reasonText (m .reason)) (m .text) .mark) (c .together)), tt)
 
 pub cover-records : (a : ℕ) (c : List (Run Mark)) → Fitting a c → Each (IsRecord 400 0) (coverWritten a c)
 cover-records a [] h = tt
