@@ -101,7 +101,7 @@ off-400 st j k x e h i o =
     by false z = refl
 
 -- the walk from a state that expects the 400 of interval j + 1
-pub covers-on : (st : Due) (p k q j : ℕ) (ls : Lines) (xs : List ℕ) → st .expect ≡ 4 → st .next ≡ j + 1 → j ≤ st .n
+covers-on : (st : Due) (p k q j : ℕ) (ls : Lines) (xs : List ℕ) → st .expect ≡ 4 → st .next ≡ j + 1 → j ≤ st .n
     → walkOf st p k ls ≡ accepted xs → coversFrom j (st .n) (runsFrom q ls) ≡ true
 unfolding walkOf runsFrom coversFrom afterOf
 covers-on st p k q j (rest t) xs x e h a =

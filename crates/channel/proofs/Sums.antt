@@ -28,11 +28,11 @@ use Rattle.channel.specs.declared.Channel.{Channel}
 use Rattle.channel.specs.declared.Channel.the-variants.{Days, Quantity, Missing}
 use Rattle.channel.specs.Places.{held, sumAt, channelAs, within}
 
-pub held-is : (v : ℕ) → v < 2 ^ 64 → Is v ≡ held v
+held-is : (v : ℕ) → v < 2 ^ 64 → Is v ≡ held v
 unfolding held
 held-is v h = rw (lt-ltb _ _ h)
 
-pub held-not : (v : ℕ) → 2 ^ 64 ≤ v → Bad ≡ held v
+held-not : (v : ℕ) → 2 ^ 64 ≤ v → Bad ≡ held v
 unfolding held
 held-not v h = rw (le-ltb _ _ h)
 
@@ -107,7 +107,7 @@ sum-take (suc n) i fs = by (decLt i (length fs)) (sum-take n (suc i) fs)
         none-left (suc n) i fs g ∙ sym (rw (drop-of-length-le fs g))
 
 -- the day whose 300 stands from a to e, of which v is where the values start
-pub day-sum : (file : List ℕ) (a e v n : ℕ) → Rest file (fields (part file a e)) a 2 v e
+day-sum : (file : List ℕ) (a e v n : ℕ) → Rest file (fields (part file a e)) a 2 v e
     → sum (valuesFrom n 0 (fields (part file v e))) ≡ sum (valuesIn n (fields (part file a e)))
 unfolding valuesIn
 day-sum file a e v n s = ap sum (values-move s n 0) ∙ sum-take n 2 (fields (part file a e))

@@ -1,5 +1,5 @@
 -- The walk to the day of a number. Assumes nothing.
-use Prim.Native.Nat.{ℕ, zero, suc, _+_, _-_}
+use Prim.Native.Nat.{ℕ, zero, suc, _+_, _-_, _<_}
 use mathlib.Core.Path.{_≡_, refl, sym, ap, _∙_}
 use mathlib.Core.List.{List, [], _∷_}
 use native.Mathlib.Omega.{arith}
@@ -13,7 +13,7 @@ use Rattle.format.specs.Records.{indicatorOf, kindIn, intervalsIn}
 use Rattle.format.specs.Day.{DayRows, daysFrom}
 use Rattle.record.specs.Places.{LineEnd, Rest}
 use Rattle.record.proofs.Cuts.{rest-first}
-use Rattle.record.proofs.Ends.{line-none, line-more, line-long}
+use Rattle.record.proofs.Ends.{line-none, line-more, line-room, line-long}
 use Rattle.day.specs.Places.{dayAt, daysAt}
 
 -- n is in the ninth field of a 200
@@ -21,6 +21,10 @@ pub intervals-is : (file : List ℕ) (fs : List (List ℕ)) (p x e n : ℕ) → 
     → n ≡ intervalsOf (numberIn (lengthOf (field 0 (fields (part file x e))))) → n ≡ intervalsIn fs
 unfolding intervalsIn
 intervals-is file fs p x e n s h = h ∙ ap (λ (f : List ℕ). intervalsOf (numberIn (lengthOf f))) (rest-first s)
+
+-- a record on, less of the file is left
+pub line-less : (file : List ℕ) (at e : ℕ) → LineEnd file at e → (e ≡ length file → ⊥) → length file - (e + 2) < length file - at
+line-less file at e s go = omega (arith, line-room file at e s go, s .order)
 
 drop-here : (left : ℕ) (d : DayRows) (ds : List DayRows) → left ≡ 0 → drop left (d ∷ ds) ≡ d ∷ ds
 drop-here left d ds z = rw z

@@ -1,4 +1,4 @@
 pub mod Values
 pub mod Marks
-pub mod Times
+pub mod Top
 pub mod Find

@@ -19,8 +19,8 @@ use Rattle.record.specs.Places.{LineEnd, Cut, Rest}
 use Rattle.record.proofs.Cuts.{rest-first, rest-next}
 use Rattle.record.proofs.Fields.{tag-moves}
 use Rattle.record.proofs.Ends.{line-none, line-more, line-room, line-long}
-use Rattle.lists.specs.Lists.{stored}
-use Rattle.lists.proofs.Laws.{stored-append}
+use Rattle.lists.specs.Lists.{stored, Roomy}
+use Rattle.lists.proofs.Laws.{stored-append, Even, even-room}
 use Rattle.bridge.specs.Sound.{coversFrom}
 use Rattle.bridge.proofs.Sound.{Covered, cover-first}
 use Rattle.day.specs.Places.{runsAt, runTags, tagsFor, isCovered}
@@ -55,12 +55,12 @@ module _ (file : List ℕ) (at e : ℕ) (s : LineEnd file at e) where
     runs-more h = rw (line-more file at e s go, h, behind)
 
 -- what a cover of the intervals behind the first k up to n says of its first 400, of which t is the last
-pub record Turn (file : List ℕ) (at e n k t : ℕ) : Type 0 where
-  pub more : k < t
-  pub most : t ≤ n
-  pub room : e + 2 ≤ length file
-  pub left : coversFrom t n (runsAt file (e + 2)) ≡ true
-  pub marks : runTags (runsAt file at) ≡ replicate (t - k) (tagAt 400 (rowAt at (part file at e)) 3) ++ runTags (runsAt file (e + 2))
+record Turn (file : List ℕ) (at e n k t : ℕ) : Type 0 where
+  more : k < t
+  most : t ≤ n
+  room : e + 2 ≤ length file
+  left : coversFrom t n (runsAt file (e + 2)) ≡ true
+  marks : runTags (runsAt file at) ≡ replicate (t - k) (tagAt 400 (rowAt at (part file at e)) 3) ++ runTags (runsAt file (e + 2))
 
 module _ (file : List ℕ) (at e n k t : ℕ) (s : LineEnd file at e) (more : k < n)
     (et : t ≡ lastIn (fields (part file at e))) (inv : coversFrom k n (runsAt file at) ≡ true) where
@@ -85,7 +85,7 @@ module _ (file : List ℕ) (at e n k t : ℕ) (s : LineEnd file at e) (more : k 
         marks = rw (u, g);
       }
 
-  pub turn : Turn file at e n k t
+  turn : Turn file at e n k t
   turn = by (decLt e (length file))
     where
       kind : (e ≡ length file → ⊥) → (b : Bool) → eqb (kindIn (fields (part file at e))) 400 ≡ b → Turn file at e n k t
@@ -96,19 +96,37 @@ module _ (file : List ℕ) (at e n k t : ℕ) (s : LineEnd file at e) (more : k 
       by (yes p) = kind (λ q. omega arith) (eqb (kindIn (fields (part file at e))) 400) refl
       by (no p) = absurd (not-done (runs-none file at e s (omega (arith, s .within))))
 
--- a turn of the loop over the 400s: l and l₁ are the five lists before it and behind it
-pub cover-on : (file : List ℕ) (at n k t e : ℕ) (l l₁ whole : Five) (g : Tag) → Turn file at e n k t
-    → g ≡ tagAt 400 (rowAt at (part file at e)) 3 → l₁ ≡ stored l k (replicate (t - k) g)
-    → stored l k (runTags (runsAt file at)) ≡ whole → stored l₁ t (runTags (runsAt file (e + 2))) ≡ whole
-cover-on file at n k t e l l₁ whole g u eg el inv =
-    let h : k + length (replicate (t - k) g) ≡ t = omega (arith, length-replicate (t - k) g, u .more) in
-    let ys = runTags (runsAt file (e + 2)) in
-    ap (λ (z : Five). stored z t ys) el
-    ∙ ap (λ (z : ℕ). stored (stored l k (replicate (t - k) g)) z ys) (sym h)
-    ∙ sym (stored-append l k (replicate (t - k) g) ys)
-    ∙ ap (λ (z : Tag). stored l k (replicate (t - k) z ++ ys)) eg
-    ∙ ap (stored l k) (sym (u .marks))
-    ∙ inv
+  pub turn-order : k ≤ t
+  turn-order = omega (arith, turn .more)
+
+  pub turn-less : n - t < n - k
+  turn-less = omega (arith, turn .more, turn .most)
+
+  pub turn-most : t ≤ n
+  turn-most = turn .most
+
+  pub turn-room : e + 2 ≤ length file
+  turn-room = turn .room
+
+  pub turn-left : coversFrom t n (runsAt file (e + 2)) ≡ true
+  turn-left = turn .left
+
+  -- l₀ are the five lists at the start, l those of now
+  pub turn-roomy : (l l₀ : Five) → Even l l₀ → Roomy n l₀ → Roomy t l
+  turn-roomy l l₀ v r = even-room v r (turn .most)
+
+  -- and l₁ those with the mark g put in
+  pub turn-on : (l l₁ whole : Five) (g : Tag) → g ≡ tagAt 400 (rowAt at (part file at e)) 3 → l₁ ≡ stored l k (replicate (t - k) g)
+      → stored l k (runTags (runsAt file at)) ≡ whole → stored l₁ t (runTags (runsAt file (e + 2))) ≡ whole
+  turn-on l l₁ whole g eg el w =
+      let h : k + length (replicate (t - k) g) ≡ t = omega (arith, length-replicate (t - k) g, turn .more) in
+      let ys = runTags (runsAt file (e + 2)) in
+      ap (λ (z : Five). stored z t ys) el
+      ∙ ap (λ (z : ℕ). stored (stored l k (replicate (t - k) g)) z ys) (sym h)
+      ∙ sym (stored-append l k (replicate (t - k) g) ys)
+      ∙ ap (λ (z : Tag). stored l k (replicate (t - k) z ++ ys)) eg
+      ∙ ap (stored l k) (sym (turn .marks))
+      ∙ w
 
 -- the end: a cover of nothing has no 400
 pub cover-end : (n k : ℕ) (xs : List Row) (l whole : Five) → n ≤ k → k ≤ n → coversFrom k n xs ≡ true → stored l k (runTags xs) ≡ whole → l ≡ whole

@@ -59,9 +59,9 @@ fn put_cover(
         let r = run_at(file, at, e);
         let to = r.to;
         let t = r.tag;
+        at = e + 2;
         put_tag(t, k, to, flags, methods, reasons, starts, lengths);
         k = to;
-        at = e + 2;
     }
 }
 

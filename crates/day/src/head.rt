@@ -1,18 +1,24 @@
-// What a 300 says beside its values and its mark.
+// What a 300 says, from left to right in one pass: date, values, mark, times.
+use super::fields::fill_values;
 use super::fields::skip;
+use format::Tag;
 use record::pieces::field_at;
 use record::says::date_at;
 use record::says::load_time_at;
+use record::says::tag_at;
 use record::says::time_at;
 ghost use mathlib.Core.Path.{_≡_};
-ghost use Prim.Native.Nat.{_≤_};
+ghost use Prim.Native.Nat.{_+_, _≤_};
 ghost use lib.ListN.{length};
+ghost use lib.Seq.{sets};
 ghost use Rattle.ground.specs.Lists.{part};
 ghost use Rattle.format.specs.Numbers.{numberIn};
 ghost use Rattle.format.specs.Dates.{timeOf, loadOf};
 ghost use Rattle.format.specs.Cut.{fields, field};
 ghost use Rattle.format.specs.Records.{dateIn};
+ghost use Rattle.format.specs.Day.{rowAt, tagAt, updateIn, loadIn};
 ghost use Rattle.record.specs.Places.{Rest};
+ghost use Rattle.day.specs.Places.{valuesFrom};
 
 // Its date, and where its values start.
 pub struct Head {
@@ -20,7 +26,7 @@ pub struct Head {
     pub next: usize,
 }
 
-pub fn head_at(file: &[u8], a: usize, e: usize) -> Head
+fn head_at(file: &[u8], a: usize, e: usize) -> Head
     requires { ⌜ (a ≤ e) × (e ≤ length (now file)) ⌝ }
     ensures is { λ r. ⌜ r .date ≡ dateIn (fields (part (now (file .entry)) a e)) ⌝ }
     ensures rest { λ r. ⌜ Rest (now (file .entry)) (fields (part (now (file .entry)) a e)) a 2 (r .next) e ⌝ }
@@ -41,7 +47,7 @@ pub struct Times {
 }
 
 // The times of the 300 whose quality stands at a.
-pub fn times_at(file: &[u8], a: usize, e: usize) -> Times
+fn times_at(file: &[u8], a: usize, e: usize) -> Times
     requires { ⌜ (a ≤ e) × (e ≤ length (now file)) ⌝ }
     ensures update { λ r. ⌜ r .update ≡ numberIn (timeOf (field 3 (fields (part (now (file .entry)) a e)))) ⌝ }
     ensures load { λ r. ⌜ r .load ≡ numberIn (loadOf (field 4 (fields (part (now (file .entry)) a e)))) ⌝ }
@@ -52,5 +58,34 @@ pub fn times_at(file: &[u8], a: usize, e: usize) -> Times
     Times {
         update: time_at(file, x, e),
         load: load_time_at(file, y, e),
+    }
+}
+
+// What it says beside its values.
+pub struct Top {
+    pub date: u32,
+    pub tag: Tag,
+    pub update: u64,
+    pub load: u64,
+}
+
+// Reads the 300 of n intervals that stands at a..e: its values into the list, the rest by value.
+pub fn fill_top(file: &[u8], a: usize, e: usize, n: usize, values: &mut [u64]) -> Top
+    requires { ⌜ (a ≤ e) × (e ≤ length (now file)) × (n ≤ length (now values)) ⌝ }
+    ensures values { λ r. ⌜ now (values .exit) ≡ sets (now (values .entry)) 0 (valuesFrom n 2 (fields (part (now (file .entry)) a e))) ⌝ }
+    ensures date { λ r. ⌜ r .date ≡ dateIn (fields (part (now (file .entry)) a e)) ⌝ }
+    ensures tag { λ r. ⌜ r .tag ≡ tagAt 300 (rowAt a (part (now (file .entry)) a e)) (n + 2) ⌝ }
+    ensures update { λ r. ⌜ r .update ≡ updateIn n (fields (part (now (file .entry)) a e)) ⌝ }
+    ensures load { λ r. ⌜ r .load ≡ loadIn n (fields (part (now (file .entry)) a e)) ⌝ }
+{
+    let h = head_at(file, a, e);
+    let q = fill_values(file, h.next, e, n, values);
+    let t = tag_at(file, q, e, 300);
+    let w = times_at(file, q, e);
+    Top {
+        date: h.date,
+        tag: t,
+        update: w.update,
+        load: w.load,
     }
 }

@@ -1,13 +1,10 @@
 // Reads the day of a number into six lent lists, where the file was accepted.
 use day::Place;
 use day::cover::put_marks;
-use day::fields::fill_values;
-use day::head::head_at;
-use day::head::times_at;
+use day::head::fill_top;
 use day::walk::find_day;
 use format::DayRead;
 use format::Refusal;
-use record::says::tag_at;
 ghost use mathlib.Core.Path.{_≡_};
 ghost use mathlib.Core.Bool.{true, cond};
 ghost use Prim.Native.Nat.{_+_, _≤_};
@@ -69,18 +66,23 @@ fn fill_day(
     requires { ⌜ Ready (now file) a e n (now values) (five (now flags) (now methods) (now reasons) (now starts) (now lengths)) ⌝ }
     ensures { λ r. ⌜ outcome (dayReadAs r) (now (values .exit)) (five (now (flags .exit)) (now (methods .exit)) (now (reasons .exit)) (now (starts .exit)) (now (lengths .exit))) ≡ readInto (dayAt (now (file .entry)) a e n) (now (values .entry)) (five (now (flags .entry)) (now (methods .entry)) (now (reasons .entry)) (now (starts .entry)) (now (lengths .entry))) ⌝ }
 {
-    let h = head_at(file, a, e);
-    let date = h.date;
-    let v = h.next;
-    let q = fill_values(file, v, e, n, values);
-    let t = tag_at(file, q, e, 300);
-    put_marks(file, t, e + 2, n, flags, methods, reasons, starts, lengths);
-    let w = times_at(file, q, e);
-    DayRead::Read {
-        date,
+    let t = fill_top(file, a, e, n, values);
+    put_marks(
+        file,
+        t.tag,
+        e + 2,
         n,
-        update: w.update,
-        load: w.load,
+        flags,
+        methods,
+        reasons,
+        starts,
+        lengths,
+    );
+    DayRead::Read {
+        date: t.date,
+        n,
+        update: t.update,
+        load: t.load,
     }
 }
 

@@ -2,6 +2,7 @@
 use Prim.Native.Nat.{_+_, _≤_, _-_, _<_, _^_}
 use Rattle.channel.proofs.Sums.{days, got-fits}
 use Rattle.channel.specs.Places.{sumAt}
+use Rattle.day.proofs.Find.{line-less}
 use Rattle.record.proofs.Ends.{line-room}
 use borrow.Author.Needs.{needs}
 use lib.ListN.{length}
@@ -45,10 +46,10 @@ enum-known-x : tie.Need-enum-known-x Inv-loop μ-loop
 enum-known-x c = search needs
 
 loop-less : tie.Need-loop-less Inv-loop μ-loop
-loop-less c = let r : c .before .before .before .before .before .before .before .before .before .scan .result .end + 2 ≤ length (c .before .before .before .before .before .before .before .before .before .before .before .before .args .file .now) = search line-room in omega arith
+loop-less c = search line-less
 
 loop-again : tie.Need-loop-again Inv-loop μ-loop
-loop-again c = let r : c .before .before .before .before .before .before .before .before .before .scan .result .end + 2 ≤ length (c .before .before .before .before .before .before .before .before .before .before .before .before .args .file .now) = search line-room in (r, search got-fits, search days)
+loop-again c = (search line-room, search got-fits, search days)
 
 enum-told : tie.Need-enum-told Inv-loop μ-loop
 enum-told c = search needs
@@ -57,10 +58,10 @@ returns-3 : tie.Need-returns-3 Inv-loop μ-loop
 returns-3 c = search days
 
 loop-less-2 : tie.Need-loop-less-2 Inv-loop μ-loop
-loop-less-2 c = let r : c .before .before .before .before .scan .result .end + 2 ≤ length (c .before .before .before .before .before .before .before .args .file .now) = search line-room in omega arith
+loop-less-2 c = search line-less
 
 loop-again-2 : tie.Need-loop-again-2 Inv-loop μ-loop
-loop-again-2 c = let r : c .before .before .before .before .scan .result .end + 2 ≤ length (c .before .before .before .before .before .before .before .args .file .now) = search line-room in (r, search needs, search days)
+loop-again-2 c = (search line-room, search needs, search days)
 
 pub add-days-spec : {M : Type 1} → statement M
 add-days-spec =

@@ -2,6 +2,7 @@
 use Prim.Native.Nat.{_+_, _≤_, _-_}
 use Rattle.channel.proofs.Find.{finds}
 use Rattle.channel.specs.Places.{totalsAt}
+use Rattle.day.proofs.Find.{line-less}
 use Rattle.format.specs.Cut.{lines}
 use Rattle.format.specs.Total.{totalsFrom, totalFirst}
 use Rattle.record.proofs.Ends.{line-room}
@@ -37,16 +38,16 @@ intervals-of-requires : tie.Need-intervals-of-requires Inv-loop μ-loop
 intervals-of-requires c κs = search needs
 
 returns-2 : tie.Need-returns-2 Inv-loop μ-loop
-returns-2 c = let r : c .before .before .before .before .before .scan .result .end + 2 ≤ length (c .before .before .before .before .before .before .before .before .args .file .now) = search line-room in (search finds, r)
+returns-2 c = (search finds, search line-room)
 
 sub-left : tie.Need-sub-left Inv-loop μ-loop
 sub-left c = omega arith
 
 loop-less : tie.Need-loop-less Inv-loop μ-loop
-loop-less c = let r : c .before .before .before .before .scan .result .end + 2 ≤ length (c .before .before .before .before .before .before .before .args .file .now) = search line-room in omega arith
+loop-less c = search line-less
 
 loop-again : tie.Need-loop-again Inv-loop μ-loop
-loop-again c = let r : c .before .before .before .before .scan .result .end + 2 ≤ length (c .before .before .before .before .before .before .before .args .file .now) = search line-room in (r, search finds)
+loop-again c = (search line-room, search finds)
 
 quantity-of-requires : tie.Need-quantity-of-requires Inv-loop μ-loop
 quantity-of-requires c κs = search needs
@@ -58,16 +59,16 @@ sub-left-2 : tie.Need-sub-left-2 Inv-loop μ-loop
 sub-left-2 c = omega arith
 
 loop-less-2 : tie.Need-loop-less-2 Inv-loop μ-loop
-loop-less-2 c = let r : c .before .before .before .before .before .scan .result .end + 2 ≤ length (c .before .before .before .before .before .before .before .before .args .file .now) = search line-room in omega arith
+loop-less-2 c = search line-less
 
 loop-again-2 : tie.Need-loop-again-2 Inv-loop μ-loop
-loop-again-2 c = let r : c .before .before .before .before .before .scan .result .end + 2 ≤ length (c .before .before .before .before .before .before .before .before .args .file .now) = search line-room in (r, search finds)
+loop-again-2 c = (search line-room, search finds)
 
 loop-less-3 : tie.Need-loop-less-3 Inv-loop μ-loop
-loop-less-3 c = let r : c .before .before .before .before .scan .result .end + 2 ≤ length (c .before .before .before .before .before .before .before .args .file .now) = search line-room in omega arith
+loop-less-3 c = search line-less
 
 loop-again-3 : tie.Need-loop-again-3 Inv-loop μ-loop
-loop-again-3 c = let r : c .before .before .before .before .scan .result .end + 2 ≤ length (c .before .before .before .before .before .before .before .args .file .now) = search line-room in (r, search finds)
+loop-again-3 c = (search line-room, search finds)
 
 pub find-channel-spec : {M : Type 1} → statement M
 find-channel-spec =

@@ -1,10 +1,10 @@
 -- `day::cover::put_cover` meets its contract. Assumes nothing.
-use Prim.Native.Nat.{_≤_, _-_}
+use Prim.Native.Nat.{_+_, _≤_, _-_}
 use Rattle.bridge.specs.Sound.{coversFrom}
-use Rattle.day.proofs.Marks.{Turn, turn, cover-on, cover-end}
+use Rattle.day.proofs.Marks.{turn-order, turn-less, turn-most, turn-room, turn-left, turn-roomy, turn-on, cover-end}
 use Rattle.day.specs.Places.{runsAt, runTags}
 use Rattle.format.specs.Day.{five}
-use Rattle.lists.proofs.Laws.{Even, even-self, even-stored, even-room}
+use Rattle.lists.proofs.Laws.{Even, even-self, even-stored}
 use Rattle.lists.specs.Lists.{stored}
 use borrow.Author.Needs.{needs}
 use lib.ListN.{length}
@@ -29,17 +29,17 @@ line-end-requires c κs = search needs
 run-at-requires : tie.Need-run-at-requires Inv-loop μ-loop
 run-at-requires c κs = search needs
 
-put-tag-requires : tie.Need-put-tag-requires Inv-loop μ-loop
-put-tag-requires c κs = let u : Turn (c .before .before .before .before .before .before .before .before .before .before .before .before .before .before .before .before .args .file .now) (c .before .before .before .before .before .before .before .before .before .loop .at) (c .before .before .before .before .before .before .before .line-end .result) (c .before .before .before .before .before .before .before .before .before .before .before .before .before .before .before .before .args .n) (c .before .before .before .before .before .before .before .before .before .loop .k) (c .before .before .before .before .before .before .run-at .result .to) = search turn in let h = u .most in (omega (arith, u .more), search even-room)
-
 add-at : tie.Need-add-at Inv-loop μ-loop
-add-at c = let u : Turn (c .before .before .before .before .before .before .before .before .before .before .before .before .before .before .before .before .before .before .before .before .before .before .before .before .before .before .before .args .file .now) (c .before .before .before .before .before .before .before .before .before .before .before .before .before .before .before .before .before .before .before .before .loop .at) (c .before .before .before .before .before .before .before .before .before .before .before .before .before .before .before .before .before .before .line-end .result) (c .before .before .before .before .before .before .before .before .before .before .before .before .before .before .before .before .before .before .before .before .before .before .before .before .before .before .before .args .n) (c .before .before .before .before .before .before .before .before .before .before .before .before .before .before .before .before .before .before .before .before .loop .k) (c .before .before .before .before .before .before .before .before .before .before .before .before .before .before .before .before .before .run-at .result .to) = search turn in omega (arith, u .room, c .before .before .before .before .before .before .before .before .before .before .before .before .before .before .before .before .before .before .before .before .before .before .before .before .before .before .before .good)
+add-at c = let r : c .before .before .line-end .result + 2 ≤ length (c .before .before .before .before .before .before .before .before .before .before .before .args .file .now) = search turn-room in omega arith
+
+put-tag-requires : tie.Need-put-tag-requires Inv-loop μ-loop
+put-tag-requires c κs = (search turn-order, search turn-roomy)
 
 loop-less : tie.Need-loop-less Inv-loop μ-loop
-loop-less c = let u : Turn (c .before .before .before .before .before .before .before .before .before .before .before .before .before .before .before .before .before .before .before .before .before .before .before .before .before .before .before .args .file .now) (c .before .before .before .before .before .before .before .before .before .before .before .before .before .before .before .before .before .before .before .before .loop .at) (c .before .before .before .before .before .before .before .before .before .before .before .before .before .before .before .before .before .before .line-end .result) (c .before .before .before .before .before .before .before .before .before .before .before .before .before .before .before .before .before .before .before .before .before .before .before .before .before .before .before .args .n) (c .before .before .before .before .before .before .before .before .before .before .before .before .before .before .before .before .before .before .before .before .loop .k) (c .before .before .before .before .before .before .before .before .before .before .before .before .before .before .before .before .before .run-at .result .to) = search turn in omega (arith, u .more, u .most)
+loop-less c = search turn-less
 
 loop-again : tie.Need-loop-again Inv-loop μ-loop
-loop-again c = let u : Turn (c .before .before .before .before .before .before .before .before .before .before .before .before .before .before .before .before .before .before .before .before .before .before .before .before .before .before .before .args .file .now) (c .before .before .before .before .before .before .before .before .before .before .before .before .before .before .before .before .before .before .before .before .loop .at) (c .before .before .before .before .before .before .before .before .before .before .before .before .before .before .before .before .before .before .line-end .result) (c .before .before .before .before .before .before .before .before .before .before .before .before .before .before .before .before .before .before .before .before .before .before .before .before .before .before .before .args .n) (c .before .before .before .before .before .before .before .before .before .before .before .before .before .before .before .before .before .before .before .before .loop .k) (c .before .before .before .before .before .before .before .before .before .before .before .before .before .before .before .before .before .run-at .result .to) = search turn in (u .room, u .most, even-stored _ _ (c .before .before .before .before .before .before .before .before .before .before .before .before .before .before .before .before .before .before .before .before .loop .inv .2) (c .before .before .before .before .before .before .before .before .before .before .put-tag .ensures), u .left, cover-on _ _ _ _ _ _ _ _ _ _ u (c .before .before .before .before .before .before .before .before .before .before .before .before .before .before .before .before .before .run-at .ensures .1) (c .before .before .before .before .before .before .before .before .before .before .put-tag .ensures) (c .before .before .before .before .before .before .before .before .before .before .before .before .before .before .before .before .before .before .before .before .loop .inv .4))
+loop-again c = (search turn-room, search turn-most, search even-stored, search turn-left, search turn-on)
 
 same-length : tie.Need-same-length Inv-loop μ-loop
 same-length c = omega arith
@@ -68,8 +68,8 @@ put-cover-spec =
     loop-holds
     line-end-requires
     run-at-requires
-    put-tag-requires
     add-at
+    put-tag-requires
     loop-less
     loop-again
     same-length

@@ -1,5 +1,5 @@
 -- `day::head::head_at` meets its contract. Assumes nothing.
-use Rattle.day.proofs.Times.{head-rest, head-date}
+use Rattle.day.proofs.Top.{head-rest, head-date}
 use borrow.Author.Needs.{needs}
 use Rattle.day.proofs.head.head_at.Statement.{statement}
 use Rattle.day.proofs.head.head_at.Tie as tie

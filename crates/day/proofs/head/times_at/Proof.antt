@@ -1,5 +1,5 @@
 -- `day::head::times_at` meets its contract. Assumes nothing.
-use Rattle.day.proofs.Times.{time-first, time-second}
+use Rattle.day.proofs.Top.{time-first, time-second}
 use borrow.Author.Needs.{needs}
 use Rattle.day.proofs.head.times_at.Statement.{statement}
 use Rattle.day.proofs.head.times_at.Tie as tie

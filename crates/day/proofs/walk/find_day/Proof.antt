@@ -1,6 +1,6 @@
 -- `day::walk::find_day` meets its contract. Assumes nothing.
 use Prim.Native.Nat.{_+_, _≤_, _-_}
-use Rattle.day.proofs.Find.{finds}
+use Rattle.day.proofs.Find.{finds, line-less}
 use Rattle.day.specs.Places.{daysAt}
 use Rattle.format.specs.Day.{daysOf}
 use Rattle.record.proofs.Ends.{line-room}
@@ -34,31 +34,31 @@ kind-at-requires : tie.Need-kind-at-requires Inv-loop μ-loop
 kind-at-requires c κs = search needs
 
 returns-2 : tie.Need-returns-2 Inv-loop μ-loop
-returns-2 c = let r : c .before .before .before .before .scan .result .end + 2 ≤ length (c .before .before .before .before .before .before .before .args .file .now) = search line-room in (search finds, (search needs, r))
+returns-2 c = (search finds, (search needs, search line-room))
 
 sub-left : tie.Need-sub-left Inv-loop μ-loop
 sub-left c = omega arith
 
 loop-less : tie.Need-loop-less Inv-loop μ-loop
-loop-less c = let r : c .before .before .before .before .scan .result .end + 2 ≤ length (c .before .before .before .before .before .before .before .args .file .now) = search line-room in omega arith
+loop-less c = search line-less
 
 loop-again : tie.Need-loop-again Inv-loop μ-loop
-loop-again c = let r : c .before .before .before .before .scan .result .end + 2 ≤ length (c .before .before .before .before .before .before .before .args .file .now) = search line-room in (r, search finds)
+loop-again c = (search line-room, search finds)
 
 intervals-of-requires : tie.Need-intervals-of-requires Inv-loop μ-loop
 intervals-of-requires c κs = search needs
 
 loop-less-2 : tie.Need-loop-less-2 Inv-loop μ-loop
-loop-less-2 c = let r : c .before .before .before .before .before .scan .result .end + 2 ≤ length (c .before .before .before .before .before .before .before .before .args .file .now) = search line-room in omega arith
+loop-less-2 c = search line-less
 
 loop-again-2 : tie.Need-loop-again-2 Inv-loop μ-loop
-loop-again-2 c = let r : c .before .before .before .before .before .scan .result .end + 2 ≤ length (c .before .before .before .before .before .before .before .before .args .file .now) = search line-room in (r, search finds)
+loop-again-2 c = (search line-room, search finds)
 
 loop-less-3 : tie.Need-loop-less-3 Inv-loop μ-loop
-loop-less-3 c = let r : c .before .before .before .before .scan .result .end + 2 ≤ length (c .before .before .before .before .before .before .before .args .file .now) = search line-room in omega arith
+loop-less-3 c = search line-less
 
 loop-again-3 : tie.Need-loop-again-3 Inv-loop μ-loop
-loop-again-3 c = let r : c .before .before .before .before .scan .result .end + 2 ≤ length (c .before .before .before .before .before .before .before .args .file .now) = search line-room in (r, search finds)
+loop-again-3 c = (search line-room, search finds)
 
 pub find-day-spec : {M : Type 1} → statement M
 find-day-spec =
