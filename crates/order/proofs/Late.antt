@@ -54,7 +54,7 @@ module _ (st : Due) (k : ℕ) (fs : List (List ℕ)) where
           unfolding lastOf lateOf
           late-12 e = rw (e₇, e₈, e₉, e₁₁, e)
 
-          late-none : isElsewhere st k fs ≡ false → goes (afterOf st k fs) ≡ lastOf st k fs
+          pub late-none : isElsewhere st k fs ≡ false → goes (afterOf st k fs) ≡ lastOf st k fs
           unfolding lastOf lateOf
           late-none e = rw (e₇, e₈, e₉, e₁₁, e)
 

@@ -16,6 +16,7 @@ use Rattle.format.specs.declared.Fault.{Fault}
 use Rattle.format.specs.declared.Fault.the-variants.{Fine, Stop}
 use Rattle.format.specs.declared.Tag.{Tag}
 use Rattle.record.specs.Places.{Starts}
+use Rattle.record.specs.Walk.{Typed, Sound}
 use Rattle.order.specs.declared.State.{State}
 use Rattle.order.specs.declared.Step.{Step}
 use Rattle.order.specs.declared.Step.the-variants as step
@@ -107,3 +108,9 @@ goesOn next n a b = eqb a next && (leb a b && leb b n)
 -- with this mark, every 400 of the day has one
 unfoldable pub alikeTo : Due → Mark → Bool
 alikeTo st m = cond (eqb (st .next) 1) true (st .alike && sameMark (st .mark) m)
+
+-- a record of the kind k whose fields meet their rules, with the places that are asked for
+pub record Ready (file : List ℕ) (at e k p q : ℕ) (st : State) : Type 0 where
+  pub kept : Kept file at st
+  pub typed : Typed file at e k (size (seen file st) k)
+  pub sound : Sound file at e k (size (seen file st) k) p q
