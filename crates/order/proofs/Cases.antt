@@ -66,3 +66,18 @@ module _ (file : List ℕ) (s t : Tag) where
   texts-compared e f g h = rw (eq-eqb _ _ e, eq-eqb _ _ f, eq-eqb _ _ g) h
 
 pub ruleset marks = (flag-differs, method-differs, reason-differs, texts-compared)
+
+-- ---- with this mark, every 400 of the day has one
+
+module _ (st : Due) (m : Mark) where
+  pub alike-first : st .next ≡ 1 → true ≡ alikeTo st m
+  unfolding alikeTo
+  alike-first h = rw (eq-eqb _ _ h)
+
+  pub alike-not : (st .next ≡ 1 → ⊥) → not (st .alike) ≡ true → false ≡ alikeTo st m
+  unfolding alikeTo
+  alike-not h g = rw (ne-eqb _ _ h, not-true (st .alike) g)
+
+  pub alike-still : {b : Bool} → (st .next ≡ 1 → ⊥) → not (st .alike) ≡ false → b ≡ sameMark (st .mark) m → b ≡ alikeTo st m
+  unfolding alikeTo
+  alike-still h g e = rw (ne-eqb _ _ h, not-false (st .alike) g) e

@@ -1,5 +1,6 @@
 -- The state in the code, which holds a description as a place of the file, and what the meaning's state says there.
 use Prim.Native.Nat.{ℕ, _+_, _≤_}
+use mathlib.Core.Path.{_≡_}
 use mathlib.Core.List.{List}
 use mathlib.Core.Bool.{Bool, true, false, cond, _&&_}
 use lib.ListN.{length}
@@ -7,12 +8,15 @@ use lib.Dec.{leb, eqb}
 use Rattle.ground.specs.Lists.{part}
 use Rattle.format.specs.Quality.{Mark, noMethod, sameMark}
 use Rattle.format.specs.Numbers.{noReason}
+use Rattle.format.specs.Cut.{fields}
 use Rattle.format.specs.Order.{Due, afterOf}
 use Rattle.format.specs.File.{after}
 use Rattle.format.specs.Faults.{_▹_, size, f7, f8, f9, f11, f12, faultOf}
 use Rattle.format.specs.declared.Fault.{Fault}
 use Rattle.format.specs.declared.Fault.the-variants.{Fine, Stop}
 use Rattle.format.specs.declared.Tag.{Tag}
+use Rattle.record.specs.Places.{Starts}
+use Rattle.record.specs.Walk.{Typed, Sound}
 use Rattle.order.specs.declared.State.{State}
 use Rattle.order.specs.declared.Step.{Step}
 use Rattle.order.specs.declared.Step.the-variants as step
@@ -50,6 +54,19 @@ pub record Kept (file : List ℕ) (at : ℕ) (st : State) : Type 0 where
   pub small : st .n ≤ 288
   pub channels : st .channels ≤ at
   pub days : st .days ≤ at
+
+-- the fields of the record from at to e
+abbrev pub cells : List ℕ → ℕ → ℕ → List (List ℕ)
+cells file at e = fields (part file at e)
+
+-- its field i starts at a
+abbrev pub Here : List ℕ → ℕ → ℕ → ℕ → ℕ → Type 0
+Here file at e i a = Starts file (cells file at e) at i a e
+
+-- the state s is what is due behind a record that ends at e
+pub record After (file : List ℕ) (e : ℕ) (st : Due) (s : State) : Type 0 where
+  pub is : seen file s ≡ st
+  pub kept : Kept file (e + 1) s
 
 -- ---- a step
 
@@ -91,3 +108,9 @@ goesOn next n a b = eqb a next && (leb a b && leb b n)
 -- with this mark, every 400 of the day has one
 unfoldable pub alikeTo : Due → Mark → Bool
 alikeTo st m = cond (eqb (st .next) 1) true (st .alike && sameMark (st .mark) m)
+
+-- a record of the kind k whose fields meet their rules, with the places that are asked for
+pub record Ready (file : List ℕ) (at e k p q : ℕ) (st : State) : Type 0 where
+  pub kept : Kept file at st
+  pub typed : Typed file at e k (size (seen file st) k)
+  pub sound : Sound file at e k (size (seen file st) k) p q

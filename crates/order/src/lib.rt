@@ -1,8 +1,8 @@
 // What may come next travels as one state, by value: each record's method takes it and hands it back, or names the record's first fault.
+pub mod records;
+pub mod steps;
 pub mod tests;
 use format::Tag;
-ghost use mathlib.Core.Path.{_≡_};
-ghost use Rattle.order.specs.State.{closed};
 
 // What may come next.
 pub struct State {
@@ -29,23 +29,4 @@ pub struct State {
 pub enum Step {
     On(State),
     Stop(u64, usize, usize),
-}
-
-impl State {
-    // Where no V day is open.
-    pub fn closed(expect: u64, version: u64, n: usize, date: u64, channels: usize, days: usize) -> State
-        ensures { λ r. ⌜ r ≡ closed expect version n date channels days ⌝ }
-    {
-        State {
-            expect,
-            version,
-            n,
-            date,
-            next: 0,
-            mark: Tag { flag: 0, method: 255, reason: 65535, start: 0, length: 0 },
-            alike: false,
-            channels,
-            days,
-        }
-    }
 }

@@ -184,6 +184,7 @@ looked file at stop commas n within r e q g =
       ends = record { order = omega arith; within = omega (arith, w, u, r .within, length-drop (at + stop) file); is = omega arith };
       order = omega arith;
       within = omega arith;
+      few = omega (arith, r .few);
       first = rw (j, span-take plain (stop + n) (drop at file) (omega arith), ← k);
       count = rw (part-cut at stop (drop at file), ← to-end at file) (r .count);
     }

@@ -25,7 +25,7 @@ use Rattle.format.specs.declared.Graded.{Graded}
 use Rattle.format.specs.declared.Tag.{Tag}
 use Rattle.format.proofs.Cut.{start-zero}
 use Rattle.format.proofs.Numbers.{under, number-under, small-under, value-below}
-use Rattle.record.specs.Places.{Cut, Rest}
+use Rattle.record.specs.Places.{Cut, Rest, Starts}
 use Rattle.record.proofs.Cuts.{rest-first}
 
 -- ---- numbers
@@ -33,6 +33,11 @@ use Rattle.record.proofs.Cuts.{rest-first}
 -- of the field f, which is g: x is what its rule answers
 pub says : (rule : List ℕ → Number) {f g : List ℕ} {x : Number} {v : ℕ} → v ≡ numberIn x → x ≡ rule f → f ≡ g → v ≡ numberIn (rule g)
 says rule e q h = e ∙ ap numberIn (q ∙ ap rule h)
+
+-- of the record that the field stands in
+pub says-of : (rule : List ℕ → Number) {file : List ℕ} {fs : List (List ℕ)} {p i a e v : ℕ} → v ≡ numberIn (rule (field 0 (fields (part file a e))))
+    → Starts file fs p i a e → v ≡ numberIn (rule (field i fs))
+says-of rule e s = e ∙ ap (λ (f : List ℕ). numberIn (rule f)) (rest-first (s .rest))
 
 pub kind-says : (fs : List (List ℕ)) {f : List ℕ} {x : Number} {v : ℕ} → v ≡ numberIn x → x ≡ indicatorOf f → f ≡ field 0 fs → v ≡ kindIn fs
 unfolding kindIn

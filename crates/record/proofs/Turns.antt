@@ -88,14 +88,26 @@ three f h = go (areAll isDigit 3 3 f) refl
         omega (arith, leb-true 3 (length f) (a .0), leb-true (length f) 3 (a .1))
     go false e = absurd (h (rw e))
 
+-- the field behind the indicator starts at the fifth byte
+start-four : (file : List ℕ) (at e k n : ℕ) → Typed file at e k n → startOf 1 (fields (part file at e)) ≡ 4
+unfolding kindIn
+start-four file at e k n y =
+    let fs = fields (part file at e) in
+    let t : length (field 0 fs) ≡ 3 = three (field 0 fs) (λ z. y .some (y .kind ∙ z)) in
+    omega (arith, start-zero fs, start-next 0 fs (fields-some (part file at e)))
+
+pub second-field : (file : List ℕ) (at e k n : ℕ) → Typed file at e k n → 1 < countOf k n → Starts file (fields (part file at e)) at 1 (at + 4) e
+second-field file at e k n y h =
+    let q : at + 4 ≡ at + startOf 1 (fields (part file at e)) = ap (λ (z : ℕ). at + z) (sym (start-four file at e k n y)) in
+    record { place = q; rest = rw q (rest-at file at e 1 (y .order) (y .within) (omega (arith, y .count))) }
+
 -- the indicator passed
 pub along-first : (file : List ℕ) (at e k n : ℕ) → Typed file at e k n → Along file at e k n 1 (at + 3)
 unfolding kindIn
 along-first file at e k n y =
     let fs = fields (part file at e) in
+    let h : startOf 1 fs ≡ 4 = start-four file at e k n y in
     let t : length (field 0 fs) ≡ 3 = three (field 0 fs) (λ z. y .some (y .kind ∙ z)) in
-    let z : startOf 0 fs ≡ 0 = start-zero fs in
-    let h : startOf 1 fs ≡ 4 = omega (arith, start-next 0 fs (fields-some (part file at e))) in
     let w : spanOf (other 44) (part file at e) ≡ 3 = rw (field-here (part file at e), length-take-le _ _ (span-le (other 44) (part file at e))) at t in
     record {
       high = omega (arith, w, span-le (other 44) (part file at e), part-length file at e (y .within), y .order);

@@ -33,6 +33,7 @@ pub record Looked (file : List ℕ) (at e bad commas : ℕ) : Type 0 where
   pub ends : LineEnd file at e
   pub order : at ≤ bad
   pub within : bad ≤ e
+  pub few : commas ≤ bad
   pub first : bad ≡ at + spanOf plain (part file at e)
   pub count : commas + 1 ≡ length (fields (part file at bad))
 
