@@ -1,8 +1,8 @@
 // The parts of a day block that are as many as the day has intervals: its values, and the 400s of its longest runs. Each is measured first, and then
 // written.
-pub mod values;
 pub mod marks;
 pub mod runs;
+pub mod values;
 
 // The bytes of a day's values, if each value is fit.
 pub enum Measured {

@@ -7,7 +7,6 @@ use text::marks::put_quality;
 use text::marks::put_reason;
 use text::marks::quality_len;
 use text::marks::reason_len;
-
 ghost use mathlib.Core.Path.{_≡_};
 ghost use mathlib.Core.Bool.{true};
 ghost use Prim.Native.Nat.{_+_, _≤_};

@@ -1,15 +1,14 @@
 // The 400s: a record for each of the longest runs of intervals with one mark.
-use format::Tag;
-use fit::tag_at;
-use text::bytes::put_byte;
-use text::bytes::put_bytes;
-use text::digits::digits_len;
-use text::digits::put_dec;
 use super::Size;
 use super::marks::mark_len;
 use super::marks::put_mark;
 use super::marks::same_mark;
-
+use fit::tag_at;
+use format::Tag;
+use text::bytes::put_byte;
+use text::bytes::put_bytes;
+use text::digits::digits_len;
+use text::digits::put_dec;
 ghost use mathlib.Core.Path.{_≡_};
 ghost use mathlib.Core.Bool.{true};
 ghost use mathlib.Core.List.{_++_};

@@ -3,7 +3,6 @@ use super::Measured;
 use text::bytes::put_byte;
 use text::values::put_value;
 use text::values::value_len;
-
 ghost use mathlib.Core.Path.{_≡_};
 ghost use Prim.Native.Nat.{_+_, _≤_};
 ghost use lib.ListN.{length};

@@ -1,10 +1,9 @@
 // Which marks a day that is handed in may have: those that a single 400 may carry, each description inside the lent text.
-use format::Tag;
 use field::quality::across;
 use field::texts::description;
+use format::Tag;
 use leaf::flags::stands_alone;
 use leaf::flags::takes_method;
-
 ghost use mathlib.Core.Path.{_≡_};
 ghost use mathlib.Core.Bool.{_&&_};
 ghost use Prim.Native.Nat.{suc};

@@ -2,5 +2,5 @@
 // behind what it wrote.
 pub mod bytes;
 pub mod digits;
-pub mod values;
 pub mod marks;
+pub mod values;

@@ -3,7 +3,6 @@ use super::bytes::put_byte;
 use super::digits::digits_len;
 use super::digits::put_dec;
 use super::digits::put_digits;
-
 ghost use mathlib.Core.Path.{_≡_};
 ghost use Prim.Native.Nat.{_+_, _≤_};
 ghost use lib.ListN.{length};
@@ -11,6 +10,7 @@ ghost use Rattle.ground.specs.Room.{Put};
 ghost use Rattle.format.specs.Block.{qualityText, reasonText, loadText};
 
 const NO_METHOD: u8 = 255;
+
 const NO_REASON: u16 = 65535;
 
 pub fn quality_len(flag: u8, method: u8) -> usize

@@ -3,7 +3,6 @@ use super::bytes::put_byte;
 use super::digits::digits_len;
 use super::digits::put_dec;
 use super::digits::put_digits;
-
 ghost use mathlib.Core.Path.{_≡_};
 ghost use Prim.Native.Nat.{_+_, _≤_};
 ghost use lib.ListN.{length};
@@ -26,12 +25,18 @@ fn trim(f: u64) -> Decimals
     let mut m = f;
     while 0 < p {
         if m % 10 != 0 {
-            return Decimals { places: p, number: m };
+            return Decimals {
+                places: p,
+                number: m,
+            };
         }
         m /= 10;
         p -= 1;
     }
-    Decimals { places: p, number: m }
+    Decimals {
+        places: p,
+        number: m,
+    }
 }
 
 pub fn value_len(v: u64) -> usize

@@ -177,7 +177,7 @@ module _ (h : DayHead) (vs fs ms rs ss ls text : List ℕ) {n : ℕ} (e : n ≡ 
 
       module _ (room : List ℕ) {w : Written} {after : List ℕ}
           (x : Writes (answeredOf (fitWith h n (take n vs) (five fs ms rs ss ls) text) (dayWith h n (take n vs) (five fs ms rs ss ls) text) (length room))
-              (blockOf (dayWith h n (take n vs) (five fs ms rs ss ls) text)) room w after) where
+          (blockOf (dayWith h n (take n vs) (five fs ms rs ss ls) text)) room w after) where
         pub day-answer : writtenAs w ≡ writeOf (given h vs fs ms rs ss ls text) (length room)
         day-answer = x .answer ∙ answered (length room)
 

@@ -9,7 +9,6 @@ use format::Written;
 use pieces::fit_day;
 use pieces::measure_block;
 use pieces::put_block;
-
 ghost use mathlib.Core.Path.{_≡_};
 ghost use mathlib.Core.Bool.{true};
 ghost use Prim.Native.Nat.{_≤_};
@@ -71,14 +70,40 @@ fn write_fit(
     requires { ⌜ (fitWith day n (now values) (five (now flags) (now methods) (now reasons) (now starts) (now lengths)) (now text) ≡ true) × (k ≡ length (valuesText (now values))) ⌝ }
     ensures { λ w. ⌜ Writes (placedOf (dayWith day n (now (values .entry)) (five (now (flags .entry)) (now (methods .entry)) (now (reasons .entry)) (now (starts .entry)) (now (lengths .entry))) (now (text .entry))) (length (now (room .entry)))) (blockOf (dayWith day n (now (values .entry)) (five (now (flags .entry)) (now (methods .entry)) (now (reasons .entry)) (now (starts .entry)) (now (lengths .entry))) (now (text .entry)))) (now (room .entry)) w (now (room .exit)) ⌝ }
 {
-    let size = measure_block(day, values, k, flags, methods, reasons, starts, lengths, text, n);
+    let size = measure_block(
+        day,
+        values,
+        k,
+        flags,
+        methods,
+        reasons,
+        starts,
+        lengths,
+        text,
+        n,
+    );
     let b = size.bytes;
     let r = size.records;
     if room.len() < b {
         return no_block(15);
     }
-    put_block(room, day, values, flags, methods, reasons, starts, lengths, text, n, r);
-    Written::Block { bytes: b, records: r }
+    put_block(
+        room,
+        day,
+        values,
+        flags,
+        methods,
+        reasons,
+        starts,
+        lengths,
+        text,
+        n,
+        r,
+    );
+    Written::Block {
+        bytes: b,
+        records: r,
+    }
 }
 
 // A day whose lists are long enough.
@@ -97,11 +122,31 @@ fn write_long(
     requires { ⌜ Ready n (now values) (five (now flags) (now methods) (now reasons) (now starts) (now lengths)) ⌝ }
     ensures { λ w. ⌜ Writes (answeredOf (fitWith day n (now (values .entry)) (five (now (flags .entry)) (now (methods .entry)) (now (reasons .entry)) (now (starts .entry)) (now (lengths .entry))) (now (text .entry))) (dayWith day n (now (values .entry)) (five (now (flags .entry)) (now (methods .entry)) (now (reasons .entry)) (now (starts .entry)) (now (lengths .entry))) (now (text .entry))) (length (now (room .entry)))) (blockOf (dayWith day n (now (values .entry)) (five (now (flags .entry)) (now (methods .entry)) (now (reasons .entry)) (now (starts .entry)) (now (lengths .entry))) (now (text .entry)))) (now (room .entry)) w (now (room .exit)) ⌝ }
 {
-    let m = fit_day(day, values, flags, methods, reasons, starts, lengths, text, n);
+    let m = fit_day(
+        day,
+        values,
+        flags,
+        methods,
+        reasons,
+        starts,
+        lengths,
+        text,
+        n,
+    );
     match m {
         Measured::Unfit => no_block(16),
         Measured::Bytes(k) => write_fit(
-            day, values, flags, methods, reasons, starts, lengths, text, room, n, k,
+            day,
+            values,
+            flags,
+            methods,
+            reasons,
+            starts,
+            lengths,
+            text,
+            room,
+            n,
+            k,
         ),
     }
 }
@@ -125,8 +170,27 @@ pub fn write_day(
     if n == 0 {
         return no_block(16);
     }
-    if !enough(n, values.len(), flags.len(), methods.len(), reasons.len(), starts.len(), lengths.len()) {
+    if !enough(
+        n,
+        values.len(),
+        flags.len(),
+        methods.len(),
+        reasons.len(),
+        starts.len(),
+        lengths.len(),
+    ) {
         return no_block(15);
     }
-    write_long(day, &values[..n], flags, methods, reasons, starts, lengths, text, room, n)
+    write_long(
+        day,
+        &values[..n],
+        flags,
+        methods,
+        reasons,
+        starts,
+        lengths,
+        text,
+        room,
+        n,
+    )
 }

@@ -18,7 +18,6 @@ use text::bytes::put_bytes;
 use text::digits::put_digits;
 use text::marks::load_len;
 use text::marks::put_load;
-
 ghost use mathlib.Core.Path.{_≡_};
 ghost use mathlib.Core.Bool.{true};
 ghost use mathlib.Core.List.{_++_};

@@ -1,62 +1,48 @@
-use Rattle.block.proofs.OneMark.{parts-differ, parts-empty, parts-same, part-room, flags-differ, methods-differ, reasons-differ, marks-same, fit-is-inside, fit-inside, fit-short, mark-length, quality-room, first-comma-room, reason-room, second-comma-room, description-room}
+-- `block::marks::same_part` meets its contract. Assumes nothing.
+use Prim.Native.Nat.{_+_, _≤_}
+use Rattle.block.proofs.OneMark.{parts-differ, parts-empty, parts-same, part-room}
+use Rattle.block.proofs.OneMark.{parts-differ, parts-empty, parts-same, part-room}
 use Rattle.text.proofs.Texts.{inside-some}
-use Rattle.block.proofs.OneMark.{parts-differ, parts-empty, parts-same, part-room, flags-differ, methods-differ, reasons-differ, marks-same, fit-is-inside, fit-inside, fit-short, mark-length}
-use denote.Ref.{now}
-use lib.ListN.{length, drop}
-use Prim.Native.Nat.{_-_, _+_, _≤_}
-use native.Mathlib.Omega.{arith}
 use borrow.Author.Needs.{needs}
+use denote.Ref.{now}
+use lib.ListN.{length}
+use native.Mathlib.Omega.{arith}
 use Rattle.block.proofs.marks.same_part.Statement.{statement}
 use Rattle.block.proofs.marks.same_part.Tie as tie
-use Rattle.block.proofs.marks.same_part.Reads as reads
-use Rattle.block.proofs.marks.same_part.Lts as lts
-use Rattle.leaf.proofs.bytes.same_bytes.Reads as same-bytes-reads
 
--- src/marks.rt:28:9
 returns : tie.Need-returns
 returns c = search parts-differ
 
--- src/marks.rt:31:9
 returns-2 : tie.Need-returns-2
 returns-2 c = search parts-empty
 
--- src/marks.rt:33:13
 add-e : tie.Need-add-e
 add-e c = let h : c .before .before .before .args .s + c .before .before .before .args .n ≤ length (now (c .before .before .before .args .text)) = search inside-some in omega arith
 
--- src/marks.rt:34:13
 add-f : tie.Need-add-f
 add-f c = let g : c .before .before .before .args .t + c .before .before .before .args .m ≤ length (now (c .before .before .before .args .text)) = search part-room in omega arith
 
--- src/marks.rt:35:16
 sub-same-bytes : tie.Need-sub-same-bytes
 sub-same-bytes c = search needs
 
--- src/marks.rt:35:16
 part-same-bytes-start : tie.Need-part-same-bytes-start
 part-same-bytes-start c = search needs
 
--- src/marks.rt:35:16
 part-same-bytes-end : tie.Need-part-same-bytes-end
 part-same-bytes-end c = let h : c .before .before .before .args .s + c .before .before .before .args .n ≤ length (now (c .before .before .before .args .text)) = search inside-some in omega arith
 
--- src/marks.rt:35:29
 sub-same-bytes-2 : tie.Need-sub-same-bytes-2
 sub-same-bytes-2 c = search needs
 
--- src/marks.rt:35:29
 part-same-bytes-start-2 : tie.Need-part-same-bytes-start-2
 part-same-bytes-start-2 c = search needs
 
--- src/marks.rt:35:29
 part-same-bytes-end-2 : tie.Need-part-same-bytes-end-2
 part-same-bytes-end-2 c = let g : c .before .before .before .before .args .t + c .before .before .before .before .args .m ≤ length (now (c .before .before .before .before .args .text)) = search part-room in omega arith
 
--- src/marks.rt:35:5
 same-bytes-requires : tie.Need-same-bytes-requires
 same-bytes-requires c κs = search needs
 
--- src/marks.rt:23:1
 returns-3 : tie.Need-returns-3
 returns-3 c = search parts-same
 

@@ -1,17 +1,13 @@
+-- `block::values::put_values` meets its contract. Assumes nothing.
+use Prim.Native.Nat.{_-_, _≤_}
+use Rattle.block.proofs.ValueList.{value-room, comma-room, values-step, values-start, values-done}
 use Rattle.format.specs.Block.{valuesText}
 use Rattle.ground.proofs.Room.{Left, left-kept}
-use Rattle.block.proofs.ValueList.{Counted, counted-none, counted-unfit, counted-more, counted-fits, counted-all, value-room, comma-room, values-step, values-start, values-done}
-use denote.Ref.{now}
-use lib.ListN.{length, drop}
-use Prim.Native.Nat.{_-_, _+_, _≤_}
-use native.Mathlib.Omega.{arith}
 use borrow.Author.Needs.{needs}
+use lib.ListN.{length, drop}
+use native.Mathlib.Omega.{arith}
 use Rattle.block.proofs.values.put_values.Statement.{statement}
 use Rattle.block.proofs.values.put_values.Tie as tie
-use Rattle.block.proofs.values.put_values.Reads as reads
-use Rattle.block.proofs.values.put_values.Lts as lts
-use Rattle.text.proofs.bytes.put_byte.Reads as put-byte-reads
-use Rattle.text.proofs.values.put_value.Reads as put-value-reads
 
 abbrev Inv-loop : tie.InvT-loop
 Inv-loop room₀ at values p₀ i₀ room p i = (i ≤ length values) × Left room₀ at (valuesText values) room p (valuesText (drop i values))
@@ -19,43 +15,33 @@ Inv-loop room₀ at values p₀ i₀ room p i = (i ≤ length values) × Left ro
 abbrev μ-loop : tie.MeasureT-loop
 μ-loop room₀ at values p₀ i₀ room p i = length values - i
 
--- src/values.rt:40:5
 loop-holds : tie.Need-loop-holds Inv-loop μ-loop
 loop-holds c = (search needs, search values-start)
 
--- src/values.rt:41:36
 mul-put-value : tie.Need-mul-put-value Inv-loop μ-loop
 mul-put-value c = search needs
 
--- src/values.rt:41:36
 shared-slice-read-put-value : tie.Need-shared-slice-read-put-value Inv-loop μ-loop
 shared-slice-read-put-value c = search needs
 
--- src/values.rt:41:13
 put-value-requires : tie.Need-put-value-requires Inv-loop μ-loop
 put-value-requires c κs = search value-room
 
--- src/values.rt:42:9
 put-byte-requires : tie.Need-put-byte-requires Inv-loop μ-loop
 put-byte-requires c κs = search comma-room
 
--- src/values.rt:43:9
 add-i : tie.Need-add-i Inv-loop μ-loop
 add-i c = search needs
 
--- src/values.rt:40:5
 loop-less : tie.Need-loop-less Inv-loop μ-loop
 loop-less c = search needs
 
--- src/values.rt:40:5
 loop-again : tie.Need-loop-again Inv-loop μ-loop
 loop-again c = (omega arith, search values-step)
 
--- src/values.rt:34:1
 same-length : tie.Need-same-length Inv-loop μ-loop
 same-length c = left-kept (c .before .loop .inv .1)
 
--- src/values.rt:34:1
 returns : tie.Need-returns Inv-loop μ-loop
 returns c = search values-done
 
