@@ -5,7 +5,7 @@ use Rattle.order.proofs.tests.same_mark.Statement.{statement}
 use Rattle.order.proofs.tests.same_mark.Tie as tie
 use Rattle.order.proofs.tests.same_mark.Reads as reads
 use Rattle.order.proofs.tests.same_mark.Lts as lts
-use Rattle.field.proofs.bytes.same_bytes.Reads as same-bytes-reads
+use Rattle.leaf.proofs.bytes.same_bytes.Reads as same-bytes-reads
 
 -- src/tests.rt:99:9
 returns : tie.Need-returns
