@@ -133,6 +133,10 @@ fields-from (suc i) s h = by (decLt (spanOf (other 44) s) (length s)) (λ t k. f
         }
     by (no p) ih = absurd (let e : length (fields s) ≡ 1 = rw (fields-last s (omega (arith, span-le (other 44) s))) in let z : ⊥ = omega arith in z)
 
+pub start-zero : (fs : List (List ℕ)) → startOf 0 fs ≡ 0
+unfolding startOf
+start-zero fs = refl
+
 start-nil : (i : ℕ) → startOf i [] ≡ 0
 unfolding startOf
 start-nil zero = refl
@@ -144,3 +148,23 @@ unfolding startOf
 start-add zero j fs = rw (zero-add, zero-add)
 start-add (suc i) j [] = rw (start-nil (suc i + j), start-nil j)
 start-add (suc i) j (f ∷ fs) = rw suc-add (omega (arith, start-add i j fs))
+
+-- a field that is there, and those behind it
+pub field-cons : (i : ℕ) (fs : List (List ℕ)) → i < length fs → drop i fs ≡ field i fs ∷ drop (i + 1) fs
+field-cons i fs h = rw (add-one, drop-cons fs i [])
+
+pub start-next : (i : ℕ) (fs : List (List ℕ)) → i < length fs → startOf (i + 1) fs ≡ startOf i fs + length (field i fs) + 1
+unfolding startOf
+start-next i fs h = rw (start-add i 1 fs, field-cons i fs h) (omega arith)
+
+-- past the last field
+pub start-end : (s : List ℕ) → startOf (length (fields s)) (fields s) ≡ length s + 1
+unfolding fields startOf
+start-end [] = refl
+start-end (b ∷ s) = go (other 44 b) (fields s) (start-end s) (fields-some s)
+  where
+    go : (t : Bool) (fs : List (List ℕ)) → startOf (length fs) fs ≡ length s + 1 → 0 < length fs
+        → startOf (length (cond t (onField b fs) ([] ∷ fs))) (cond t (onField b fs) ([] ∷ fs)) ≡ suc (length s) + 1
+    go true [] e h = absurd (let z : ⊥ = omega arith in z)
+    go true (f ∷ fs) e h = omega arith
+    go false fs e h = omega arith

@@ -5,7 +5,8 @@ use mathlib.Core.List.{List, [], _∷_}
 use mathlib.Core.Bool.{true, false}
 use native.Mathlib.Nat.{add-zero, zero-add, sub-self}
 use native.Mathlib.Omega.{arith}
-use lib.ListN.{length, getD, take, drop, length-drop}
+use native.Mathlib.Decide.{decLt}
+use lib.ListN.{length, getD, take, drop, length-drop, List·getD-eq-default}
 use lib.Seq.{getD-drop, drop-drop}
 use Rattle.ground.specs.Lists.{spanOf, other, part}
 use Rattle.ground.proofs.Spans.{span-le, part-length, part-drop, part-take}
@@ -103,3 +104,26 @@ rest-at file at e i h g k =
       same = λ j. rw (← getD-drop i fs j [], d);
       place = λ j z. rw (start-add i j fs, d) (omega arith);
     }
+
+-- a field that has a byte, as a part of the file
+pub record Lies (file : List ℕ) (fs : List (List ℕ)) (at e i : ℕ) : Type 0 where
+  pub is : field i fs ≡ part file (at + startOf i fs) (at + startOf i fs + length (field i fs))
+  pub within : at + startOf i fs + length (field i fs) ≤ e
+
+pub field-lies : (file : List ℕ) (at e i : ℕ) → at ≤ e → e ≤ length file → 0 < length (field i (fields (part file at e)))
+    → Lies file (fields (part file at e)) at e i
+field-lies file at e i h g k = by (decLt i (length fs))
+  where
+    fs : List (List ℕ)
+    fs = fields (part file at e)
+
+    by : Dec (i < length fs) → Lies file fs at e i
+    by (yes p) =
+        let a = at + startOf i fs in
+        let r = rest-at file at e i h g p in
+        let m = spanOf (other 44) (part file a e) in
+        let z : m ≤ e - a = omega (arith, span-le (other 44) (part file a e), part-length file a e g) in
+        let q : part file a (a + m) ≡ field i fs = first-is file a e m (r .ends) g refl ∙ rest-first r in
+        let n : length (field i fs) ≡ m = ap length (sym q) ∙ part-length file a (a + m) (omega (arith, r .ends)) ∙ (let y : a + m - a ≡ m = omega arith in y) in
+        record { is = rw n (sym q); within = omega (arith, r .ends) }
+    by (no p) = absurd (let z : 0 < 0 = rw (List·getD-eq-default fs [] {n = i} (omega arith)) at k in let y : ⊥ = omega arith in y)

@@ -15,7 +15,7 @@ use Rattle.ground.specs.Lists.{part}
 use Rattle.ground.proofs.Spans.{part-length}
 use Rattle.format.specs.Numbers.{numberIn, that, numberOf, smallOf, intervalOf, lengthOf, intervalsOf, reasonOf, valueOf}
 use Rattle.format.specs.Dates.{isDate, dateOf}
-use Rattle.format.specs.Records.{millionths}
+use Rattle.format.specs.Records.{indicatorOf, kindIn, millionths}
 use Rattle.format.specs.Quality.{flagIn, methodIn, qualityOf}
 use Rattle.format.specs.Cut.{fields, field, startOf}
 use Rattle.format.specs.Day.{Row, rowAt, tagAt}
@@ -23,8 +23,9 @@ use Rattle.format.specs.declared.Number.{Number}
 use Rattle.format.specs.declared.Number.the-variants.{Is, Bad}
 use Rattle.format.specs.declared.Graded.{Graded}
 use Rattle.format.specs.declared.Tag.{Tag}
+use Rattle.format.proofs.Cut.{start-zero}
 use Rattle.format.proofs.Numbers.{under, number-under, small-under, value-below}
-use Rattle.record.specs.Places.{Cut, Rest}
+use Rattle.record.specs.Places.{Cut, Rest, Starts}
 use Rattle.record.proofs.Cuts.{rest-first}
 
 -- ---- numbers
@@ -32,6 +33,15 @@ use Rattle.record.proofs.Cuts.{rest-first}
 -- of the field f, which is g: x is what its rule answers
 pub says : (rule : List ℕ → Number) {f g : List ℕ} {x : Number} {v : ℕ} → v ≡ numberIn x → x ≡ rule f → f ≡ g → v ≡ numberIn (rule g)
 says rule e q h = e ∙ ap numberIn (q ∙ ap rule h)
+
+-- of the record that the field stands in
+pub says-of : (rule : List ℕ → Number) {file : List ℕ} {fs : List (List ℕ)} {p i a e v : ℕ} → v ≡ numberIn (rule (field 0 (fields (part file a e))))
+    → Starts file fs p i a e → v ≡ numberIn (rule (field i fs))
+says-of rule e s = e ∙ ap (λ (f : List ℕ). numberIn (rule f)) (rest-first (s .rest))
+
+pub kind-says : (fs : List (List ℕ)) {f : List ℕ} {x : Number} {v : ℕ} → v ≡ numberIn x → x ≡ indicatorOf f → f ≡ field 0 fs → v ≡ kindIn fs
+unfolding kindIn
+kind-says fs e q h = says indicatorOf e q h
 
 -- a number in hand is below what bounds it
 number-below : (k : ℕ) (x : Number) → 0 < k → under k x → numberIn x < k
@@ -89,8 +99,7 @@ reason-fits s {x} {v} e q = let h : v ≡ numberIn (reasonOf s) = q ∙ ap numbe
 -- ---- quality, reason and description
 
 start-first : (x : ℕ) (fs : List (List ℕ)) → x + startOf 0 fs ≡ x
-unfolding startOf
-start-first x fs = add-zero x
+start-first x fs = rw (start-zero fs, add-zero x)
 
 tag-eq : {a b d e f a₁ b₁ d₁ e₁ f₁ : ℕ} → a ≡ a₁ → b ≡ b₁ → d ≡ d₁ → e ≡ e₁ → f ≡ f₁
     → _≡_ {A = Tag} (record { flag = a; method = b; reason = d; start = e; length = f }) (record { flag = a₁; method = b₁; reason = d₁; start = e₁; length = f₁ })

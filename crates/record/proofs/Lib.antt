@@ -3,3 +3,5 @@ pub mod Blocks
 pub mod Ends
 pub mod Cuts
 pub mod Fields
+pub mod Rows
+pub mod Turns

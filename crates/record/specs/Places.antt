@@ -33,6 +33,7 @@ pub record Looked (file : List ℕ) (at e bad commas : ℕ) : Type 0 where
   pub ends : LineEnd file at e
   pub order : at ≤ bad
   pub within : bad ≤ e
+  pub few : commas ≤ bad
   pub first : bad ≡ at + spanOf plain (part file at e)
   pub count : commas + 1 ≡ length (fields (part file at bad))
 
@@ -54,3 +55,8 @@ pub record Rest (file : List ℕ) (fs : List (List ℕ)) (p i a e : ℕ) : Type 
   pub within : e ≤ length file
   pub same : (j : ℕ) → field (i + j) fs ≡ field j (fields (part file a e))
   pub place : (j : ℕ) → 0 < length (field (i + j) fs) → p + startOf (i + j) fs ≡ a + startOf j (fields (part file a e))
+
+-- field i of the record at p is there, and starts at a
+pub record Starts (file : List ℕ) (fs : List (List ℕ)) (p i a e : ℕ) : Type 0 where
+  pub place : a ≡ p + startOf i fs
+  pub rest : Rest file fs p i a e

@@ -2,3 +2,12 @@
 pub mod lines;
 pub mod pieces;
 pub mod says;
+pub mod rules;
+pub mod walk;
+
+// What a walk over a record's fields found: each meets its rule, and where the two start that later rules ask for; or the leftmost that breaks its
+// rule, with its place from the record's start and its number from 1.
+pub enum Walked {
+    Sound(usize, usize),
+    Broken(usize, usize),
+}

@@ -19,7 +19,7 @@ ghost use Rattle.format.specs.Texts.{versionOf};
 ghost use Rattle.format.specs.Numbers.{numberIn, intervalOf, lengthOf, intervalsOf, reasonOf};
 ghost use Rattle.format.specs.Dates.{dateOf, timeOf, loadOf, readTimeOf};
 ghost use Rattle.format.specs.Quality.{flagIn, methodIn};
-ghost use Rattle.format.specs.Records.{indicatorOf, millionths};
+ghost use Rattle.format.specs.Records.{kindIn, millionths};
 ghost use Rattle.format.specs.Day.{rowAt, tagAt};
 
 // The number, 0 where there is none.
@@ -32,11 +32,12 @@ pub fn number_in(x: Number) -> u64
     }
 }
 
-pub fn kind_at(file: &[u8], a: usize, e: usize) -> u64
-    requires { ⌜ (a ≤ e) × (e ≤ length (now file)) ⌝ }
-    ensures { λ r. ⌜ r ≡ numberIn (indicatorOf (field 0 (fields (part (now (file .entry)) a e)))) ⌝ }
+// The kind of the record, 0 where its first field is no indicator.
+pub fn kind_at(file: &[u8], at: usize, e: usize) -> u64
+    requires { ⌜ (at ≤ e) × (e ≤ length (now file)) ⌝ }
+    ensures { λ r. ⌜ r ≡ kindIn (fields (part (now (file .entry)) at e)) ⌝ }
 {
-    number_in(numbers::indicator(first_field(file, a, e)))
+    number_in(numbers::indicator(first_field(file, at, e)))
 }
 
 pub fn version_at(file: &[u8], a: usize, e: usize) -> u64

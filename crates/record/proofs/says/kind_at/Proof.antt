@@ -1,5 +1,5 @@
 use Rattle.format.specs.Records.{indicatorOf}
-use Rattle.record.proofs.Fields.{says}
+use Rattle.record.proofs.Fields.{kind-says}
 use native.Mathlib.Omega.{arith}
 use borrow.Author.Needs.{needs}
 use Rattle.record.proofs.says.kind_at.Statement.{statement}
@@ -24,7 +24,7 @@ number-in-requires c κs = search needs
 
 -- src/says.rt:35:1
 returns : tie.Need-returns
-returns c = search (says indicatorOf)
+returns c = search kind-says
 
 pub kind-at-spec : {M : Type 1} → statement M
 kind-at-spec =

@@ -1,0 +1,83 @@
+-- The cases of the tests, as a return of the code has them. Assumes nothing.
+use Prim.Native.Nat.{ℕ, _+_, _-_, _≤_, _<_}
+use mathlib.Core.Path.{_≡_, refl, sym, _∙_, ap}
+use mathlib.Core.List.{List}
+use mathlib.Core.Bool.{Bool, true, false, cond, not, _&&_, _||_}
+use lib.ListN.{length, take, drop}
+use lib.Dec.{leb, eqb}
+use borrow.Author.Tests.{eq-eqb, ne-eqb, le-leb, lt-leb, not-true, not-false}
+use Rattle.ground.specs.Lists.{same}
+use Rattle.ground.proofs.Tests.{tests, and-false}
+use Rattle.format.specs.Quality.{Mark, sameMark}
+use Rattle.format.specs.Order.{Due, between, inDay, mayCome}
+use Rattle.format.specs.declared.Tag.{Tag}
+use Rattle.order.specs.State.{markOf, alikeTo}
+
+-- ---- what may come
+
+module _ (x k : ℕ) {b : Bool} where
+  pub may-is : (j : ℕ) → k ≡ j → b ≡ mayCome x j → b ≡ mayCome x k
+  may-is j h e = rw h e
+
+  pub may-200 : k ≡ 200 → (x ≡ 1 → ⊥) → b ≡ inDay x → b ≡ mayCome x k
+  unfolding mayCome
+  may-200 h g e = rw (h, ne-eqb _ _ g) e
+
+  pub may-900 : k ≡ 900 → {d : Bool} → b ≡ inDay x → b ≡ false → d ≡ between 7 8 x → d ≡ mayCome x k
+  unfolding mayCome
+  may-900 h e f q = rw (h, ← e, f) q
+
+module _ (x k : ℕ) where
+  pub may-200-first : k ≡ 200 → x ≡ 1 → true ≡ mayCome x k
+  unfolding mayCome
+  may-200-first h g = rw (h, eq-eqb _ _ g)
+
+  pub may-900-day : {b : Bool} → k ≡ 900 → b ≡ inDay x → b ≡ true → true ≡ mayCome x k
+  unfolding mayCome
+  may-900-day h e t = rw (h, ← e, t)
+
+  pub may-none : (k ≡ 100 → ⊥) → (k ≡ 200 → ⊥) → (k ≡ 300 → ⊥) → (k ≡ 400 → ⊥) → (k ≡ 500 → ⊥) → (k ≡ 250 → ⊥) → (k ≡ 550 → ⊥) → (k ≡ 900 → ⊥)
+      → false ≡ mayCome x k
+  unfolding mayCome
+  may-none a b c d e f g h =
+      rw (ne-eqb _ _ a, ne-eqb _ _ b, ne-eqb _ _ c, ne-eqb _ _ d, ne-eqb _ _ e, ne-eqb _ _ f, ne-eqb _ _ g, ne-eqb _ _ h)
+
+pub ruleset may = (may-is, may-200, may-900, may-200-first, may-900-day, may-none)
+
+-- ---- two marks
+
+module _ (file : List ℕ) (s t : Tag) where
+  pub flag-differs : (s .flag ≡ t .flag → ⊥) → false ≡ sameMark (markOf file s) (markOf file t)
+  unfolding sameMark
+  flag-differs h = rw (ne-eqb _ _ h)
+
+  pub method-differs : s .flag ≡ t .flag → (s .method ≡ t .method → ⊥) → false ≡ sameMark (markOf file s) (markOf file t)
+  unfolding sameMark
+  method-differs e h = rw (eq-eqb _ _ e, ne-eqb _ _ h)
+
+  pub reason-differs : s .flag ≡ t .flag → s .method ≡ t .method → (s .reason ≡ t .reason → ⊥) → false ≡ sameMark (markOf file s) (markOf file t)
+  unfolding sameMark
+  reason-differs e f h = rw (eq-eqb _ _ e, eq-eqb _ _ f, ne-eqb _ _ h)
+
+  pub texts-compared : {b : Bool} → s .flag ≡ t .flag → s .method ≡ t .method → s .reason ≡ t .reason
+      → b ≡ same (take (s .start + s .length - s .start) (drop (s .start) file)) (take (t .start + t .length - t .start) (drop (t .start) file))
+      → b ≡ sameMark (markOf file s) (markOf file t)
+  unfolding sameMark
+  texts-compared e f g h = rw (eq-eqb _ _ e, eq-eqb _ _ f, eq-eqb _ _ g) h
+
+pub ruleset marks = (flag-differs, method-differs, reason-differs, texts-compared)
+
+-- ---- with this mark, every 400 of the day has one
+
+module _ (st : Due) (m : Mark) where
+  pub alike-first : st .next ≡ 1 → true ≡ alikeTo st m
+  unfolding alikeTo
+  alike-first h = rw (eq-eqb _ _ h)
+
+  pub alike-not : (st .next ≡ 1 → ⊥) → not (st .alike) ≡ true → false ≡ alikeTo st m
+  unfolding alikeTo
+  alike-not h g = rw (ne-eqb _ _ h, not-true (st .alike) g)
+
+  pub alike-still : {b : Bool} → (st .next ≡ 1 → ⊥) → not (st .alike) ≡ false → b ≡ sameMark (st .mark) m → b ≡ alikeTo st m
+  unfolding alikeTo
+  alike-still h g e = rw (ne-eqb _ _ h, not-false (st .alike) g) e

@@ -1,0 +1,220 @@
+-- The step over one record: the chain of refusals from 3 to 6, and the record's own method by its kind. Assumes nothing.
+use Prim.Native.Nat.{ℕ, suc, _+_, _-_, _≤_, _<_}
+use mathlib.Core.Path.{_≡_, refl, sym, _∙_, ap}
+use mathlib.Core.List.{List, [], _∷_}
+use mathlib.Core.Bool.{Bool, true, false, cond, not, _&&_, false≢true}
+use native.Mathlib.Omega.{arith}
+use lib.ListN.{length}
+use lib.Dec.{eqb, leb, ltb}
+use borrow.Author.Tests.{eq-eqb, ne-eqb, le-ltb, lt-ltb, not-true, not-false}
+use Rattle.ground.specs.Lists.{spanOf, part}
+use Rattle.ground.proofs.Spans.{part-length}
+use Rattle.format.specs.Bytes.{plain}
+use Rattle.format.specs.Cut.{fields, field, startOf}
+use Rattle.format.specs.Records.{kindIn, rowOf, countOf, qualitiesOf, firstBroken}
+use Rattle.format.specs.Order.{Due, mayCome, on100, on200, afterOf}
+use Rattle.format.specs.Faults.{size, isOpen, brokenIn, isLate, isOff, isAlike, isElsewhere, faultIn, faultAt, faultOf}
+use Rattle.format.specs.declared.Fault.the-variants.{Fine, Stop}
+use Rattle.record.specs.Places.{Starts, LineEnd, Looked}
+use Rattle.record.specs.Walk.{firstAsked, secondAsked, Typed, Sound, Broken, Walks}
+use Rattle.record.specs.declared.Walked.{Walked}
+use Rattle.record.specs.declared.Walked.the-variants as walked
+use Rattle.record.proofs.Turns.{second-field}
+use Rattle.record.proofs.Rows.{count-300}
+use Rattle.order.specs.declared.State.{State}
+use Rattle.order.specs.State.{seen, closed, Kept, cells, Here, After, Ready, Next, goes, stops, orStop, nextOf, lateOf, lastOf}
+use Rattle.order.proofs.Late.{late-none, kept-closed}
+
+-- ---- the places that a record's method asks for
+
+module _ (file : List ℕ) (at e k p q : ℕ) (st : State) (r : Ready file at e k p q st) where
+  pub behind-100 : k ≡ 100 → Here file at e 1 (at + 4)
+  unfolding countOf rowOf
+  behind-100 h = second-field file at e k _ (r .typed) (rw h (omega arith))
+
+  pub behind-300 : k ≡ 300 → Here file at e 1 (at + 4)
+  behind-300 h = second-field file at e k _ (r .typed) (omega (arith, count-300 k (size (seen file st) k) h))
+
+  pub behind-400 : k ≡ 400 → Here file at e 1 (at + 4)
+  unfolding countOf rowOf
+  behind-400 h = second-field file at e k _ (r .typed) (rw h (omega arith))
+
+  pub asked-200 : k ≡ 200 → Here file at e 8 p
+  unfolding firstAsked
+  asked-200 h = rw h at (r .sound .first)
+
+  pub asked-300 : k ≡ 300 → Here file at e (st .n + 2) p
+  unfolding firstAsked
+  asked-300 h = rw h at (r .sound .first)
+
+  pub asked-400 : k ≡ 400 → Here file at e 2 p
+  unfolding firstAsked
+  asked-400 h = rw h at (r .sound .first)
+
+  pub asked-400-quality : k ≡ 400 → Here file at e 3 q
+  unfolding secondAsked
+  asked-400-quality h = rw h at (r .sound .second)
+
+  pub asked-500 : k ≡ 500 → Here file at e 3 p
+  unfolding firstAsked
+  asked-500 h = rw h at (r .sound .first)
+
+  pub asked-250 : k ≡ 250 → Here file at e 10 p
+  unfolding firstAsked
+  asked-250 h = rw h at (r .sound .first)
+
+  pub asked-250-current : k ≡ 250 → Here file at e 15 q
+  unfolding secondAsked
+  asked-250-current h = rw h at (r .sound .second)
+
+pub ruleset asked = (behind-100, behind-300, behind-400, asked-200, asked-300, asked-400, asked-400-quality, asked-500, asked-250, asked-250-current)
+
+-- ---- the record's own method
+
+module _ (st : Due) (k : ℕ) (fs : List (List ℕ)) where
+  pub of-kind : (j : ℕ) {x : Next} → k ≡ j → x ≡ lastOf st j fs → x ≡ lastOf st k fs
+  of-kind j h e = rw h e
+
+  -- a kind with no refusal behind 6
+  quiet : (k ≡ 300 → ⊥) → (k ≡ 400 → ⊥) → (k ≡ 500 → ⊥) → (k ≡ 250 → ⊥) → goes (afterOf st k fs) ≡ lastOf st k fs
+  unfolding brokenIn qualitiesOf firstBroken isLate isOff isAlike isElsewhere
+  quiet a b c d =
+      late-none st k fs (rw (ne-eqb _ _ a, ne-eqb _ _ b, ne-eqb _ _ d)) (rw (ne-eqb _ _ a)) (rw (ne-eqb _ _ b)) (rw (ne-eqb _ _ b)) (rw (ne-eqb _ _ c))
+
+module _ (file : List ℕ) (at e k : ℕ) (st s : State) where
+  pub went-100 : k ≡ 100 → After file e (on100 (seen file st) (cells file at e)) s → goes (seen file s) ≡ lastOf (seen file st) k (cells file at e)
+  unfolding afterOf
+  went-100 h a =
+      rw h (rw (a .is) (quiet (seen file st) 100 (cells file at e) (λ z. omega arith) (λ z. omega arith) (λ z. omega arith) (λ z. omega arith)))
+
+  pub went-200 : k ≡ 200 → After file e (on200 (seen file st) (cells file at e)) s → goes (seen file s) ≡ lastOf (seen file st) k (cells file at e)
+  unfolding afterOf
+  went-200 h a =
+      rw h (rw (a .is) (quiet (seen file st) 200 (cells file at e) (λ z. omega arith) (λ z. omega arith) (λ z. omega arith) (λ z. omega arith)))
+
+  pub went-550 : k ≡ 550 → s ≡ closed 8 (st .version) 0 0 (st .channels) (st .days) → goes (seen file s) ≡ lastOf (seen file st) k (cells file at e)
+  unfolding afterOf
+  went-550 h q =
+      rw (h, q) (quiet (seen file st) 550 (cells file at e) (λ z. omega arith) (λ z. omega arith) (λ z. omega arith) (λ z. omega arith))
+
+  pub went-900 : (k ≡ 100 → ⊥) → (k ≡ 200 → ⊥) → (k ≡ 300 → ⊥) → (k ≡ 400 → ⊥) → (k ≡ 500 → ⊥) → (k ≡ 250 → ⊥) → (k ≡ 550 → ⊥)
+      → s ≡ closed 9 (st .version) 0 0 (st .channels) (st .days) → goes (seen file s) ≡ lastOf (seen file st) k (cells file at e)
+  unfolding afterOf
+  went-900 a b c d f g h q =
+      let w : afterOf (seen file st) k (cells file at e) ≡ seen file s =
+      rw (q, ne-eqb _ _ a, ne-eqb _ _ b, ne-eqb _ _ c, ne-eqb _ _ d, ne-eqb _ _ f, ne-eqb _ _ g, ne-eqb _ _ h) in
+      rw w at (quiet (seen file st) k (cells file at e) c d f g)
+
+pub ruleset went = (of-kind, went-100, went-200, went-550, went-900)
+
+-- ---- the chain
+
+module _ (st : Due) (k : ℕ) (fs : List (List ℕ)) where
+  abbrev all : Next
+  all = orStop (faultAt st k fs) (afterOf st k fs)
+
+  chain-10 : isOpen st k ≡ true → stops 10 0 0 ≡ all
+  unfolding faultAt
+  chain-10 e = rw e
+
+  module _ (e₁₀ : isOpen st k ≡ false) where
+    chain-4 : mayCome (st .expect) k ≡ false → stops 4 0 0 ≡ all
+    unfolding faultAt
+    chain-4 e = rw (e₁₀, e)
+
+    module _ (e₄ : mayCome (st .expect) k ≡ true) where
+      chain-5 : (length fs ≡ countOf k (size st k) → ⊥) → stops 5 0 0 ≡ all
+      unfolding faultAt
+      chain-5 e = rw (e₁₀, e₄, ne-eqb _ _ e)
+
+      module _ (e₅ : length fs ≡ countOf k (size st k)) where
+        chain-6 : (o i : ℕ) → faultIn k (size st k) 0 0 fs ≡ Stop 6 o i → stops 6 o i ≡ all
+        unfolding faultAt
+        chain-6 o i e = rw (e₁₀, e₄, eq-eqb _ _ e₅, e)
+
+        chain-on : faultIn k (size st k) 0 0 fs ≡ Fine → lastOf st k fs ≡ all
+        unfolding faultAt lastOf lateOf
+        chain-on e = rw (e₁₀, e₄, eq-eqb _ _ e₅, e)
+
+-- ---- the step, in the terms of its code
+
+pub size-small : (file : List ℕ) (at k n : ℕ) (st : State) → Kept file at st → n ≡ cond (eqb k 300) (st .n) 0 → n ≤ 288
+size-small file at k n st r e = go (eqb k 300) e
+  where
+    go : (b : Bool) → n ≡ cond b (st .n) 0 → n ≤ 288
+    go true q = omega (arith, r .small)
+    go false q = omega arith
+
+-- no record of no kind may come
+some-kind : (x k : ℕ) → mayCome x k ≡ true → k ≡ 0 → ⊥
+unfolding mayCome
+some-kind x k t h = false≢true (rw h at t)
+
+module _ (file : List ℕ) (at e bad commas : ℕ) (st : State) (l : Looked file at e bad commas) where
+  span : spanOf plain (part file at e) ≡ bad - at
+  span = omega (arith, l .first)
+
+  long : length (part file at e) ≡ e - at
+  long = part-length file at e (l .ends .within)
+
+  pub step-3 : bad < e → stops 3 (bad - at) 0 ≡ nextOf (seen file st) (part file at e)
+  unfolding nextOf faultOf
+  step-3 h = let w : bad - at < e - at = omega (arith, l .order) in rw (span, long, lt-ltb _ _ w)
+
+  module _ (k : ℕ) {o : Bool} (h : e ≤ bad) (ek : k ≡ kindIn (fields (part file at e)))
+      (eo : o ≡ eqb (st .expect) 4 && (leb (st .next) (st .n) && not (eqb k 400))) where
+    reached : nextOf (seen file st) (part file at e) ≡ all (seen file st) k (cells file at e)
+    unfolding nextOf faultOf
+    reached = let w : e - at ≤ bad - at = omega arith in rw (span, long, le-ltb _ _ w, ← ek)
+
+    opens : isOpen (seen file st) k ≡ o
+    unfolding isOpen
+    opens = sym eo
+
+    pub step-10 : o ≡ true → stops 10 0 0 ≡ nextOf (seen file st) (part file at e)
+    step-10 t = rw reached (chain-10 (seen file st) k (cells file at e) (opens ∙ t))
+
+    module _ {m : Bool} (no-10 : o ≡ false) (em : m ≡ mayCome (st .expect) k) where
+      pub step-4 : not m ≡ true → stops 4 0 0 ≡ nextOf (seen file st) (part file at e)
+      step-4 t = rw reached (chain-4 (seen file st) k (cells file at e) (opens ∙ no-10) (sym em ∙ not-true m t))
+
+      module _ (n c : ℕ) (no-4 : not m ≡ false) (en : n ≡ cond (eqb k 300) (st .n) 0) (ec : c ≡ countOf k n) where
+        comes : mayCome (st .expect) k ≡ true
+        comes = sym em ∙ not-false m no-4
+
+        counted : length (cells file at e) ≡ commas + 1
+        counted = let q : bad ≡ e = omega (arith, l .within) in rw (← q) (sym (l .count))
+
+        pub step-5 : (commas + 1 ≡ c → ⊥) → stops 5 0 0 ≡ nextOf (seen file st) (part file at e)
+        step-5 t =
+            rw reached
+            (chain-5 (seen file st) k (cells file at e) (opens ∙ no-10) comes (λ z. t (sym counted ∙ z ∙ (rw (← en) (sym ec)))))
+
+        pub typed : Kept file at st → commas + 1 ≡ c → Typed file at e k n
+        typed r t =
+            record {
+              order = l .ends .order;
+              within = l .ends .within;
+              kind = ek;
+              some = some-kind (st .expect) k comes;
+              small = size-small file at k n st r en;
+              count = counted ∙ t ∙ ec;
+            }
+
+        module _ (w : Walked) (no-5 : commas + 1 ≡ c) (ew : Walks file at e k n w) where
+          fits : length (cells file at e) ≡ countOf k (size (seen file st) k)
+          fits = rw (← en) (counted ∙ no-5 ∙ ec)
+
+          pub step-6 : (a i : ℕ) → w ≡ walked.Broken a i → (stops 6 a i ≡ nextOf (seen file st) (part file at e)) × (at + a ≤ e)
+          step-6 a i q =
+              let b : Broken file at e k n a i = rw q at ew in
+              (rw reached (chain-6 (seen file st) k (cells file at e) (opens ∙ no-10) comes fits a i (rw (← en) (b .fault))), b .within)
+
+          module _ (p q : ℕ) (sound : w ≡ walked.Sound p q) where
+            pub ready : Kept file at st → Ready file at e k p q st
+            ready r = record { kept = r; typed = rw en at (typed r no-5); sound = rw en at (rw sound at ew) }
+
+            pub step-on : {x : Next} → x ≡ lastOf (seen file st) k (cells file at e) → x ≡ nextOf (seen file st) (part file at e)
+            step-on h =
+                let b : Sound file at e k n p q = rw sound at ew in
+                h ∙ rw reached (chain-on (seen file st) k (cells file at e) (opens ∙ no-10) comes fits (rw (← en) (b .fault)))

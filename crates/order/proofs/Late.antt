@@ -1,0 +1,268 @@
+-- The refusals that stand behind 6, and the state behind a record that has none: what each return of a record's method answers. Assumes nothing.
+use Prim.Native.Nat.{ℕ, _+_, _-_, _/_, _≤_, _<_}
+use mathlib.Core.Path.{_≡_, refl, sym, _∙_, ap}
+use mathlib.Core.List.{List, [], _∷_}
+use mathlib.Core.Bool.{Bool, true, false, cond, not, _&&_, _||_}
+use native.Mathlib.Omega.{arith}
+use lib.ListN.{length}
+use lib.Dec.{eqb, leb}
+use borrow.Author.Tests.{eqb-true, eq-eqb, ne-eqb, le-leb, lt-leb, not-true, not-false}
+use Rattle.ground.specs.Lists.{part}
+use Rattle.format.specs.Numbers.{numberIn, intervalOf, isLength, lengthOf, intervalsOf}
+use Rattle.format.specs.Texts.{versionOf}
+use Rattle.format.specs.Dates.{dateOf, readTimeOf}
+use Rattle.format.specs.Quality.{across}
+use Rattle.format.specs.Cut.{fields, field, startOf}
+use Rattle.format.specs.Records.{versionIn, intervalsIn, dateIn, firstIn, lastIn, readTimeIn, qualitiesOf, markAt, agrees, firstBroken}
+use Rattle.format.specs.Order.{Due, isVaried, alikeWith, on100, on200, on300, on400, afterOf}
+use Rattle.format.specs.Faults.{size, brokenIn, isLate, covers, isOff, isAlike, onDay, isElsewhere}
+use Rattle.format.specs.Day.{rowAt, tagAt}
+use Rattle.format.specs.declared.Tag.{Tag}
+use Rattle.record.specs.Places.{Starts}
+use Rattle.record.proofs.Fields.{says-of}
+use Rattle.order.specs.declared.State.{State}
+use Rattle.order.specs.State.{markOf, seen, noTag, closed, Kept, cells, Here, After, goes, stops, lateOf, lastOf, goesOn, alikeTo}
+use Rattle.order.proofs.Marks.{flag-of, mark-of, agrees-of}
+
+-- ---- the chain from 7 on
+
+module _ (st : Due) (k : ℕ) (fs : List (List ℕ)) where
+  late-7 : (i : ℕ) → brokenIn k (size st k) fs ≡ i + 1 → stops 7 (startOf i fs) (i + 1) ≡ lastOf st k fs
+  unfolding lastOf lateOf
+  late-7 i e =
+      let ne : i + 1 ≡ 0 → ⊥ = λ z. omega arith in
+      let m : i + 1 - 1 ≡ i = omega arith in
+      rw (e, ne-eqb _ _ ne, m)
+
+  module _ (e₇ : brokenIn k (size st k) fs ≡ 0) where
+    late-8 : isLate st k fs ≡ true → stops 8 (startOf 1 fs) 2 ≡ lastOf st k fs
+    unfolding lastOf lateOf
+    late-8 e = rw (e₇, e)
+
+    module _ (e₈ : isLate st k fs ≡ false) where
+      late-9 : isOff st k fs ≡ true → stops 9 (startOf 1 fs) 2 ≡ lastOf st k fs
+      unfolding lastOf lateOf
+      late-9 e = rw (e₇, e₈, e)
+
+      module _ (e₉ : isOff st k fs ≡ false) where
+        late-11 : isAlike st k fs ≡ true → stops 11 0 0 ≡ lastOf st k fs
+        unfolding lastOf lateOf
+        late-11 e = rw (e₇, e₈, e₉, e)
+
+        module _ (e₁₁ : isAlike st k fs ≡ false) where
+          late-12 : isElsewhere st k fs ≡ true → stops 12 (startOf 3 fs) 4 ≡ lastOf st k fs
+          unfolding lastOf lateOf
+          late-12 e = rw (e₇, e₈, e₉, e₁₁, e)
+
+          pub late-none : isElsewhere st k fs ≡ false → goes (afterOf st k fs) ≡ lastOf st k fs
+          unfolding lastOf lateOf
+          late-none e = rw (e₇, e₈, e₉, e₁₁, e)
+
+-- ---- a 300
+
+module _ (file : List ℕ) (at e p : ℕ) (st : State) (t : Tag) {b : Bool} (h : Here file at e 1 (at + 4)) (g : Here file at e (st .n + 2) p)
+    (et : t ≡ tagAt 300 (rowAt p (part file p e)) 0) (eb : b ≡ across (t .flag) (t .reason) (t .length)) where
+  broken-300 : brokenIn 300 (st .n) (cells file at e) ≡ cond b 0 (st .n + 2 + 1)
+  unfolding brokenIn qualitiesOf firstBroken
+  broken-300 = rw (← agrees-of file at e 300 (st .n + 2) p t g et eb)
+
+  pub on300-7 : not b ≡ true → stops 7 (p - at) (st .n + 3) ≡ lastOf (seen file st) 300 (cells file at e)
+  on300-7 n =
+      let w : brokenIn 300 (st .n) (cells file at e) ≡ st .n + 2 + 1 = rw (not-true b n) at broken-300 in
+      let q : p - at ≡ startOf (st .n + 2) (cells file at e) = omega (arith, g .place) in
+      let z : st .n + 3 ≡ st .n + 2 + 1 = omega arith in
+      rw (q, z) (late-7 (seen file st) 300 (cells file at e) (st .n + 2) w)
+
+  module _ (d : ℕ) (ok : not b ≡ false) (ed : d ≡ numberIn (dateOf (field 0 (fields (part file (at + 4) e))))) where
+    fine-300 : brokenIn 300 (st .n) (cells file at e) ≡ 0
+    fine-300 = rw (not-false b ok) at broken-300
+
+    date : d ≡ dateIn (cells file at e)
+    unfolding dateIn
+    date = says-of dateOf ed h
+
+    four : 4 ≡ startOf 1 (cells file at e)
+    four = omega (arith, h .place)
+
+    pub on300-8 : d ≤ st .date → stops 8 4 2 ≡ lastOf (seen file st) 300 (cells file at e)
+    unfolding isLate
+    on300-8 l = rw four (late-8 (seen file st) 300 (cells file at e) fine-300 (rw (← date, le-leb _ _ l)))
+
+    pub on300-on : (x : ℕ) (m : Tag) (s : Due) → st .date < d → x ≡ cond (eqb (t .flag) 86) 4 3 → m ≡ noTag
+        → s ≡ record { expect = x; version = st .version; n = st .n; date = d; next = 1; mark = markOf file m; alike = false; channels = st .channels; days = st .days + 1 }
+        → goes s ≡ lastOf (seen file st) 300 (cells file at e)
+    unfolding isLate isOff isAlike isElsewhere afterOf isVaried
+    on300-on x m s l ex em es =
+        rw (es, em, ex, date, flag-of file at e 300 (st .n + 2) p t g et)
+        (late-none (seen file st) 300 (cells file at e) fine-300 (rw (← date, lt-leb _ _ l)) refl refl refl)
+
+-- ---- a 400
+
+mark-picked : (file : List ℕ) (b : Bool) (t u : Tag) → markOf file (cond b t u) ≡ cond b (markOf file t) (markOf file u)
+mark-picked file true t u = refl
+mark-picked file false t u = refl
+
+module _ (file : List ℕ) (at e p q : ℕ) (st : State) (t : Tag) {b : Bool} (h : Here file at e 1 (at + 4)) (g : Here file at e 2 p) (r : Here file at e 3 q)
+    (et : t ≡ tagAt 400 (rowAt q (part file q e)) 0) (eb : b ≡ across (t .flag) (t .reason) (t .length)) where
+  broken-400 : brokenIn 400 0 (cells file at e) ≡ cond b 0 4
+  unfolding brokenIn qualitiesOf firstBroken
+  broken-400 = rw (← agrees-of file at e 400 3 q t r et eb)
+
+  pub on400-7 : not b ≡ true → stops 7 (q - at) 4 ≡ lastOf (seen file st) 400 (cells file at e)
+  on400-7 n =
+      let w : brokenIn 400 0 (cells file at e) ≡ 3 + 1 = rw (not-true b n) at broken-400 in
+      let z : q - at ≡ startOf 3 (cells file at e) = omega (arith, r .place) in
+      rw z (late-7 (seen file st) 400 (cells file at e) 3 w)
+
+  module _ (from to : ℕ) {o : Bool} (ok : not b ≡ false) (ef : from ≡ numberIn (intervalOf (field 0 (fields (part file (at + 4) e)))))
+      (el : to ≡ numberIn (intervalOf (field 0 (fields (part file p e))))) (eo : o ≡ goesOn (st .next) (st .n) from to) where
+    fine-400 : brokenIn 400 0 (cells file at e) ≡ 0
+    fine-400 = rw (not-false b ok) at broken-400
+
+    last : to ≡ lastIn (cells file at e)
+    unfolding lastIn
+    last = says-of intervalOf el g
+
+    off : isOff (seen file st) 400 (cells file at e) ≡ not o
+    unfolding isOff covers firstIn goesOn
+    off = rw (← says-of intervalOf ef h, ← last, ← eo)
+
+    pub on400-9 : not o ≡ true → stops 9 4 2 ≡ lastOf (seen file st) 400 (cells file at e)
+    unfolding isLate
+    on400-9 n =
+        let z : 4 ≡ startOf 1 (cells file at e) = omega (arith, h .place) in
+        rw z (late-9 (seen file st) 400 (cells file at e) fine-400 refl (off ∙ n))
+
+    module _ {a w : Bool} (on : not o ≡ false) (ea : a ≡ alikeTo (seen file st) (markOf file t)) (ew : w ≡ eqb to (st .n) && a) where
+      alike : a ≡ alikeWith (seen file st) (cells file at e)
+      unfolding alikeWith alikeTo
+      alike = rw (← mark-of file at e 400 3 q t r et) ea
+
+      whole : w ≡ isAlike (seen file st) 400 (cells file at e)
+      unfolding isAlike
+      whole = rw (← last, ← alike) ew
+
+      pub on400-11 : w ≡ true → stops 11 0 0 ≡ lastOf (seen file st) 400 (cells file at e)
+      unfolding isLate
+      on400-11 v = late-11 (seen file st) 400 (cells file at e) fine-400 refl (off ∙ on) (sym whole ∙ v)
+
+      pub on400-on : (m : Tag) (s : Due) → w ≡ false → m ≡ cond (eqb (st .next) 1) t (st .mark)
+          → s ≡ record { expect = 4; version = st .version; n = st .n; date = st .date; next = to + 1; mark = markOf file m; alike = a; channels = st .channels; days = st .days }
+          → goes s ≡ lastOf (seen file st) 400 (cells file at e)
+      unfolding isLate isElsewhere afterOf
+      on400-on m s v em es =
+          rw (es, em, mark-picked file (eqb (st .next) 1) t (st .mark), mark-of file at e 400 3 q t r et, last, alike)
+          (late-none (seen file st) 400 (cells file at e) fine-400 refl (off ∙ on) (sym whole ∙ v) refl)
+
+-- ---- a 500
+
+module _ (file : List ℕ) (at e p x : ℕ) (st : State) {o : Bool} (h : Here file at e 3 p) (ex : x ≡ numberIn (readTimeOf (field 0 (fields (part file p e)))))
+    (eo : o ≡ onDay (st .date) x) where
+  elsewhere : isElsewhere (seen file st) 500 (cells file at e) ≡ not o
+  unfolding isElsewhere readTimeIn
+  elsewhere = rw (← says-of readTimeOf ex h, ← eo)
+
+  pub on500-12 : not o ≡ true → stops 12 (p - at) 4 ≡ lastOf (seen file st) 500 (cells file at e)
+  unfolding brokenIn qualitiesOf firstBroken isLate isOff isAlike
+  on500-12 n =
+      let z : p - at ≡ startOf 3 (cells file at e) = omega (arith, h .place) in
+      rw z (late-12 (seen file st) 500 (cells file at e) refl refl refl refl (elsewhere ∙ n))
+
+  pub on500-on : (s : State) → not o ≡ false → s ≡ closed 5 (st .version) (st .n) (st .date) (st .channels) (st .days)
+      → goes (seen file s) ≡ lastOf (seen file st) 500 (cells file at e)
+  unfolding brokenIn qualitiesOf firstBroken isLate isOff isAlike afterOf
+  on500-on s n es = rw es (late-none (seen file st) 500 (cells file at e) refl refl refl refl (elsewhere ∙ n))
+
+-- ---- a 250
+
+module _ (file : List ℕ) (at e p q : ℕ) (st : State) (s : Tag) {b : Bool} (h : Here file at e 10 p) (g : Here file at e 15 q)
+    (es : s ≡ tagAt 250 (rowAt p (part file p e)) 0) (eb : b ≡ across (s .flag) (s .reason) (s .length)) where
+  pub on250-7 : not b ≡ true → stops 7 (p - at) 11 ≡ lastOf (seen file st) 250 (cells file at e)
+  unfolding brokenIn qualitiesOf firstBroken
+  on250-7 n =
+      let w : brokenIn 250 0 (cells file at e) ≡ 10 + 1 = rw (← agrees-of file at e 250 10 p s h es eb, not-true b n) in
+      let z : p - at ≡ startOf 10 (cells file at e) = omega (arith, h .place) in
+      rw z (late-7 (seen file st) 250 (cells file at e) 10 w)
+
+  module _ (t : Tag) {c : Bool} (ok : not b ≡ false) (et : t ≡ tagAt 250 (rowAt q (part file q e)) 0) (ec : c ≡ across (t .flag) (t .reason) (t .length)) where
+    broken-250 : brokenIn 250 0 (cells file at e) ≡ cond c 0 16
+    unfolding brokenIn qualitiesOf firstBroken
+    broken-250 = rw (← agrees-of file at e 250 10 p s h es eb, not-false b ok, ← agrees-of file at e 250 15 q t g et ec)
+
+    pub on250-7-current : not c ≡ true → stops 7 (q - at) 16 ≡ lastOf (seen file st) 250 (cells file at e)
+    on250-7-current n =
+        let w : brokenIn 250 0 (cells file at e) ≡ 15 + 1 = rw (not-true c n) at broken-250 in
+        let z : q - at ≡ startOf 15 (cells file at e) = omega (arith, g .place) in
+        rw z (late-7 (seen file st) 250 (cells file at e) 15 w)
+
+    pub on250-on : (s : State) → not c ≡ false → s ≡ closed 7 (st .version) 0 0 (st .channels + 1) (st .days)
+        → goes (seen file s) ≡ lastOf (seen file st) 250 (cells file at e)
+    unfolding isLate isOff isAlike isElsewhere afterOf
+    on250-on s n es = rw es (late-none (seen file st) 250 (cells file at e) (rw (not-false c n) at broken-250) refl refl refl refl)
+
+pub ruleset late = (
+  on300-7,
+  on300-8,
+  on300-on,
+  on400-7,
+  on400-9,
+  on400-11,
+  on400-on,
+  on500-12,
+  on500-on,
+  on250-7,
+  on250-7-current,
+  on250-on,
+)
+
+-- ---- the state is kept
+
+pub no-tag-within : (file : List ℕ) {m : Tag} → m ≡ noTag → m .start + m .length ≤ length file
+no-tag-within file e = rw e (omega arith)
+
+pub kept-closed : (file : List ℕ) (e : ℕ) {s : State} {x v n t c d : ℕ} → s ≡ closed x v n t c d → n ≤ 288 → c ≤ e + 1 → d ≤ e + 1 → Kept file (e + 1) s
+kept-closed file e q hn hc hd = rw q record { within = omega arith; small = hn; channels = hc; days = hd }
+
+pub picked-within : (file : List ℕ) (b : Bool) (t u : Tag) {m : Tag} → m ≡ cond b t u → t .start + t .length ≤ length file → u .start + u .length ≤ length file
+    → m .start + m .length ≤ length file
+picked-within file true t u e h k = rw e h
+picked-within file false t u e h k = rw e k
+
+-- ---- a 100 and a 200
+
+module _ (file : List ℕ) (at e : ℕ) (st : State) {v : ℕ} (h : Here file at e 1 (at + 4))
+    (ev : v ≡ numberIn (versionOf (field 0 (fields (part file (at + 4) e))))) where
+  version : v ≡ versionIn (cells file at e)
+  unfolding versionIn
+  version = says-of versionOf ev h
+
+  pub on100-12 : {s : State} → v ≡ 12 → s ≡ closed 1 v 0 0 0 0 → After file e (on100 (seen file st) (cells file at e)) s
+  on100-12 k q = record { is = rw (q, version, eq-eqb _ _ (sym version ∙ k)); kept = kept-closed file e q (omega arith) (omega arith) (omega arith) }
+
+  pub on100-13 : {s : State} → (v ≡ 12 → ⊥) → s ≡ closed 6 v 0 0 0 0 → After file e (on100 (seen file st) (cells file at e)) s
+  on100-13 k q =
+      record {
+        is = rw (q, version, ne-eqb (versionIn (cells file at e)) 12 (λ z. k (version ∙ z)));
+        kept = kept-closed file e q (omega arith) (omega arith) (omega arith);
+      }
+
+intervals-small : (m : ℕ) → intervalsOf m ≤ 288
+unfolding intervalsOf isLength
+intervals-small m = go (eqb m 5) refl (eqb m 15) refl (eqb m 30) refl
+  where
+    go : (a : Bool) → eqb m 5 ≡ a → (b : Bool) → eqb m 15 ≡ b → (c : Bool) → eqb m 30 ≡ c → cond (a || b || c) (1440 / m) 0 ≤ 288
+    go true p b q c r = rw (eqb-true m 5 p) (omega arith)
+    go false p true q c r = rw (eqb-true m 15 q) (omega arith)
+    go false p false q true r = rw (eqb-true m 30 r) (omega arith)
+    go false p false q false r = omega arith
+
+pub on200-on : (file : List ℕ) (at e p : ℕ) (st : State) {n : ℕ} {s : State} → Kept file at st → Here file at e 8 p
+    → n ≡ intervalsOf (numberIn (lengthOf (field 0 (fields (part file p e))))) → s ≡ closed 2 (st .version) n 0 (st .channels + 1) (st .days)
+    → After file e (on200 (seen file st) (cells file at e)) s
+unfolding intervalsIn
+on200-on file at e p st {n} {s} k h en q =
+    let w : n ≡ intervalsOf (numberIn (lengthOf (field 8 (cells file at e)))) = en ∙ ap intervalsOf (says-of lengthOf refl h) in
+    record {
+      is = rw (q, w);
+      kept = kept-closed file e q (omega (arith, intervals-small (numberIn (lengthOf (field 0 (fields (part file p e))))))) (omega (arith, k .channels, h .place, h .rest .ends)) (omega (arith, k .days, h .place, h .rest .ends));
+    }

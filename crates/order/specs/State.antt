@@ -1,0 +1,116 @@
+-- The state in the code, which holds a description as a place of the file, and what the meaning's state says there.
+use Prim.Native.Nat.{ℕ, _+_, _≤_}
+use mathlib.Core.Path.{_≡_}
+use mathlib.Core.List.{List}
+use mathlib.Core.Bool.{Bool, true, false, cond, _&&_}
+use lib.ListN.{length}
+use lib.Dec.{leb, eqb}
+use Rattle.ground.specs.Lists.{part}
+use Rattle.format.specs.Quality.{Mark, noMethod, sameMark}
+use Rattle.format.specs.Numbers.{noReason}
+use Rattle.format.specs.Cut.{fields}
+use Rattle.format.specs.Order.{Due, afterOf}
+use Rattle.format.specs.File.{after}
+use Rattle.format.specs.Faults.{_▹_, size, f7, f8, f9, f11, f12, faultOf}
+use Rattle.format.specs.declared.Fault.{Fault}
+use Rattle.format.specs.declared.Fault.the-variants.{Fine, Stop}
+use Rattle.format.specs.declared.Tag.{Tag}
+use Rattle.record.specs.Places.{Starts}
+use Rattle.record.specs.Walk.{Typed, Sound}
+use Rattle.order.specs.declared.State.{State}
+use Rattle.order.specs.declared.Step.{Step}
+use Rattle.order.specs.declared.Step.the-variants as step
+
+-- ---- the state
+
+abbrev pub markOf : List ℕ → Tag → Mark
+markOf file t = record { flag = t .flag; method = t .method; reason = t .reason; text = part file (t .start) (t .start + t .length) }
+
+-- what the code's state says
+abbrev pub seen : List ℕ → State → Due
+seen file st =
+    record {
+      expect = st .expect;
+      version = st .version;
+      n = st .n;
+      date = st .date;
+      next = st .next;
+      mark = markOf file (st .mark);
+      alike = st .alike;
+      channels = st .channels;
+      days = st .days;
+    }
+
+abbrev pub noTag : Tag
+noTag = record { flag = 0; method = noMethod; reason = noReason; start = 0; length = 0 }
+
+-- where no V day is open
+abbrev pub closed : ℕ → ℕ → ℕ → ℕ → ℕ → ℕ → State
+closed x v n t c d = record { expect = x; version = v; n = n; date = t; next = 0; mark = noTag; alike = false; channels = c; days = d }
+
+-- the description lies in the file, and no count is past the place that the walk has come to
+pub record Kept (file : List ℕ) (at : ℕ) (st : State) : Type 0 where
+  pub within : st .mark .start + st .mark .length ≤ length file
+  pub small : st .n ≤ 288
+  pub channels : st .channels ≤ at
+  pub days : st .days ≤ at
+
+-- the fields of the record from at to e
+abbrev pub cells : List ℕ → ℕ → ℕ → List (List ℕ)
+cells file at e = fields (part file at e)
+
+-- its field i starts at a
+abbrev pub Here : List ℕ → ℕ → ℕ → ℕ → ℕ → Type 0
+Here file at e i a = Starts file (cells file at e) at i a e
+
+-- the state s is what is due behind a record that ends at e
+pub record After (file : List ℕ) (e : ℕ) (st : Due) (s : State) : Type 0 where
+  pub is : seen file s ≡ st
+  pub kept : Kept file (e + 1) s
+
+-- ---- a step
+
+-- what comes of a record: the state behind it, or its first fault
+pub data Next : Type 0 where
+  goes : Due → Next
+  stops : ℕ → ℕ → ℕ → Next
+
+abbrev pub orStop : Fault → Due → Next
+orStop Fine st = goes st
+orStop (Stop x o i) st = stops x o i
+
+unfoldable pub nextOf : Due → List ℕ → Next
+nextOf st r = orStop (faultOf st r) (after st r)
+
+-- the faults that are asked for once every field meets its rule
+unfoldable pub lateOf : Due → ℕ → List (List ℕ) → Fault
+lateOf st k fs = f7 k (size st k) fs ▹ f8 st k fs ▹ f9 st k fs ▹ f11 st k fs ▹ f12 st k fs
+
+unfoldable pub lastOf : Due → ℕ → List (List ℕ) → Next
+lastOf st k fs = orStop (lateOf st k fs) (afterOf st k fs)
+
+-- what the code's step says
+abbrev pub stepAs : List ℕ → Step → Next
+stepAs file (step.On st) = goes (seen file st)
+stepAs file (step.Stop x o i) = stops x o i
+
+-- behind a record that ends at e the state is kept; a fault's place lies in the record
+abbrev pub Holds : List ℕ → ℕ → ℕ → Step → Type 0
+Holds file at e (step.On st) = Kept file (e + 1) st
+Holds file at e (step.Stop x o i) = at + o ≤ e
+
+-- ---- single tests
+
+-- intervals from a to b go on with a cover whose next interval is given, in a day of n
+unfoldable pub goesOn : ℕ → ℕ → ℕ → ℕ → Bool
+goesOn next n a b = eqb a next && (leb a b && leb b n)
+
+-- with this mark, every 400 of the day has one
+unfoldable pub alikeTo : Due → Mark → Bool
+alikeTo st m = cond (eqb (st .next) 1) true (st .alike && sameMark (st .mark) m)
+
+-- a record of the kind k whose fields meet their rules, with the places that are asked for
+pub record Ready (file : List ℕ) (at e k p q : ℕ) (st : State) : Type 0 where
+  pub kept : Kept file at st
+  pub typed : Typed file at e k (size (seen file st) k)
+  pub sound : Sound file at e k (size (seen file st) k) p q

@@ -1,0 +1,80 @@
+// The step over one record: 3, 10, 4, 5 and 6 in document 01's order, then the record's own method.
+use super::State;
+use super::Step;
+use super::tests::is_open;
+use super::tests::may_come;
+use record::Walked;
+use record::lines::Found;
+use record::rules::count_of;
+use record::says::kind_at;
+use record::walk::check_fields;
+ghost use mathlib.Core.Path.{_≡_};
+ghost use mathlib.Core.Bool.{cond};
+ghost use lib.ListN.{length};
+ghost use lib.Dec.{eqb};
+ghost use Rattle.ground.specs.Lists.{part};
+ghost use Rattle.record.specs.Places.{Looked};
+ghost use Rattle.order.specs.State.{seen, closed, Kept, cells, Ready, nextOf, lastOf, stepAs, Holds};
+
+impl State {
+    // Before the first record.
+    pub fn new() -> State
+        ensures { λ r. ⌜ r ≡ closed 0 0 0 0 0 0 ⌝ }
+    {
+        State::closed(0, 0, 0, 0, 0, 0)
+    }
+
+    // n counts in a 300 only.
+    fn size(self, kind: u64) -> usize
+        ensures { λ r. ⌜ r ≡ cond (eqb kind 300) (self .n) 0 ⌝ }
+    {
+        if kind == 300 {
+            return self.n;
+        }
+        0
+    }
+
+    // The record's own method; p and q are the places that it asks for.
+    fn on(self, file: &[u8], at: usize, e: usize, kind: u64, p: usize, q: usize) -> Step
+        requires { ⌜ Ready (now file) at e kind p q self ⌝ }
+        ensures { λ r. ⌜ (stepAs (now (file .entry)) r ≡ lastOf (seen (now (file .entry)) self) kind (cells (now (file .entry)) at e)) × Holds (now (file .entry)) at e r ⌝ }
+    {
+        match kind {
+            100 => Step::On(self.on_100(file, at, e)),
+            200 => Step::On(self.on_200(file, at, e, p)),
+            300 => self.on_300(file, at, e, p),
+            400 => self.on_400(file, at, e, p, q),
+            500 => self.on_500(file, at, e, p),
+            250 => self.on_250(file, at, e, p, q),
+            550 => Step::On(self.on_550()),
+            _ => Step::On(self.on_900()),
+        }
+    }
+
+    // The record that starts at a place and ends in a CR LF.
+    pub fn step(self, file: &[u8], at: usize, found: Found) -> Step
+        requires { ⌜ Kept (now file) at self × Looked (now file) at (found .end) (found .bad) (found .commas) ⌝ }
+        ensures { λ r. ⌜ (stepAs (now (file .entry)) r ≡ nextOf (seen (now (file .entry)) self) (part (now (file .entry)) at (found .end))) × Holds (now (file .entry)) at (found .end) r ⌝ }
+    {
+        let e = found.end;
+        if found.bad < e {
+            return Step::Stop(3, found.bad - at, 0);
+        }
+        let kind = kind_at(file, at, e);
+        if is_open(self.expect, self.next, self.n, kind) {
+            return Step::Stop(10, 0, 0);
+        }
+        if !may_come(self.expect, kind) {
+            return Step::Stop(4, 0, 0);
+        }
+        let n = self.size(kind);
+        if found.commas + 1 != count_of(kind, n) {
+            return Step::Stop(5, 0, 0);
+        }
+        let w = check_fields(file, at, e, kind, n);
+        match w {
+            Walked::Broken(o, i) => Step::Stop(6, o, i),
+            Walked::Sound(p, q) => self.on(file, at, e, kind, p, q),
+        }
+    }
+}

@@ -1,0 +1,248 @@
+-- The loop over the fields of a record: each field so far meets its rule, where the next one starts, and the places that later rules ask for.
+-- Assumes nothing.
+use Prim.Native.Nat.{ℕ, zero, suc, _+_, _-_, _≤_, _<_}
+use mathlib.Core.Path.{_≡_, refl, sym, _∙_, ap}
+use mathlib.Core.List.{List, [], _∷_}
+use mathlib.Core.Bool.{Bool, true, false, cond, not, _&&_}
+use native.Mathlib.Omega.{arith}
+use native.Mathlib.Decide.{decLt}
+use lib.ListN.{length, getD, take, drop, drop-of-length-le, length-drop}
+use lib.Seq.{length-take-le}
+use lib.Dec.{eqb, leb}
+use borrow.Author.Tests.{eq-eqb, ne-eqb, eqb-true, eqb-false, leb-true, not-true, not-false}
+use Rattle.ground.specs.Lists.{all, spanOf, other, part}
+use Rattle.ground.specs.Digits.{isDigit, decimal}
+use Rattle.ground.proofs.Tests.{and-true}
+use Rattle.ground.proofs.Spans.{span-le, part-length, part-cut}
+use Rattle.format.specs.Bytes.{areAll}
+use Rattle.format.specs.Numbers.{numberIn, that, numberOf}
+use Rattle.format.specs.Cut.{fields, field, startOf}
+use Rattle.format.specs.Records.{isKind, indicatorOf, kindIn, rowOf, countOf, ruleOf, obeys}
+use Rattle.format.specs.Faults.{faultIn}
+use Rattle.format.specs.declared.Number.the-variants.{Is, Bad}
+use Rattle.format.specs.declared.Fault.the-variants.{Fine, Stop}
+use Rattle.format.specs.declared.Rule.{Rule}
+use Rattle.format.specs.declared.Rule.the-variants.{Indicator}
+use Rattle.format.proofs.Cut.{fields-some, field-here, field-cons, start-zero, start-next, start-end, fields-from}
+use Rattle.record.specs.Places.{Rest, Starts}
+use Rattle.record.specs.Walk.{firstAsked, secondAsked, Typed, Sound, Broken}
+use Rattle.record.proofs.Cuts.{first-is, rest-at, rest-first}
+use Rattle.record.proofs.Rows.{count-300}
+
+-- ---- the fields before i meet their rules
+
+pub record Obeyed (k n : ℕ) (fs : List (List ℕ)) (i : ℕ) : Type 0 where
+  pub within : i ≤ length fs
+  pub same : faultIn k n 0 0 fs ≡ faultIn k n (startOf i fs) i (drop i fs)
+
+-- what holds of both that a test picks from, where it is known how the test went
+by-test : {X : Type 0} (P : X → Type 0) (b : Bool) {x y : X} → (b ≡ true → P x) → (b ≡ false → P y) → P (cond b x y)
+by-test P true f g = f refl
+by-test P false f g = g refl
+
+rule-first : (k n : ℕ) → ruleOf k n 0 ≡ Indicator
+unfolding ruleOf rowOf
+rule-first k n =
+    by-test first (eqb k 100) (λ t. refl)
+    (λ t. by-test first (eqb k 200) (λ t. refl)
+    (λ t. by-test first (eqb k 300) (λ t. refl)
+    (λ t. by-test first (eqb k 400) (λ t. refl)
+    (λ t. by-test first (eqb k 500) (λ t. refl)
+    (λ t. by-test first (eqb k 250) (λ t. refl)
+    (λ t. by-test first (eqb k 550) (λ t. refl) (λ t. refl)))))))
+  where
+    first : List Rule → Type 0
+    first row = getD row 0 Indicator ≡ Indicator
+
+module _ (k n : ℕ) (fs : List (List ℕ)) where
+  module _ (i : ℕ) (h : i < length fs) (r : Obeyed k n fs i) where
+    turn : faultIn k n 0 0 fs ≡ cond (obeys k (ruleOf k n i) (field i fs)) (faultIn k n (startOf (i + 1) fs) (i + 1) (drop (i + 1) fs)) (Stop 6 (startOf i fs) (i + 1))
+    unfolding faultIn
+    turn = rw (start-next i fs h) (rw (field-cons i fs h) at (r .same))
+
+    pub obeyed-on : obeys k (ruleOf k n i) (field i fs) ≡ true → Obeyed k n fs (i + 1)
+    obeyed-on t = record { within = omega arith; same = rw t at turn }
+
+    pub obeyed-stops : obeys k (ruleOf k n i) (field i fs) ≡ false → faultIn k n 0 0 fs ≡ Stop 6 (startOf i fs) (i + 1)
+    obeyed-stops t = rw t at turn
+
+  -- the indicator was looked at before
+  pub obeyed-first : 0 < length fs → Obeyed k n fs 1
+  unfolding startOf obeys
+  obeyed-first h = obeyed-on 0 h (record { within = omega arith; same = refl }) (rw (rule-first k n))
+
+  pub obeyed-all : (i : ℕ) → length fs ≤ i → Obeyed k n fs i → faultIn k n 0 0 fs ≡ Fine
+  unfolding faultIn
+  obeyed-all i h r = rw (drop-of-length-le fs h) at (r .same)
+
+-- ---- where the fields start
+
+-- an indicator has three bytes
+three : (f : List ℕ) → (numberIn (indicatorOf f) ≡ 0 → ⊥) → length f ≡ 3
+unfolding indicatorOf numberOf areAll
+three f h = go (areAll isDigit 3 3 f) refl
+  where
+    go : (b : Bool) → areAll isDigit 3 3 f ≡ b → length f ≡ 3
+    go true e =
+        let a = and-true (leb 3 (length f)) (leb (length f) 3) (and-true (leb 3 (length f) && leb (length f) 3) (all isDigit f) e .0) in
+        omega (arith, leb-true 3 (length f) (a .0), leb-true (length f) 3 (a .1))
+    go false e = absurd (h (rw e))
+
+-- a loop that has passed i fields of the record stands at b, behind the last of them
+pub record Along (file : List ℕ) (at e k n i b : ℕ) : Type 0 where
+  pub high : b ≤ e
+  pub few : i ≤ b
+  pub here : b + 1 ≡ at + startOf i (fields (part file at e))
+  pub passed : Obeyed k n (fields (part file at e)) i
+
+-- the field behind the indicator starts at the fifth byte
+start-four : (file : List ℕ) (at e k n : ℕ) → Typed file at e k n → startOf 1 (fields (part file at e)) ≡ 4
+unfolding kindIn
+start-four file at e k n y =
+    let fs = fields (part file at e) in
+    let t : length (field 0 fs) ≡ 3 = three (field 0 fs) (λ z. y .some (y .kind ∙ z)) in
+    omega (arith, start-zero fs, start-next 0 fs (fields-some (part file at e)))
+
+pub second-field : (file : List ℕ) (at e k n : ℕ) → Typed file at e k n → 1 < countOf k n → Starts file (fields (part file at e)) at 1 (at + 4) e
+second-field file at e k n y h =
+    let q : at + 4 ≡ at + startOf 1 (fields (part file at e)) = ap (λ (z : ℕ). at + z) (sym (start-four file at e k n y)) in
+    record { place = q; rest = rw q (rest-at file at e 1 (y .order) (y .within) (omega (arith, y .count))) }
+
+-- the indicator passed
+pub along-first : (file : List ℕ) (at e k n : ℕ) → Typed file at e k n → Along file at e k n 1 (at + 3)
+unfolding kindIn
+along-first file at e k n y =
+    let fs = fields (part file at e) in
+    let h : startOf 1 fs ≡ 4 = start-four file at e k n y in
+    let t : length (field 0 fs) ≡ 3 = three (field 0 fs) (λ z. y .some (y .kind ∙ z)) in
+    let w : spanOf (other 44) (part file at e) ≡ 3 = rw (field-here (part file at e), length-take-le _ _ (span-le (other 44) (part file at e))) at t in
+    record {
+      high = omega (arith, w, span-le (other 44) (part file at e), part-length file at e (y .within), y .order);
+      few = omega arith;
+      here = omega arith;
+      passed = obeyed-first k n fs (fields-some (part file at e));
+    }
+
+module _ (file : List ℕ) (at e k n i b : ℕ) (y : Typed file at e k n) (l : Along file at e k n i b) where
+  -- more of the record is left, so a field is
+  more : b < e → i < length (fields (part file at e))
+  more h = by (decLt i (length (fields (part file at e))))
+    where
+      by : Dec (i < length (fields (part file at e))) → i < length (fields (part file at e))
+      by (yes p) = p
+      by (no p) =
+          let q : i ≡ length (fields (part file at e)) = omega (arith, l .passed .within) in
+          let z : startOf i (fields (part file at e)) ≡ length (part file at e) + 1 = rw q (start-end (part file at e)) in
+          absurd (let w : ⊥ = omega (arith, l .here, part-length file at e (y .within), y .order) in w)
+
+  none : e ≤ b → length (fields (part file at e)) ≤ i
+  none h = by (decLt i (length (fields (part file at e))))
+    where
+      by : Dec (i < length (fields (part file at e))) → length (fields (part file at e)) ≤ i
+      by (yes p) = absurd (let w : ⊥ = omega (arith, l .here, fields-from i (part file at e) p .within, part-length file at e (y .within), y .order) in w)
+      by (no p) = omega arith
+
+  -- a turn: m is what `field_end` answers of the record from `b + 1` on, o what `obeys` answers of that field
+  module _ (m : ℕ) (x : Rule) (o : Bool) (h : b < e) (em : m ≡ spanOf (other 44) (take (e - (b + 1)) (drop (b + 1) file)))
+      (ex : x ≡ ruleOf k n i) (eo : o ≡ obeys k x (take (b + 1 + m - (b + 1)) (drop (b + 1) file))) where
+    place : b + 1 ≡ at + startOf i (fields (part file at e))
+    place = l .here
+
+    is : take (b + 1 + m - (b + 1)) (drop (b + 1) file) ≡ field i (fields (part file at e))
+    is =
+        let s : Rest file (fields (part file at e)) at i (b + 1) e = rw place (rest-at file at e i (y .order) (y .within) (more h)) in
+        first-is file (b + 1) e m (omega arith) (y .within) em ∙ rest-first s
+
+    held : o ≡ obeys k (ruleOf k n i) (field i (fields (part file at e)))
+    held = rw (← ex, ← is) eo
+
+    pub along-stops : not o ≡ true → Broken file at e k n (b + 1 - at) (i + 1)
+    along-stops t =
+        let z : b + 1 - at ≡ startOf i (fields (part file at e)) = omega (arith, place) in
+        record {
+          fault = rw z (obeyed-stops k n (fields (part file at e)) i (more h) (l .passed) (sym held ∙ not-true o t));
+          within = omega (arith, place);
+        }
+
+    pub along-on : not o ≡ false → Along file at e k n (i + 1) (b + 1 + m)
+    along-on t =
+        let r = part file (b + 1) e in
+        let w : length r ≡ e - (b + 1) = part-length file (b + 1) e (y .within) in
+        let j : m ≤ length r = rw em (span-le (other 44) r) in
+        let g : length (field i (fields (part file at e))) ≡ m = rw (← is, part-cut (b + 1) m (drop (b + 1) file)) (length-take-le m (drop (b + 1) file) (omega (arith, length-drop (b + 1) file, y .within))) in
+        record {
+          high = omega arith;
+          few = omega (arith, l .few);
+          here = omega (arith, start-next i (fields (part file at e)) (more h), place);
+          passed = obeyed-on k n (fields (part file at e)) i (more h) (l .passed) (sym held ∙ not-false o t);
+        }
+
+-- ---- the fields that later rules ask for
+
+-- the field w starts at p, if the loop has passed it
+pub record Noted (fs : List (List ℕ)) (at i w p : ℕ) : Type 0 where
+  pub is : w < i → p ≡ at + startOf w fs
+
+pub noted-none : (fs : List (List ℕ)) (at w : ℕ) → Noted fs at 1 w at
+noted-none fs at w = record { is = λ h. (let z : w ≡ 0 = omega arith in rw z (omega (arith, start-zero fs))) }
+
+pub noted-on : (fs : List (List ℕ)) (at i w p a r : ℕ) → Noted fs at i w p → a ≡ at + startOf i fs → r ≡ cond (eqb i w) a p → Noted fs at (i + 1) w r
+noted-on fs at i w p a r s h e = record { is = λ g. go (eqb i w) refl g }
+  where
+    go : (b : Bool) → eqb i w ≡ b → w < i + 1 → r ≡ at + startOf w fs
+    go true q g = rw (q, h, eqb-true i w q) at e
+    go false q g =
+        let ne : i ≡ w → ⊥ = eqb-false i w q in
+        let lt : w < i = omega arith in
+        rw (q, s .is lt) at e
+
+-- every kind has the fields that are asked for
+module _ (k n : ℕ) where
+  some-field : 0 < countOf k n
+  unfolding countOf rowOf
+  some-field =
+      by-test some (eqb k 100) (λ t. omega arith)
+      (λ t. by-test some (eqb k 200) (λ t. omega arith)
+      (λ t. by-test some (eqb k 300) (λ t. omega arith)
+      (λ t. by-test some (eqb k 400) (λ t. omega arith)
+      (λ t. by-test some (eqb k 500) (λ t. omega arith)
+      (λ t. by-test some (eqb k 250) (λ t. omega arith)
+      (λ t. by-test some (eqb k 550) (λ t. omega arith) (λ t. omega arith)))))))
+    where
+      some : List Rule → Type 0
+      some row = 0 < length row
+
+  abbrev fits : ℕ → Type 0
+  fits x = x < countOf k n
+
+  asked-second : secondAsked k n < countOf k n
+  unfolding secondAsked countOf rowOf
+  asked-second =
+      by-test fits (eqb k 400) (λ t. rw (eqb-true k 400 t) (omega arith))
+      (λ t. by-test fits (eqb k 250) (λ t. rw (eqb-true k 250 t) (omega arith)) (λ t. some-field))
+
+  asked-first : firstAsked k n < countOf k n
+  unfolding firstAsked countOf rowOf
+  asked-first =
+      by-test fits (eqb k 200) (λ t. rw (eqb-true k 200 t) (omega arith))
+      (λ t. by-test fits (eqb k 300) (λ t. omega (arith, count-300 k n (eqb-true k 300 t)))
+      (λ t. by-test fits (eqb k 400) (λ t. rw (eqb-true k 400 t) (omega arith))
+      (λ t. by-test fits (eqb k 500) (λ t. rw (eqb-true k 500 t) (omega arith))
+      (λ t. by-test fits (eqb k 250) (λ t. rw (eqb-true k 250 t) (omega arith)) (λ t. some-field)))))
+
+pub along-end : (file : List ℕ) (at e k n i b v w p q : ℕ) → Typed file at e k n → Along file at e k n i b → e ≤ b
+    → Noted (fields (part file at e)) at i v p → Noted (fields (part file at e)) at i w q → v ≡ firstAsked k n → w ≡ secondAsked k n
+    → Sound file at e k n p q
+along-end file at e k n i b v w p q y l h np nq ev ew =
+    let z : length (fields (part file at e)) ≤ i = none file at e k n i b y l h in
+    record {
+      fault = obeyed-all k n (fields (part file at e)) i z (l .passed);
+      first = rw ev at (starts v p np (omega (arith, y .count, asked-first k n)) z);
+      second = rw ew at (starts w q nq (omega (arith, y .count, asked-second k n)) z);
+    }
+  where
+    starts : (x a : ℕ) → Noted (fields (part file at e)) at i x a → x < length (fields (part file at e)) → length (fields (part file at e)) ≤ i
+        → Starts file (fields (part file at e)) at x a e
+    starts x a s g z =
+        let is : a ≡ at + startOf x (fields (part file at e)) = s .is (omega arith) in
+        record { place = is; rest = rw is (rest-at file at e x (y .order) (y .within) g) }

@@ -1,0 +1,48 @@
+-- A walk over the fields of a record, for the contracts of the inner functions.
+use Prim.Native.Nat.{ℕ, _+_, _≤_}
+use mathlib.Core.Path.{_≡_}
+use mathlib.Core.List.{List}
+use mathlib.Core.Bool.{cond}
+use lib.ListN.{length}
+use lib.Dec.{eqb}
+use Rattle.ground.specs.Lists.{part}
+use Rattle.format.specs.Cut.{fields}
+use Rattle.format.specs.Records.{kindIn, countOf}
+use Rattle.format.specs.Faults.{faultIn}
+use Rattle.format.specs.declared.Fault.the-variants.{Fine, Stop}
+use Rattle.record.specs.Places.{Starts}
+use Rattle.record.specs.declared.Walked.{Walked}
+use Rattle.record.specs.declared.Walked.the-variants as walked
+
+-- the fields that later rules ask for, by number from 0, where 0 is none: a 200's interval length, a 300's quality, a 400's end and quality,
+-- a 500's read time, a 250's qualities
+unfoldable pub firstAsked : ℕ → ℕ → ℕ
+firstAsked k n =
+    cond (eqb k 200) 8 (cond (eqb k 300) (n + 2) (cond (eqb k 400) 2 (cond (eqb k 500) 3 (cond (eqb k 250) 10 0))))
+
+unfoldable pub secondAsked : ℕ → ℕ → ℕ
+secondAsked k n = cond (eqb k 400) 3 (cond (eqb k 250) 15 0)
+
+-- a record of the kind k, with as many fields as its kind has
+pub record Typed (file : List ℕ) (at e k n : ℕ) : Type 0 where
+  pub order : at ≤ e
+  pub within : e ≤ length file
+  pub kind : k ≡ kindIn (fields (part file at e))
+  pub some : k ≡ 0 → ⊥
+  pub small : n ≤ 288
+  pub count : length (fields (part file at e)) ≡ countOf k n
+
+-- every field meets its rule, and those that are asked for start at p and q
+pub record Sound (file : List ℕ) (at e k n p q : ℕ) : Type 0 where
+  pub fault : faultIn k n 0 0 (fields (part file at e)) ≡ Fine
+  pub first : Starts file (fields (part file at e)) at (firstAsked k n) p e
+  pub second : Starts file (fields (part file at e)) at (secondAsked k n) q e
+
+-- the leftmost field that breaks its rule
+pub record Broken (file : List ℕ) (at e k n o i : ℕ) : Type 0 where
+  pub fault : faultIn k n 0 0 (fields (part file at e)) ≡ Stop 6 o i
+  pub within : at + o ≤ e
+
+abbrev pub Walks : List ℕ → ℕ → ℕ → ℕ → ℕ → Walked → Type 0
+Walks file at e k n (walked.Sound p q) = Sound file at e k n p q
+Walks file at e k n (walked.Broken o i) = Broken file at e k n o i

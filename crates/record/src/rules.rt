@@ -1,0 +1,242 @@
+// The rule of each field by its number from 0, and a field held to its rule.
+use field::dates;
+use field::numbers;
+use field::quality;
+use field::texts;
+use format::Graded;
+use format::Number;
+use format::Rule;
+ghost use mathlib.Core.Path.{_≡_};
+ghost use Prim.Native.Nat.{_≤_, _-_};
+ghost use lib.ListN.{getD, take};
+ghost use Rattle.format.specs.Numbers.{isNumber};
+ghost use Rattle.format.specs.Quality.{isGraded};
+ghost use Rattle.format.specs.Records.{row100, row200, row300, row400, row500, reading, row250, row550, countOf, ruleOf, obeys};
+ghost use Rattle.format.specs.declared.Rule.the-variants.{Indicator};
+
+fn rule_100(i: usize) -> Rule
+    ensures { λ r. ⌜ r ≡ getD row100 i Indicator ⌝ }
+{
+    match i {
+        1 => Rule::Version,
+        2 => Rule::Created,
+        3 => Rule::Party,
+        4 => Rule::Party,
+        _ => Rule::Indicator,
+    }
+}
+
+// The fields that a 200 and a 250 begin with.
+fn rule_meter(i: usize) -> Rule
+    ensures { λ r. ⌜ r ≡ getD (take 7 row200) i Indicator ⌝ }
+{
+    match i {
+        1 => Rule::Nmi,
+        2 => Rule::Configuration,
+        3 => Rule::Register,
+        4 => Rule::Suffix,
+        5 => Rule::Stream,
+        6 => Rule::Serial,
+        _ => Rule::Indicator,
+    }
+}
+
+fn rule_200(i: usize) -> Rule
+    ensures { λ r. ⌜ r ≡ getD row200 i Indicator ⌝ }
+{
+    if i < 7 {
+        return rule_meter(i);
+    }
+    match i {
+        7 => Rule::Unit,
+        8 => Rule::Length,
+        9 => Rule::NextRead,
+        _ => Rule::Indicator,
+    }
+}
+
+fn rule_300(n: usize, i: usize) -> Rule
+    requires { ⌜ n ≤ 288 ⌝ }
+    ensures { λ r. ⌜ r ≡ getD (row300 n) i Indicator ⌝ }
+{
+    if i < 1 {
+        return Rule::Indicator;
+    }
+    if i < 2 {
+        return Rule::Date;
+    }
+    if i < n + 2 {
+        return Rule::Value;
+    }
+    match i - n {
+        2 => Rule::Quality,
+        3 => Rule::Reason,
+        4 => Rule::Description,
+        5 => Rule::Time,
+        6 => Rule::Load,
+        _ => Rule::Indicator,
+    }
+}
+
+fn rule_400(i: usize) -> Rule
+    ensures { λ r. ⌜ r ≡ getD row400 i Indicator ⌝ }
+{
+    match i {
+        1 => Rule::Interval,
+        2 => Rule::Interval,
+        3 => Rule::Quality,
+        4 => Rule::Reason,
+        5 => Rule::Description,
+        _ => Rule::Indicator,
+    }
+}
+
+fn rule_500(i: usize) -> Rule
+    ensures { λ r. ⌜ r ≡ getD row500 i Indicator ⌝ }
+{
+    match i {
+        1 => Rule::TransCode,
+        2 => Rule::ServiceOrder,
+        3 => Rule::ReadTime,
+        4 => Rule::IndexRead,
+        _ => Rule::Indicator,
+    }
+}
+
+// Previous and current of a 250, counted from the read.
+fn rule_reading(i: usize) -> Rule
+    ensures { λ r. ⌜ r ≡ getD reading i Indicator ⌝ }
+{
+    match i {
+        0 => Rule::RegisterRead,
+        1 => Rule::Time,
+        2 => Rule::Quality,
+        3 => Rule::Reason,
+        4 => Rule::Description,
+        _ => Rule::Indicator,
+    }
+}
+
+fn rule_250(i: usize) -> Rule
+    ensures { λ r. ⌜ r ≡ getD row250 i Indicator ⌝ }
+{
+    if i < 7 {
+        return rule_meter(i);
+    }
+    if i < 8 {
+        return Rule::Direction;
+    }
+    if i < 13 {
+        return rule_reading(i - 8);
+    }
+    if i < 18 {
+        return rule_reading(i - 13);
+    }
+    match i {
+        18 => Rule::Value,
+        19 => Rule::Unit,
+        20 => Rule::NextRead,
+        21 => Rule::Time,
+        22 => Rule::Load,
+        _ => Rule::Indicator,
+    }
+}
+
+fn rule_550(i: usize) -> Rule
+    ensures { λ r. ⌜ r ≡ getD row550 i Indicator ⌝ }
+{
+    match i {
+        1 => Rule::TransCode,
+        2 => Rule::ServiceOrder,
+        3 => Rule::TransCode,
+        4 => Rule::ServiceOrder,
+        _ => Rule::Indicator,
+    }
+}
+
+// The rule of the field of a number from 0, in a record of the kind; n is that of a 300.
+pub fn rule_at(kind: u64, n: usize, i: usize) -> Rule
+    requires { ⌜ n ≤ 288 ⌝ }
+    ensures { λ r. ⌜ r ≡ ruleOf kind n i ⌝ }
+{
+    match kind {
+        100 => rule_100(i),
+        200 => rule_200(i),
+        300 => rule_300(n, i),
+        400 => rule_400(i),
+        500 => rule_500(i),
+        250 => rule_250(i),
+        550 => rule_550(i),
+        _ => Rule::Indicator,
+    }
+}
+
+// How many fields a record of the kind has.
+pub fn count_of(kind: u64, n: usize) -> usize
+    requires { ⌜ n ≤ 288 ⌝ }
+    ensures { λ r. ⌜ r ≡ countOf kind n ⌝ }
+{
+    match kind {
+        100 => 5,
+        200 => 10,
+        300 => n + 7,
+        400 => 6,
+        500 => 5,
+        250 => 23,
+        550 => 5,
+        _ => 1,
+    }
+}
+
+fn is_number(x: Number) -> bool
+    ensures { λ r. ⌜ r ≡ isNumber x ⌝ }
+{
+    match x {
+        Number::Is(_) => true,
+        Number::Bad => false,
+    }
+}
+
+fn is_graded(g: Graded) -> bool
+    ensures { λ r. ⌜ r ≡ isGraded g ⌝ }
+{
+    match g {
+        Graded::Of(_, _) => true,
+        Graded::Bad => false,
+    }
+}
+
+// The field meets its rule, in a record of the kind.
+pub fn obeys(kind: u64, rule: Rule, f: &[u8]) -> bool
+    ensures { λ r. ⌜ r ≡ obeys kind rule (now (f .entry)) ⌝ }
+{
+    match rule {
+        Rule::Indicator => true,
+        Rule::Version => is_number(texts::version(f)),
+        Rule::Created => is_number(dates::created(f)),
+        Rule::Party => texts::party(f),
+        Rule::Nmi => texts::nmi(f),
+        Rule::Configuration => texts::configuration(f),
+        Rule::Register => texts::register(f),
+        Rule::Suffix => texts::suffix(f),
+        Rule::Stream => texts::data_stream(f),
+        Rule::Serial => texts::serial(f),
+        Rule::Unit => texts::unit(f),
+        Rule::Length => is_number(numbers::interval_length(f)),
+        Rule::NextRead => is_number(dates::next_read_date(f)),
+        Rule::Date => is_number(dates::date(f)),
+        Rule::Value => is_number(numbers::value(f, 6)),
+        Rule::Quality => is_graded(quality::quality(f, kind)),
+        Rule::Reason => is_number(numbers::reason(f)),
+        Rule::Description => texts::description(f),
+        Rule::Time => is_number(dates::time(f)),
+        Rule::Load => is_number(dates::load_time(f)),
+        Rule::Interval => is_number(numbers::interval(f)),
+        Rule::TransCode => texts::trans_code(f),
+        Rule::ServiceOrder => texts::service_order(f),
+        Rule::ReadTime => is_number(dates::read_time(f)),
+        Rule::IndexRead => numbers::index_read(f),
+        Rule::Direction => texts::direction(f),
+        Rule::RegisterRead => numbers::register_read(f),
+    }
+}
