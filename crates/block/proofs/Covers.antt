@@ -1,9 +1,9 @@
 -- The runs of a day's marks, found one after the other: how far one reaches, what the 400s add up to, and what is left of them to write.
 -- Assumes nothing.
-use Prim.Native.Nat.{ℕ, suc, _+_, _-_, _*_, _^_, _≤_, _<_}
-use mathlib.Core.Path.{_≡_, refl, sym, ap, _∙_}
-use mathlib.Core.Bool.{Bool, true, false, not, _&&_}
-use mathlib.Core.List.{List, [], _∷_, _++_}
+use Prim.Native.Nat.{ℕ, suc, _+_, _-_, _*_, _≤_, _<_}
+use mathlib.Core.Path.{_≡_, sym, ap, _∙_}
+use mathlib.Core.Bool.{Bool, true, false, not}
+use mathlib.Core.List.{List, [], _++_}
 use native.Mathlib.Nat.{zero-add}
 use native.Mathlib.Omega.{arith}
 use lib.ListN.{length, length-append}
@@ -12,12 +12,12 @@ use mir.Syntax.{w64}
 use borrow.Author.Tests.{not-true, not-false}
 use Rattle.ground.specs.Lists.{all, from}
 use Rattle.ground.specs.Digits.{width, dec}
-use Rattle.ground.specs.Runs.{Run, run, runs}
+use Rattle.ground.specs.Runs.{runs}
 use Rattle.ground.specs.Room.{Put}
 use Rattle.ground.proofs.Tests.{and-true}
 use Rattle.ground.proofs.From.{from-end, all-from}
 use Rattle.ground.proofs.Digits.{length-dec}
-use Rattle.ground.proofs.Room.{put-kept, Left, left-start, left-step, left-end, left-kept}
+use Rattle.ground.proofs.Room.{Left, left-start, left-step, left-end, left-kept}
 use Rattle.ground.proofs.Runs.{SoFar, run-start, run-more, run-stop, run-last}
 use Rattle.format.specs.Quality.{Mark, sameMark}
 use Rattle.format.specs.Day.{Five}

@@ -1,11 +1,11 @@
 -- Two descriptions and two marks compared, as the code meets them, and what a fit mark's tag says of its text. Assumes nothing.
 use Prim.Native.Nat.{ℕ, _+_, _-_, _≤_, _<_}
-use mathlib.Core.Path.{_≡_, refl, sym, ap, _∙_}
+use mathlib.Core.Path.{_≡_, refl, sym, _∙_}
 use mathlib.Core.Bool.{Bool, true, false, not, _&&_}
-use mathlib.Core.List.{List, [], _∷_, _++_}
+use mathlib.Core.List.{List, [], _∷_}
 use native.Mathlib.Omega.{arith}
 use lib.ListN.{length, take, drop}
-use lib.Dec.{leb, eqb}
+use lib.Dec.{leb}
 use borrow.Author.Tests.{eq-eqb, ne-eqb, leb-true}
 use Rattle.ground.specs.Lists.{all, same}
 use Rattle.ground.proofs.Tests.{and-true}
@@ -14,7 +14,7 @@ use Rattle.ground.specs.Room.{Put}
 use Rattle.ground.proofs.Room.{put-kept}
 use Rattle.format.specs.Bytes.{fieldByte, endSpace, isText}
 use Rattle.format.specs.Texts.{isDescription}
-use Rattle.format.specs.Quality.{Mark, sameMark}
+use Rattle.format.specs.Quality.{sameMark}
 use Rattle.format.specs.Records.{agrees}
 use Rattle.format.specs.Block.{fitQuality, fitReason, fitMark, qualityText, reasonText, markText}
 use Rattle.format.specs.declared.Tag.{Tag}

@@ -1,7 +1,7 @@
 -- The values of a day, one after the other: what a turn of each loop goes by. Assumes nothing.
 use Prim.Native.Nat.{ℕ, _+_, _*_, _^_, _≤_, _<_}
 use mathlib.Core.Path.{_≡_, refl, sym, ap, _∙_}
-use mathlib.Core.Bool.{Bool, true, false, cond, _&&_}
+use mathlib.Core.Bool.{true, false}
 use mathlib.Core.List.{List, [], _∷_, _++_}
 use native.Mathlib.Omega.{arith}
 use lib.ListN.{length, drop, getD, length-append, drop-of-length-le}
@@ -17,7 +17,6 @@ use Rattle.ground.proofs.Room.{put-then, put-kept, Left, left-start, left-step,
 use Rattle.format.specs.Block.{fitValue, valueText, comma, valuesText}
 use Rattle.format.proofs.ValueText.{value-most}
 use Rattle.block.specs.Measure.{measureOf}
-use Rattle.block.specs.declared.Measured.{Measured}
 use Rattle.block.specs.declared.Measured.the-variants.{Bytes, Unfit}
 
 -- ---- the text of what is left

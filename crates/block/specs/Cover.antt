@@ -11,7 +11,7 @@ use Rattle.ground.specs.Runs.{run}
 use Rattle.format.specs.Quality.{Mark}
 use Rattle.format.specs.Day.{Five}
 use Rattle.format.specs.Block.{comma, coverText, runsIn}
-use Rattle.fit.specs.Tags.{marksFrom, fitMarks, Long}
+use Rattle.fit.specs.Tags.{fitMarks, Long}
 
 -- the 400s, and how many they are
 unfoldable pub coverFrom : (ℕ → Mark) → ℕ → ℕ → List ℕ

@@ -1,8 +1,8 @@
 -- The cases of a fit mark, as the code meets them, and the turn of the loop over the intervals. Assumes nothing.
 use Prim.Native.Nat.{ℕ, suc, _+_, _-_, _≤_, _<_}
-use mathlib.Core.Path.{_≡_, refl, sym, ap, ap₂, _∙_}
-use mathlib.Core.Bool.{Bool, true, false, not, _&&_, _||_, and-comm}
-use mathlib.Core.List.{List, [], _∷_}
+use mathlib.Core.Path.{_≡_, refl, sym, _∙_}
+use mathlib.Core.Bool.{Bool, true, false, not, _&&_, and-comm}
+use mathlib.Core.List.{List}
 use native.Mathlib.Nat.{sub-zero}
 use native.Mathlib.Omega.{arith}
 use lib.ListN.{length, take, drop}
@@ -14,7 +14,7 @@ use Rattle.ground.proofs.Cases.{split, by}
 use Rattle.ground.proofs.From.{from-step, from-end}
 use Rattle.format.specs.Bytes.{fieldByte, endSpace, isText}
 use Rattle.format.specs.Texts.{isDescription}
-use Rattle.format.specs.Quality.{standsAlone, takesMethod, noMethod, across, Mark}
+use Rattle.format.specs.Quality.{standsAlone, takesMethod, across}
 use Rattle.format.specs.Records.{agrees}
 use Rattle.format.specs.Day.{Five}
 use Rattle.format.specs.Block.{fitQuality, fitReason, fitMark}

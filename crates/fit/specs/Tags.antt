@@ -1,8 +1,7 @@
 -- The marks of a day that is handed in: its five lists, taken together, and the lent text.
-use Prim.Native.Nat.{ℕ, suc, _≤_}
-use mathlib.Core.Path.{_≡_}
+use Prim.Native.Nat.{ℕ, _≤_}
 use mathlib.Core.List.{List}
-use mathlib.Core.Bool.{Bool, true, _&&_}
+use mathlib.Core.Bool.{Bool, _&&_}
 use lib.ListN.{length, take, drop, getD}
 use Rattle.ground.specs.Lists.{all, from}
 use Rattle.format.specs.Quality.{across, Mark}

@@ -1,24 +1,24 @@
 -- Marks: the test that two are the same decides it, a fit mark's texts are read back by the rules of their fields, and none that is read back so
 -- is shorter. Assumes nothing.
 use Prim.Native.Nat.{ℕ, _+_, _≤_, _<_}
-use mathlib.Core.Path.{_≡_, refl, sym, ap, _∙_, subst}
-use mathlib.Core.Bool.{Bool, true, false, cond, _&&_, _||_, false≢true}
+use mathlib.Core.Path.{_≡_, refl, sym, ap, _∙_}
+use mathlib.Core.Bool.{Bool, true, false, cond, _&&_, false≢true}
 use mathlib.Core.Logic.{_≢_}
-use mathlib.Core.List.{List, [], _∷_, _++_}
+use mathlib.Core.List.{List, [], _∷_}
 use native.Mathlib.Omega.{arith}
 use lib.ListN.{length, getD, drop, length-append, length-drop}
 use lib.Dec.{eqb, ltb}
 use borrow.Author.Tests.{eq-eqb, ne-eqb, eqb-true, ltb-true}
 use Rattle.ground.specs.Lists.{same}
-use Rattle.ground.specs.Digits.{padded, dec}
+use Rattle.ground.specs.Digits.{padded}
 use Rattle.ground.proofs.Tests.{and-true}
 use Rattle.ground.proofs.Cases.{same-or, by, both}
 use Rattle.ground.proofs.Same.{same-itself, same-sound}
 use Rattle.ground.proofs.Decimal.{decimal-below}
 use Rattle.ground.proofs.Digits.{length-padded}
-use Rattle.format.specs.Numbers.{numberOf, noReason}
+use Rattle.format.specs.Numbers.{numberOf}
 use Rattle.format.specs.Quality.{standsAlone, takesMethod, noMethod, withMethod, qualityOf, Mark, sameMark}
-use Rattle.format.specs.Block.{fitQuality, fitReason, qualityText, reasonText, comma, markText}
+use Rattle.format.specs.Block.{fitQuality, qualityText, reasonText, markText}
 use Rattle.format.specs.declared.Graded.{Graded}
 use Rattle.format.specs.declared.Graded.the-variants.{Of}
 use Rattle.format.specs.declared.Number.{Number}
@@ -120,9 +120,3 @@ quality-shortest k s q m e =
 pub length-mark : (m : Mark) → length (markText m) ≡ length (qualityText (m .flag) (m .method)) + length (reasonText (m .reason)) + length (m .text) + 2
 unfolding markText
 length-mark m = simp length-append (omega arith)
-
-pub quality-most : (q m : ℕ) → length (qualityText q m) ≤ 3
-quality-most q m =
-    same-or m noMethod
-    (λ e. omega (arith, ap length (quality-alone q m e)))
-    (λ e. omega (arith, ap length (quality-graded q m e), length-padded 2 m))

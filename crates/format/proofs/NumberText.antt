@@ -1,24 +1,21 @@
 -- Fields of digits: what one says of its bytes, and the texts of numbers, dates and times read back. No text that is read back so is shorter.
 -- Assumes nothing.
-use Prim.Native.Nat.{ℕ, zero, suc, _+_, _-_, _*_, _/_, _%_, _^_, _≤_, _<_, zero-le}
-use mathlib.Core.Path.{_≡_, refl, sym, ap, _∙_, subst}
-use mathlib.Core.Bool.{Bool, true, false, cond, _&&_, _||_, false≢true}
-use mathlib.Core.Logic.{_≢_}
-use mathlib.Core.List.{List, [], _∷_, _++_}
-use native.Mathlib.Nat.{pow-le-pow-right}
+use Prim.Native.Nat.{ℕ, _/_, _%_, _^_, _≤_, _<_, zero-le}
+use mathlib.Core.Path.{_≡_, sym, ap, _∙_, subst}
+use mathlib.Core.Bool.{Bool, true, false, _||_}
+use mathlib.Core.List.{List}
 use native.Mathlib.Omega.{arith}
 use lib.ListN.{length, getD}
-use lib.Dec.{leb, eqb, ltb, lit≤}
-use borrow.Author.Tests.{eq-eqb, ne-eqb, le-leb, leb-true, lt-ltb, le-ltb, ltb-true, eqb-true}
+use lib.Dec.{eqb, ltb}
+use borrow.Author.Tests.{eq-eqb, ne-eqb, le-leb, le-ltb, ltb-true}
 use Rattle.ground.specs.Lists.{all}
 use Rattle.ground.specs.Digits.{isDigit, decimal, padded, dec}
 use Rattle.ground.proofs.Tests.{and-true}
 use Rattle.ground.proofs.Cases.{split, same-or, by}
-use Rattle.ground.proofs.Decimal.{decimal-below}
 use Rattle.ground.proofs.Digits.{length-padded, all-padded, decimal-padded, all-dec, decimal-dec, dec-some, dec-first, dec-most, dec-least}
 use Rattle.format.specs.Bytes.{areAll}
-use Rattle.format.specs.Numbers.{that, orEmpty, numberOf, leadingZero, smallOf, noReason, reasonOf}
-use Rattle.format.specs.Dates.{daysIn, isDay, isDate, isTime, dateOf, timeOf, loadOf}
+use Rattle.format.specs.Numbers.{that, numberOf, leadingZero, smallOf, noReason, reasonOf}
+use Rattle.format.specs.Dates.{isDate, isTime, dateOf, timeOf, loadOf}
 use Rattle.format.specs.Block.{fitReason, reasonText, loadText}
 use Rattle.format.proofs.Numbers.{Got, got}
 use Rattle.format.proofs.Dates.{day-is}

@@ -1,22 +1,20 @@
 -- The text of a value: a reader holds the value by it, and no text that holds the value is shorter. Assumes nothing.
-use Prim.Native.Nat.{ℕ, zero, suc, _+_, _-_, _*_, _/_, _%_, _^_, _≤_, _<_, min, zero-le}
+use Prim.Native.Nat.{ℕ, zero, suc, _+_, _-_, _*_, _/_, _%_, _^_, _≤_, _<_, zero-le}
 use mathlib.Core.Path.{_≡_, refl, sym, ap, _∙_, subst}
-use mathlib.Core.Bool.{Bool, true, false, cond, _&&_, not}
+use mathlib.Core.Bool.{true, not}
 use mathlib.Core.Logic.{_≢_}
 use mathlib.Core.List.{List, [], _∷_, _++_, append-nil}
-use native.Mathlib.Nat.{pow-zero, one-le-pow, mul-le-mul-right, sub-self, add-suc}
-use native.Mathlib.Numerals.{add-one}
+use native.Mathlib.Nat.{pow-zero, sub-self}
 use native.Mathlib.Omega.{arith}
 use lib.ListN.{length, take, drop, length-append, length-drop}
 use lib.Seq.{length-take-le, take-append-seam, drop-append-add}
-use lib.Dec.{leb, eqb, ltb}
-use borrow.Author.Tests.{eq-eqb, ne-eqb, le-leb, leb-true, eqb-true, eqb-false}
+use lib.Dec.{leb, eqb}
+use borrow.Author.Tests.{eq-eqb, ne-eqb, leb-true, eqb-false}
 use Rattle.ground.specs.Lists.{all, spanOf, other}
-use Rattle.ground.specs.Digits.{isDigit, decimal, padded, dec}
+use Rattle.ground.specs.Digits.{isDigit, padded, dec}
 use Rattle.ground.proofs.Tests.{and-true}
-use Rattle.ground.proofs.Cases.{split, same-or, by, both}
-use Rattle.ground.proofs.Decimal.{decimal-below}
-use Rattle.ground.proofs.Digits.{ten, length-padded, all-padded, decimal-padded, all-dec, decimal-dec, dec-some, dec-most, dec-least}
+use Rattle.ground.proofs.Cases.{split, same-or, by}
+use Rattle.ground.proofs.Digits.{ten, length-padded, all-padded, decimal-padded, all-dec, decimal-dec, dec-some, dec-most}
 use Rattle.format.specs.Numbers.{numberOf, times, amount, point, before, behind, decimals, fractionOf, valueOf}
 use Rattle.format.specs.Block.{places, trimmed, fractionText, valueText}
 use Rattle.format.proofs.Numbers.{under-is, Got, got, fraction-under}

@@ -1,15 +1,14 @@
 -- The laws of digits: how many they are, what they write, and that no number is written in fewer. Assumes nothing.
 use Prim.Native.Nat.{ℕ, zero, suc, _+_, _-_, _*_, _/_, _%_, _^_, _≤_, _<_}
-use mathlib.Core.Path.{_≡_, refl, sym, ap, _∙_}
-use mathlib.Core.Bool.{Bool, true, false, _&&_}
-use mathlib.Core.Logic.{_≢_}
+use mathlib.Core.Path.{_≡_, refl, ap, _∙_}
+use mathlib.Core.Bool.{Bool, true}
 use mathlib.Core.List.{List, [], _∷_, _++_}
-use native.Mathlib.Nat.{pow-suc, pow-zero, mul-le-mul-right, pow-le-pow-right}
+use native.Mathlib.Nat.{pow-suc, pow-zero}
 use native.Mathlib.Numerals.{add-one}
 use native.Mathlib.Omega.{arith}
 use lib.ListN.{length, getD, length-append, List·getD-append}
-use lib.Dec.{leb, ltb, lit≤}
-use borrow.Author.Tests.{lt-ltb, le-ltb, le-leb, leb-true}
+use lib.Dec.{leb}
+use borrow.Author.Tests.{lt-ltb, le-ltb, le-leb}
 use Rattle.ground.specs.Lists.{all}
 use Rattle.ground.specs.Digits.{isDigit, decimalFrom, decimal, padded, widthFrom, width, dec}
 use Rattle.ground.proofs.Tests.{and-true}
@@ -120,19 +119,6 @@ width-step n l h = rw (le-ltb n 10 l) (ap suc (width-same 18 19 (n / 10) (omega 
 pub width-small : (n : ℕ) → n < 10 → width n ≡ 1
 unfolding width widthFrom
 width-small n h = rw (lt-ltb n 10 h)
-
--- the number of digits is k for every number from 10^(k - 1) up to 10^k
-pub width-is : (k n : ℕ) → 10 ^ k ≤ n → n < 10 ^ suc k → n < 10 ^ 20 → width n ≡ suc k
-unfolding width
-width-is k n l h b =
-    let a : widthFrom 19 n ≤ suc k = width-least 19 n (suc k) (omega arith) h in
-    let e : n < 10 ^ widthFrom 19 n = width-enough 19 n b in
-    split (suc k) (widthFrom 19 n)
-    (λ g. omega arith)
-    (λ g. absurd (omega (arith, below (widthFrom 19 n) k (omega arith))))
-  where
-    below : (i j : ℕ) → i ≤ j → 10 ^ i ≤ 10 ^ j
-    below i j q = pow-le-pow-right {n = 10} (lit≤ tt) q
 
 -- a number of 64 bits has at most 20 digits
 pub width-most : (n : ℕ) → width n ≤ 20

@@ -1,21 +1,18 @@
 -- The forms that a text takes, as the code meets them: how long it is, the room that each write has, and what the writes together are. Assumes nothing.
-use Prim.Native.Nat.{ℕ, _+_, _-_, _/_, _%_, _^_, _≤_, _<_}
-use mathlib.Core.Path.{_≡_, refl, sym, ap, _∙_}
-use mathlib.Core.Bool.{Bool, true, false, _||_}
+use Prim.Native.Nat.{ℕ, _+_, _-_, _/_, _%_, _≤_, _<_}
+use mathlib.Core.Path.{_≡_, sym, ap, _∙_}
+use mathlib.Core.Bool.{true}
 use mathlib.Core.List.{List, [], _∷_, _++_, append-nil}
 use native.Mathlib.Omega.{arith}
 use lib.ListN.{length, take, drop}
-use lib.Dec.{leb, eqb}
-use borrow.Author.Tests.{eq-eqb, ne-eqb, leb-true, le-leb, lt-leb}
+use borrow.Author.Tests.{eq-eqb, ne-eqb, leb-true}
 use borrow.Rule.Slice.PartMut.{mid-len}
-use mir.Val.{Fits}
-use mir.Syntax.{w64}
 use Rattle.ground.specs.Digits.{padded, width, dec}
 use Rattle.ground.specs.Room.{Put}
 use Rattle.ground.proofs.Cases.{same-or}
 use Rattle.ground.proofs.Digits.{length-padded, length-dec}
 use Rattle.ground.proofs.Room.{put-nothing, put-then, put-as, put-kept}
-use Rattle.format.specs.Block.{places, trimmed, fractionText, valueText, qualityText, reasonText, loadText}
+use Rattle.format.specs.Block.{places, valueText, qualityText, reasonText, loadText}
 use Rattle.format.specs.Numbers.{noReason}
 use Rattle.format.specs.Quality.{noMethod}
 use Rattle.format.proofs.ValueText.{fraction-none, fraction-some, length-plain, length-point}

@@ -1,19 +1,16 @@
 -- A day block by its pieces: the two forms that it takes, how long each is, and the room that each piece has. Assumes nothing.
-use Prim.Native.Nat.{ℕ, zero, suc, _+_, _-_, _*_, _≤_, _<_}
+use Prim.Native.Nat.{ℕ, zero, suc, _+_, _-_, _≤_, _<_}
 use mathlib.Core.Path.{_≡_, refl, sym, ap, _∙_}
-use mathlib.Core.Bool.{Bool, true, false, cond, not, _&&_, _||_}
+use mathlib.Core.Bool.{Bool, true, false, not, _&&_}
 use mathlib.Core.List.{List, [], _∷_, _++_, append-assoc, append-nil}
 use native.Mathlib.Nat.{sub-zero}
 use native.Mathlib.Omega.{arith}
 use lib.ListN.{length, getD, length-append}
-use lib.Dec.{eqb}
-use mir.Val.{Fits}
-use mir.Syntax.{w64}
-use borrow.Author.Tests.{eq-eqb, ne-eqb, eqb-true, not-true, not-false}
+use borrow.Author.Tests.{eq-eqb, ne-eqb, not-true, not-false}
 use Rattle.ground.specs.Lists.{all, from}
 use Rattle.ground.specs.Text.{bytes}
 use Rattle.ground.specs.Digits.{padded}
-use Rattle.ground.specs.Runs.{Run, run, spell}
+use Rattle.ground.specs.Runs.{Run, spell}
 use Rattle.ground.specs.Room.{Put}
 use Rattle.ground.proofs.Tests.{and-true, and-false}
 use Rattle.ground.proofs.Cases.{by}
@@ -27,11 +24,11 @@ use Rattle.format.specs.Block.{fitValue, loadText, comma, crlf, markText, value
 use Rattle.format.specs.declared.DayHead.{DayHead}
 use Rattle.format.specs.declared.Tag.{Tag}
 use Rattle.format.proofs.CoverText.{runs-spell}
-use Rattle.fit.specs.Tags.{tagFrom, markOf, marksFrom, fitTag, fitMarks, Long}
+use Rattle.fit.specs.Tags.{tagFrom, markOf, marksFrom, fitTag, fitMarks}
 use Rattle.block.specs.Cover.{coverFrom, countFrom, Marked, Sized}
 use Rattle.block.specs.Measure.{measureOf}
 use Rattle.block.specs.declared.Measured.{Measured}
-use Rattle.block.specs.declared.Measured.the-variants.{Bytes, Unfit}
+use Rattle.block.specs.declared.Measured.the-variants.{Unfit}
 use Rattle.block.proofs.ValueList.{values-most}
 use Rattle.block.proofs.Covers.{marked-fit}
 use Rattle.writing.specs.Pieces.{frontText, timesText, dayWith, fitHead, fitWith, fitOf, Ready, Sizes}

@@ -1,28 +1,28 @@
 -- Each way out of the writer: the answer that the meaning gives there, and what it leaves of the room. Assumes nothing.
-use Prim.Native.Nat.{ℕ, _+_, _/_, _≤_, _<_}
-use mathlib.Core.Path.{_≡_, refl, sym, ap, ap₂, _∙_}
-use mathlib.Core.Bool.{Bool, true, false, cond, not, _&&_, _||_, and-assoc}
-use mathlib.Core.List.{List, [], _∷_, _++_}
+use Prim.Native.Nat.{ℕ, _≤_, _<_}
+use mathlib.Core.Path.{_≡_, refl, sym, ap₂, _∙_}
+use mathlib.Core.Bool.{Bool, true, false, cond, not, _&&_, _||_}
+use mathlib.Core.List.{List, [], _∷_}
 use native.Mathlib.Omega.{arith}
-use lib.ListN.{length, take, drop, getD}
-use lib.Seq.{sets, length-take-le}
+use lib.ListN.{length, take}
+use lib.Seq.{length-take-le}
 use lib.Dec.{leb, eqb}
 use borrow.Author.Tests.{eq-eqb, ne-eqb, le-leb, lt-leb, leb-true, not-true, not-false}
 use Rattle.ground.specs.Lists.{all, from}
 use Rattle.ground.specs.Room.{Put}
 use Rattle.ground.proofs.Tests.{and-true}
-use Rattle.ground.proofs.Cases.{same-or, by}
+use Rattle.ground.proofs.Cases.{same-or}
 use Rattle.ground.proofs.Room.{sets-front}
 use Rattle.format.specs.Numbers.{isLength, intervalsOf}
 use Rattle.format.specs.Dates.{isDate, isTime}
-use Rattle.format.specs.Answers.{Answer, accepted, refused, refusal, writtenAs}
+use Rattle.format.specs.Answers.{Answer, accepted, refusal, writtenAs}
 use Rattle.format.specs.Day.{Five, five, Day, enoughFor}
-use Rattle.format.specs.Block.{Given, given, intervalsGiven, markGiven, dayGiven, fitMark, fitValue, fitDay, isInside, fitGiven, valuesText, blockOf, recordsOf, writeOf, leftBy, roomOf}
+use Rattle.format.specs.Block.{given, intervalsGiven, markGiven, dayGiven, fitMark, fitValue, fitDay, isInside, fitGiven, valuesText, blockOf, writeOf, roomOf}
 use Rattle.format.specs.declared.DayHead.{DayHead}
 use Rattle.format.specs.declared.Written.{Written}
 use Rattle.format.specs.declared.Written.the-variants.{Block}
 use Rattle.text.specs.Inside.{inside}
-use Rattle.fit.specs.Tags.{tagFrom, markOf, marksFrom, tagInside, insideAt, fitMarks, Long}
+use Rattle.fit.specs.Tags.{tagFrom, markOf, marksFrom, tagInside, insideAt, fitMarks}
 use Rattle.block.specs.declared.Measured.{Measured}
 use Rattle.block.specs.declared.Measured.the-variants.{Bytes, Unfit}
 use Rattle.writing.specs.Pieces.{dayWith, fitHead, fitWith, fitOf, Ready, Sizes}

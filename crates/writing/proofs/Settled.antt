@@ -15,7 +15,7 @@ use Rattle.format.specs.Dates.{isLeap, daysIn, isDay, isDate, isTime}
 use Rattle.format.specs.Quality.{standsAlone, takesMethod, noMethod, needsReason, across, sameMark}
 use Rattle.format.specs.Records.{agrees}
 use Rattle.format.specs.Day.{enoughFor}
-use Rattle.format.specs.Answers.{Answer, accepted, refusal}
+use Rattle.format.specs.Answers.{accepted, refusal}
 use Rattle.format.specs.Block.{Given, given, intervalsGiven, markGiven, dayGiven, fitQuality, fitReason, fitMark, fitValue, fitDay, isInside, fitGiven, places, trimmed, fractionText, valueText, qualityText, reasonText, loadText, crlf, markText, valuesText, runText, coverText, runsIn, isUniform, topText, tailText, blockOf, recordsOf, writeOf, roomOf}
 
 abbrev day : Given

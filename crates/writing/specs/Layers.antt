@@ -6,7 +6,7 @@ use mathlib.Core.Bool.{Bool, cond}
 use lib.ListN.{length}
 use lib.Dec.{leb}
 use Rattle.format.specs.Day.{Day}
-use Rattle.format.specs.Answers.{Answer, accepted, refused, refusal, writtenAs}
+use Rattle.format.specs.Answers.{Answer, accepted, refusal, writtenAs}
 use Rattle.format.specs.Block.{blockOf, recordsOf, leftBy}
 use Rattle.format.specs.declared.Written.{Written}
 

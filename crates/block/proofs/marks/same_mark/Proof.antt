@@ -1,5 +1,6 @@
 -- `block::marks::same_mark` meets its contract. Assumes nothing.
 use Rattle.block.proofs.OneMark.{flags-differ, methods-differ, reasons-differ, marks-same}
+use borrow.Author.Needs.{needs}
 use Rattle.fit.specs.Tags.{tagInside}
 use Rattle.block.proofs.marks.same_mark.Statement.{statement}
 use Rattle.block.proofs.marks.same_mark.Tie as tie
@@ -15,7 +16,7 @@ returns-3 c = search reasons-differ
 
 same-part-requires : tie.Need-same-part-requires
 unfolding tagInside
-same-part-requires c κs = (c .before .before .before .before .before .before .before .before .before .before .pre .0, c .before .before .before .before .before .before .before .before .before .before .pre .1)
+same-part-requires c κs = search needs
 
 returns-4 : tie.Need-returns-4
 returns-4 c = search marks-same
