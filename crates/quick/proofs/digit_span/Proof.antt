@@ -1,16 +1,9 @@
+-- `quick::digit_span` meets its contract. Assumes nothing.
 use Prim.Native.Nat.{_-_}
-use native.Mathlib.Omega.{arith}
-use borrow.Author.Needs.{needs}
 use Rattle.quick.proofs.Spans.{Far, far-none, far-on, far-low, far-high, far-all}
-use Prim.Native.Nat.{_+_, _≤_}
-use lib.ListN.{length, drop}
-use mathlib.Core.Path.{_≡_}
-use Rattle.ground.specs.Digits.{isDigit}
-use Rattle.ground.specs.Lists.{spanOf}
+use borrow.Author.Needs.{needs}
 use Rattle.quick.proofs.digit_span.Statement.{statement}
 use Rattle.quick.proofs.digit_span.Tie as tie
-use Rattle.quick.proofs.digit_span.Reads as reads
-use Rattle.quick.proofs.digit_span.Lts as lts
 
 ruleset laws = (far-none, far-on, far-low, far-high, far-all)
 

@@ -1,13 +1,8 @@
-use Prim.Native.Nat.{_-_}
-use native.Mathlib.Omega.{arith}
+-- `quick::is_value` meets its contract. Assumes nothing.
 use Rattle.format.proofs.Shapes.{value-no-digit, value-digits, value-all, value-apart, value-point-last, value-long, value-fraction}
 use borrow.Author.Needs.{needs}
 use Rattle.quick.proofs.is_value.Statement.{statement}
 use Rattle.quick.proofs.is_value.Tie as tie
-use Rattle.quick.proofs.is_value.Reads as reads
-use Rattle.quick.proofs.is_value.Lts as lts
-use Rattle.leaf.proofs.bytes.all_in.Reads as all-in-reads
-use Rattle.quick.proofs.digit_span.Reads as digit-span-reads
 
 digit-span-requires : tie.Need-digit-span-requires
 digit-span-requires c κs = search needs

@@ -1,12 +1,8 @@
-use Prim.Native.Nat.{_-_}
-use native.Mathlib.Omega.{arith}
+-- `quick::thousandths` meets its contract. Assumes nothing.
 use Rattle.quick.proofs.Shapes.{not-five, no-point, no-first, no-second, no-third, all-five}
 use borrow.Author.Needs.{needs}
 use Rattle.quick.proofs.thousandths.Statement.{statement}
 use Rattle.quick.proofs.thousandths.Tie as tie
-use Rattle.quick.proofs.thousandths.Reads as reads
-use Rattle.quick.proofs.thousandths.Lts as lts
-use Rattle.leaf.proofs.bytes.is_digit.Reads as is-digit-reads
 
 returns : tie.Need-returns
 returns c = search (not-five, no-point, no-first, no-second, no-third, all-five)

@@ -3,12 +3,6 @@ use Rattle.order.proofs.Cases.{marks}
 use borrow.Author.Needs.{needs}
 use Rattle.order.proofs.tests.same_mark.Statement.{statement}
 use Rattle.order.proofs.tests.same_mark.Tie as tie
-<<<<<<< HEAD
-use Rattle.order.proofs.tests.same_mark.Reads as reads
-use Rattle.order.proofs.tests.same_mark.Lts as lts
-use Rattle.leaf.proofs.bytes.same_bytes.Reads as same-bytes-reads
-=======
->>>>>>> 673788bb104ebb20b444c9cc6b9004887e428018
 
 returns : tie.Need-returns
 returns c = search marks

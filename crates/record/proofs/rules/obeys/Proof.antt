@@ -1,47 +1,9 @@
-<<<<<<< HEAD
-use Prim.Native.Nat.{_-_}
-use native.Mathlib.Omega.{arith}
-=======
 -- `record::rules::obeys` meets its contract. Assumes nothing.
->>>>>>> 673788bb104ebb20b444c9cc6b9004887e428018
 use Rattle.format.specs.Records.{obeys}
 use Rattle.record.proofs.Rows.{obeys-is, obeys-number, obeys-graded}
 use borrow.Author.Needs.{needs}
 use Rattle.record.proofs.rules.obeys.Statement.{statement}
 use Rattle.record.proofs.rules.obeys.Tie as tie
-<<<<<<< HEAD
-use Rattle.record.proofs.rules.obeys.Reads as reads
-use Rattle.record.proofs.rules.obeys.Lts as lts
-use Rattle.field.proofs.dates.created.Reads as created-reads
-use Rattle.field.proofs.dates.date.Reads as date-reads
-use Rattle.field.proofs.dates.load_time.Reads as load-time-reads
-use Rattle.field.proofs.dates.next_read_date.Reads as next-read-date-reads
-use Rattle.field.proofs.dates.read_time.Reads as read-time-reads
-use Rattle.field.proofs.dates.time.Reads as time-reads
-use Rattle.field.proofs.numbers.index_read.Reads as index-read-reads
-use Rattle.field.proofs.numbers.interval.Reads as interval-reads
-use Rattle.field.proofs.numbers.interval_length.Reads as interval-length-reads
-use Rattle.field.proofs.numbers.reason.Reads as reason-reads
-use Rattle.field.proofs.numbers.register_read.Reads as register-read-reads
-use Rattle.field.proofs.quality.quality.Reads as quality-reads
-use Rattle.field.proofs.texts.configuration.Reads as configuration-reads
-use Rattle.field.proofs.texts.data_stream.Reads as data-stream-reads
-use Rattle.field.proofs.texts.description.Reads as description-reads
-use Rattle.field.proofs.texts.direction.Reads as direction-reads
-use Rattle.field.proofs.texts.nmi.Reads as nmi-reads
-use Rattle.field.proofs.texts.party.Reads as party-reads
-use Rattle.field.proofs.texts.register.Reads as register-reads
-use Rattle.field.proofs.texts.serial.Reads as serial-reads
-use Rattle.field.proofs.texts.service_order.Reads as service-order-reads
-use Rattle.field.proofs.texts.suffix.Reads as suffix-reads
-use Rattle.field.proofs.texts.trans_code.Reads as trans-code-reads
-use Rattle.field.proofs.texts.unit.Reads as unit-reads
-use Rattle.field.proofs.texts.version.Reads as version-reads
-use Rattle.quick.proofs.is_value.Reads as is-value-reads
-use Rattle.record.proofs.rules.is_graded.Reads as is-graded-reads
-use Rattle.record.proofs.rules.is_number.Reads as is-number-reads
-=======
->>>>>>> 673788bb104ebb20b444c9cc6b9004887e428018
 
 enum-told : tie.Need-enum-told
 enum-told c = search needs
@@ -142,18 +104,9 @@ is-number-requires-5 c κs = search needs
 enum-told-15 : tie.Need-enum-told-15
 enum-told-15 c = search needs
 
-<<<<<<< HEAD
 is-value-requires : tie.Need-is-value-requires
 is-value-requires c κs = search needs
 
-=======
-value-requires : tie.Need-value-requires
-value-requires c κs = search needs
-
-is-number-requires-6 : tie.Need-is-number-requires-6
-is-number-requires-6 c κs = search needs
-
->>>>>>> 673788bb104ebb20b444c9cc6b9004887e428018
 enum-told-16 : tie.Need-enum-told-16
 enum-told-16 c = search needs
 
@@ -169,13 +122,8 @@ enum-told-17 c = search needs
 reason-requires : tie.Need-reason-requires
 reason-requires c κs = search needs
 
-<<<<<<< HEAD
 is-number-requires-6 : tie.Need-is-number-requires-6
 is-number-requires-6 c κs = search needs
-=======
-is-number-requires-7 : tie.Need-is-number-requires-7
-is-number-requires-7 c κs = search needs
->>>>>>> 673788bb104ebb20b444c9cc6b9004887e428018
 
 enum-told-18 : tie.Need-enum-told-18
 enum-told-18 c = search needs
@@ -189,13 +137,8 @@ enum-told-19 c = search needs
 time-requires : tie.Need-time-requires
 time-requires c κs = search needs
 
-<<<<<<< HEAD
 is-number-requires-7 : tie.Need-is-number-requires-7
 is-number-requires-7 c κs = search needs
-=======
-is-number-requires-8 : tie.Need-is-number-requires-8
-is-number-requires-8 c κs = search needs
->>>>>>> 673788bb104ebb20b444c9cc6b9004887e428018
 
 enum-told-20 : tie.Need-enum-told-20
 enum-told-20 c = search needs
@@ -203,13 +146,8 @@ enum-told-20 c = search needs
 load-time-requires : tie.Need-load-time-requires
 load-time-requires c κs = search needs
 
-<<<<<<< HEAD
 is-number-requires-8 : tie.Need-is-number-requires-8
 is-number-requires-8 c κs = search needs
-=======
-is-number-requires-9 : tie.Need-is-number-requires-9
-is-number-requires-9 c κs = search needs
->>>>>>> 673788bb104ebb20b444c9cc6b9004887e428018
 
 enum-told-21 : tie.Need-enum-told-21
 enum-told-21 c = search needs
@@ -217,13 +155,8 @@ enum-told-21 c = search needs
 interval-requires : tie.Need-interval-requires
 interval-requires c κs = search needs
 
-<<<<<<< HEAD
 is-number-requires-9 : tie.Need-is-number-requires-9
 is-number-requires-9 c κs = search needs
-=======
-is-number-requires-10 : tie.Need-is-number-requires-10
-is-number-requires-10 c κs = search needs
->>>>>>> 673788bb104ebb20b444c9cc6b9004887e428018
 
 enum-told-22 : tie.Need-enum-told-22
 enum-told-22 c = search needs
@@ -243,13 +176,8 @@ enum-told-24 c = search needs
 read-time-requires : tie.Need-read-time-requires
 read-time-requires c κs = search needs
 
-<<<<<<< HEAD
 is-number-requires-10 : tie.Need-is-number-requires-10
 is-number-requires-10 c κs = search needs
-=======
-is-number-requires-11 : tie.Need-is-number-requires-11
-is-number-requires-11 c κs = search needs
->>>>>>> 673788bb104ebb20b444c9cc6b9004887e428018
 
 enum-told-25 : tie.Need-enum-told-25
 enum-told-25 c = search needs

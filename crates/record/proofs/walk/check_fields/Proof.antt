@@ -1,36 +1,15 @@
-<<<<<<< HEAD
-use Prim.Native.Nat.{_-_}
-use native.Mathlib.Omega.{arith}
-use borrow.Author.Needs.{needs}
-use Rattle.record.proofs.Turns.{Noted, along-first, along-stops, along-on, along-end, noted-none, noted-first, noted-second}
-use Prim.Native.Nat.{_≤_}
-use Rattle.ground.specs.Lists.{part}
-use Rattle.format.specs.Cut.{fields}
-use Rattle.record.specs.Walk.{firstAsked, secondAsked, Along}
-use mathlib.Core.Path.{_≡_}
-use Rattle.record.proofs.walk.check_fields.Statement.{statement}
-use Rattle.record.proofs.walk.check_fields.Tie as tie
-use Rattle.record.proofs.walk.check_fields.Reads as reads
-use Rattle.record.proofs.walk.check_fields.Lts as lts
-use Rattle.record.proofs.pieces.field_end.Reads as field-end-reads
-use Rattle.record.proofs.rules.obeys.Reads as obeys-reads
-use Rattle.record.proofs.rules.rule_at.Reads as rule-at-reads
-use Rattle.record.proofs.walk.first_asked.Reads as first-asked-reads
-use Rattle.record.proofs.walk.noted.Reads as noted-reads
-use Rattle.record.proofs.walk.passed.Reads as passed-reads
-use Rattle.record.proofs.walk.second_asked.Reads as second-asked-reads
-=======
 -- `record::walk::check_fields` meets its contract. Assumes nothing.
 use Prim.Native.Nat.{_-_}
+use Prim.Native.Nat.{_≤_}
 use Rattle.format.specs.Cut.{fields}
 use Rattle.ground.specs.Lists.{part}
-use Rattle.record.proofs.Turns.{Along, Noted, along-first, along-stops, along-on, along-end, noted-none, noted-on}
-use Rattle.record.specs.Walk.{firstAsked, secondAsked}
+use Rattle.record.proofs.Turns.{Noted, along-first, along-stops, along-on, along-end, noted-none, noted-first, noted-second}
+use Rattle.record.specs.Walk.{firstAsked, secondAsked, Along}
 use borrow.Author.Needs.{needs}
 use mathlib.Core.Path.{_≡_}
+use native.Mathlib.Omega.{arith}
 use Rattle.record.proofs.walk.check_fields.Statement.{statement}
 use Rattle.record.proofs.walk.check_fields.Tie as tie
->>>>>>> 673788bb104ebb20b444c9cc6b9004887e428018
 
 abbrev Inv-loop : tie.InvT-loop
 Inv-loop file at e kind n v w p₀ q₀ b₀ i₀ p q b i = (v ≡ firstAsked kind n) × (w ≡ secondAsked kind n) × Along file at e kind n i b × Noted (fields (part file at e)) at i v p × Noted (fields (part file at e)) at i w q × (1 ≤ i)
@@ -83,19 +62,11 @@ part-obeys-end c = search needs
 obeys-requires : tie.Need-obeys-requires Inv-loop μ-loop
 obeys-requires c κs = search needs
 
-<<<<<<< HEAD
 sub-t26 : tie.Need-sub-t26 Inv-loop μ-loop
 sub-t26 c = search needs
 
 add-t27 : tie.Need-add-t27 Inv-loop μ-loop
 add-t27 c = search needs
-=======
-sub-t25 : tie.Need-sub-t25 Inv-loop μ-loop
-sub-t25 c = search needs
-
-add-t26 : tie.Need-add-t26 Inv-loop μ-loop
-add-t26 c = search needs
->>>>>>> 673788bb104ebb20b444c9cc6b9004887e428018
 
 returns : tie.Need-returns Inv-loop μ-loop
 returns c = search along-stops
@@ -106,16 +77,11 @@ noted-requires c κs = search needs
 noted-requires-2 : tie.Need-noted-requires-2 Inv-loop μ-loop
 noted-requires-2 c κs = search needs
 
-<<<<<<< HEAD
 add-passed : tie.Need-add-passed Inv-loop μ-loop
 add-passed c = search needs
 
 passed-requires : tie.Need-passed-requires Inv-loop μ-loop
 passed-requires c κs = (c .before .before .before .before .before .before .before .before .before .before .before .before .before .pre, along-on _ _ _ _ _ _ _ (c .before .before .before .before .before .before .before .before .before .before .before .before .before .pre) (c .before .before .before .before .before .before .before .before .before .loop .inv .2) _ _ _ (c .before .before .before .before .before .before .before .before .loop-test .taken) (c .before .before .before .before .before .before .field-end .ensures .0) (c .before .before .before .before .before .rule-at .ensures) (c .before .before .before .obeys .ensures) (c .before .before .if1 .left), omega arith)
-=======
-add-i : tie.Need-add-i Inv-loop μ-loop
-add-i c = search needs
->>>>>>> 673788bb104ebb20b444c9cc6b9004887e428018
 
 loop-less : tie.Need-loop-less Inv-loop μ-loop
 loop-less c = search needs

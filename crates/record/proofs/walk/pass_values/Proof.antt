@@ -1,14 +1,12 @@
-use Prim.Native.Nat.{_-_}
-use native.Mathlib.Omega.{arith}
-use borrow.Author.Needs.{needs}
-use Rattle.record.proofs.Turns.{along-value}
-use Rattle.record.specs.Walk.{Typed, Along}
+-- `record::walk::pass_values` meets its contract. Assumes nothing.
 use Prim.Native.Nat.{_+_, _≤_}
+use Prim.Native.Nat.{_-_}
+use Rattle.record.proofs.Turns.{along-value}
+use Rattle.record.specs.Walk.{Along}
+use borrow.Author.Needs.{needs}
+use native.Mathlib.Omega.{arith}
 use Rattle.record.proofs.walk.pass_values.Statement.{statement}
 use Rattle.record.proofs.walk.pass_values.Tie as tie
-use Rattle.record.proofs.walk.pass_values.Reads as reads
-use Rattle.record.proofs.walk.pass_values.Lts as lts
-use Rattle.quick.proofs.thousandths.Reads as thousandths-reads
 
 ruleset laws = (along-value, arith)
 

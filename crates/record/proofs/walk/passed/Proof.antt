@@ -1,13 +1,10 @@
-use Rattle.record.proofs.Turns.{typed-300, along-300}
-use Prim.Native.Nat.{_-_}
-use native.Mathlib.Omega.{arith}
+-- `record::walk::passed` meets its contract. Assumes nothing.
 use Rattle.record.proofs.Turns.{goes-none, goes-values}
+use Rattle.record.proofs.Turns.{typed-300, along-300}
 use borrow.Author.Needs.{needs}
+use native.Mathlib.Omega.{arith}
 use Rattle.record.proofs.walk.passed.Statement.{statement}
 use Rattle.record.proofs.walk.passed.Tie as tie
-use Rattle.record.proofs.walk.passed.Reads as reads
-use Rattle.record.proofs.walk.passed.Lts as lts
-use Rattle.record.proofs.walk.pass_values.Reads as pass-values-reads
 
 returns : tie.Need-returns
 returns c = search needs
