@@ -7,9 +7,8 @@ use lib.ListN.{length, drop}
 use lib.Seq.{drop-nil}
 use borrow.Author.Tests.{ne-eqb, lt-ltb}
 use Rattle.ground.specs.Lists.{part}
-use Rattle.format.specs.Numbers.{numberIn}
 use Rattle.format.specs.Cut.{fields, field}
-use Rattle.format.specs.Records.{indicatorOf, kindIn, intervalsIn, millionths, quantityIn}
+use Rattle.format.specs.Records.{kindIn, intervalsIn, millionths, quantityIn}
 use Rattle.format.specs.Answers.{Answer, accepted, refusal}
 use Rattle.format.specs.Total.{totalsFrom, totalFirst}
 use Rattle.record.specs.Places.{LineEnd, Cut, Rest}
@@ -36,10 +35,10 @@ module _ (file : List ℕ) (at e left : ℕ) (s : LineEnd file at e) (w : Answer
   unfolding totalsFrom
   find-none h = rw (inv, line-none file at e s h, drop-nil)
 
-  module _ (go : e ≡ length file → ⊥) {k : ℕ} (ek : k ≡ numberIn (indicatorOf (field 0 (fields (part file at e))))) where
+  module _ (go : e ≡ length file → ⊥) {k : ℕ} (ek : k ≡ kindIn (fields (part file at e))) where
     module _ (is : k ≡ 200) where
       has-days : totalsAt file at ≡ sumAt file (e + 2) (intervalsIn (fields (part file at e))) ∷ totalsAt file (e + 2)
-      unfolding totalsFrom kindIn
+      unfolding totalsFrom
       has-days = rw (line-more file at e s go, ← ek, is)
 
       pub find-days : {n : ℕ} → left ≡ 0 → n ≡ intervalsIn (fields (part file at e)) → totalFirst (sumAt file (e + 2) n ∷ []) ≡ w
@@ -51,7 +50,7 @@ module _ (file : List ℕ) (at e left : ℕ) (s : LineEnd file at e) (w : Answer
     module _ (not : k ≡ 200 → ⊥) where
       module _ (is : k ≡ 250) where
         has-quantity : totalsAt file at ≡ quantityIn (fields (part file at e)) ∷ totalsAt file (e + 2)
-        unfolding totalsFrom kindIn
+        unfolding totalsFrom
         has-quantity = rw (line-more file at e s go, ← ek, is)
 
         pub find-quantity : {v : ℕ} → left ≡ 0 → v ≡ quantityIn (fields (part file at e)) → v < 10 ^ 13 → accepted (v ∷ []) ≡ w
@@ -61,7 +60,7 @@ module _ (file : List ℕ) (at e left : ℕ) (s : LineEnd file at e) (w : Answer
         find-over z = inv ∙ rw has-quantity (ap totalFirst (total-next left _ (totalsAt file (e + 2)) z))
 
       pub find-other : (k ≡ 250 → ⊥) → w ≡ totalFirst (drop left (totalsAt file (e + 2)))
-      unfolding totalsFrom kindIn
+      unfolding totalsFrom
       find-other h = rw (inv, line-more file at e s go, ← ek, ne-eqb _ _ not, ne-eqb _ _ h)
 
 pub ruleset finds = (find-none, find-days, find-on, find-quantity, find-over, find-other)

@@ -12,9 +12,9 @@ use lib.Dec.{ltb}
 use borrow.Author.Tests.{lt-ltb, le-ltb, ltb-true, ltb-false, ne-eqb}
 use Rattle.ground.specs.Lists.{spanOf, sum, part}
 use Rattle.format.specs.Bytes.{areAll}
-use Rattle.format.specs.Numbers.{numberIn, numberOf, valueOf}
+use Rattle.format.specs.Numbers.{numberOf, valueOf}
 use Rattle.format.specs.Cut.{fields, field}
-use Rattle.format.specs.Records.{indicatorOf, kindIn, millionths, valuesIn}
+use Rattle.format.specs.Records.{kindIn, millionths, valuesIn}
 use Rattle.format.specs.Answers.{Answer, accepted, refusal}
 use Rattle.format.specs.Total.{sumFrom, totalFirst}
 use Rattle.format.specs.declared.Number.{Number}
@@ -122,17 +122,17 @@ module _ (file : List ℕ) (at e n acc whole : ℕ) (s : LineEnd file at e) (inv
       let q : acc ≡ whole = omega arith in
       rw (← q) (held-is acc l)
 
-  module _ (go : e ≡ length file → ⊥) {k : ℕ} (ek : k ≡ numberIn (indicatorOf (field 0 (fields (part file at e))))) where
+  module _ (go : e ≡ length file → ⊥) {k : ℕ} (ek : k ≡ kindIn (fields (part file at e))) where
     -- the next channel
     pub days-end : k ≡ 200 → Is acc ≡ held whole
-    unfolding sumFrom kindIn
+    unfolding sumFrom
     days-end h =
         let t : sumAt file at n ≡ 0 = rw (line-more file at e s go, ← ek, h) in
         let q : acc ≡ whole = omega arith in
         rw (← q) (held-is acc l)
 
     pub days-skip : (k ≡ 200 → ⊥) → (k ≡ 300 → ⊥) → acc + sumAt file (e + 2) n ≡ whole
-    unfolding sumFrom kindIn
+    unfolding sumFrom
     days-skip h g =
         let t : sumAt file at n ≡ sumAt file (e + 2) n = rw (line-more file at e s go, ← ek, ne-eqb _ _ h, ne-eqb _ _ g) in
         omega arith
@@ -141,7 +141,7 @@ module _ (file : List ℕ) (at e n acc whole : ℕ) (s : LineEnd file at e) (inv
     module _ (h : k ≡ 300) (v : ℕ) (z : Rest file (fields (part file at e)) at 2 v e) {x : Number}
         (ex : x ≡ held (acc + sum (valuesFrom n 0 (fields (part file v e))))) where
       day-more : sumAt file at n ≡ sum (valuesFrom n 0 (fields (part file v e))) + sumAt file (e + 2) n
-      unfolding sumFrom kindIn
+      unfolding sumFrom
       day-more = rw (line-more file at e s go, ← ek, h, day-sum file at e v n z)
 
       pub days-over : x ≡ Bad → Bad ≡ held whole

@@ -9,7 +9,7 @@ use borrow.Author.Tests.{ne-eqb}
 use Rattle.ground.specs.Lists.{part}
 use Rattle.format.specs.Numbers.{numberIn, lengthOf, intervalsOf}
 use Rattle.format.specs.Cut.{fields, field}
-use Rattle.format.specs.Records.{indicatorOf, kindIn, intervalsIn}
+use Rattle.format.specs.Records.{kindIn, intervalsIn}
 use Rattle.format.specs.Day.{DayRows, daysFrom}
 use Rattle.record.specs.Places.{LineEnd, Rest}
 use Rattle.record.proofs.Cuts.{rest-first}
@@ -39,12 +39,12 @@ module _ (file : List ℕ) (at e n left : ℕ) (s : LineEnd file at e) (ds : Lis
   unfolding daysFrom
   find-none h = rw (inv, line-none file at e s h, drop-nil)
 
-  module _ (go : e ≡ length file → ⊥) {k : ℕ} (ek : k ≡ numberIn (indicatorOf (field 0 (fields (part file at e))))) where
+  module _ (go : e ≡ length file → ⊥) {k : ℕ} (ek : k ≡ kindIn (fields (part file at e))) where
     behind : at + length (part file at e) + 2 ≡ e + 2
     behind = omega (arith, line-long file at e s, s .order)
 
     is-day : k ≡ 300 → daysAt file at n ≡ dayAt file at e n ∷ daysAt file (e + 2) n
-    unfolding daysFrom kindIn
+    unfolding daysFrom
     is-day h = rw (line-more file at e s go, ← ek, h, behind)
 
     pub find-here : k ≡ 300 → left ≡ 0 → dayAt file at e n ∷ daysAt file (e + 2) n ≡ ds
@@ -54,11 +54,11 @@ module _ (file : List ℕ) (at e n left : ℕ) (s : LineEnd file at e) (ds : Lis
     find-next h z = inv ∙ rw (is-day h) (drop-next left (dayAt file at e n) (daysAt file (e + 2) n) z)
 
     pub find-channel : {m : ℕ} → (k ≡ 300 → ⊥) → k ≡ 200 → m ≡ intervalsIn (fields (part file at e)) → ds ≡ drop left (daysAt file (e + 2) m)
-    unfolding daysFrom kindIn
+    unfolding daysFrom
     find-channel h z em = rw (inv, line-more file at e s go, ← ek, z, ← em, behind)
 
     pub find-other : (k ≡ 300 → ⊥) → (k ≡ 200 → ⊥) → ds ≡ drop left (daysAt file (e + 2) n)
-    unfolding daysFrom kindIn
+    unfolding daysFrom
     find-other h z = rw (inv, line-more file at e s go, ← ek, ne-eqb _ _ h, ne-eqb _ _ z, behind)
 
 pub ruleset finds = (find-none, find-here, find-next, find-channel, find-other)

@@ -1,0 +1,58 @@
+-- `reading::read_day::read_day` meets its contract. Assumes nothing.
+use Rattle.reading.proofs.Entries.{read-refused, read-sound, read-accepted}
+use borrow.Author.Needs.{needs}
+use Rattle.reading.proofs.read_day.read_day.Statement.{statement}
+use Rattle.reading.proofs.read_day.read_day.Tie as tie
+
+check-requires : tie.Need-check-requires
+check-requires c κs = search needs
+
+enum-known-c : tie.Need-enum-known-c
+enum-known-c c = search needs
+
+enum-told : tie.Need-enum-told
+enum-told c = search needs
+
+read-checked-requires : tie.Need-read-checked-requires
+read-checked-requires c κs = search read-sound
+
+returns : tie.Need-returns
+returns c = search read-refused
+
+same-length : tie.Need-same-length
+same-length c = search needs
+
+same-length-2 : tie.Need-same-length-2
+same-length-2 c = search needs
+
+same-length-3 : tie.Need-same-length-3
+same-length-3 c = search needs
+
+same-length-4 : tie.Need-same-length-4
+same-length-4 c = search needs
+
+same-length-5 : tie.Need-same-length-5
+same-length-5 c = search needs
+
+same-length-6 : tie.Need-same-length-6
+same-length-6 c = search needs
+
+returns-2 : tie.Need-returns-2
+returns-2 c = search read-accepted
+
+pub read-day-spec : {M : Type 1} → statement M
+read-day-spec =
+    tie.close
+    (tie.spec
+    check-requires
+    enum-known-c
+    enum-told
+    read-checked-requires
+    returns
+    same-length
+    same-length-2
+    same-length-3
+    same-length-4
+    same-length-5
+    same-length-6
+    returns-2)

@@ -1,0 +1,24 @@
+// Totals one channel.
+use super::check::check;
+use channel::total_of;
+use format::Checked;
+use format::Totalled;
+ghost use mathlib.Core.Path.{_≡_};
+ghost use Rattle.format.specs.Answers.{totalledAs};
+ghost use Rattle.format.specs.Total.{totalOf};
+
+// What the channel of a number from 0 adds up to, in millionths: a 200's is the sum of its days' values, a 250's its quantity. The file's own refusal comes
+// first, then 14 if there is no such channel, then 17 if the exact sum is 2^64 or more.
+pub fn total(file: &[u8], channel: usize) -> Totalled
+    ensures { λ r. ⌜ totalledAs r ≡ totalOf (now (file .entry)) channel ⌝ }
+{
+    let c = check(file);
+    match c {
+        Checked::Refused(x) => Totalled::Refused(x),
+        Checked::Accepted {
+            version: _,
+            channels: _,
+            days: _,
+        } => total_of(file, channel),
+    }
+}
