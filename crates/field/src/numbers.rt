@@ -1,42 +1,15 @@
-// Numbers: digits, indicator, start and end, interval length, reason, value and quantity, register reads.
-use super::Class;
-use super::bytes::all_in;
-use super::bytes::first_at;
+// Numbers: indicator, start and end, interval length, reason, value and quantity, register reads.
 use format::Number;
+use leaf::Class;
+use leaf::bytes::all_in;
+use leaf::bytes::first_at;
+use leaf::digits::digits;
+use leaf::digits::small;
 ghost use mathlib.Core.Path.{_≡_};
-ghost use Prim.Native.Nat.{_≤_, _-_, _^_, min};
-ghost use lib.ListN.{length};
-ghost use Rattle.format.specs.Numbers.{numberOf, leadingZero, smallOf, intervalOf, isLength, lengthOf, intervalsOf, reasonOf, fractionOf, amount, valueOf, areDigits, isRead, isIndexRead};
+ghost use Prim.Native.Nat.{_-_, _^_, min};
+ghost use Rattle.format.specs.Numbers.{intervalOf, isLength, lengthOf, intervalsOf, reasonOf, fractionOf, amount, valueOf, areDigits, isRead, isIndexRead};
 ghost use Rattle.format.specs.Records.{isKind, indicatorOf};
 ghost use Rattle.format.proofs.Numbers.{under};
-
-// The number that least to most digits write.
-pub(crate) fn digits(f: &[u8], least: usize, most: usize) -> Number
-    requires { ⌜ most ≤ 14 ⌝ }
-    ensures { λ r. ⌜ r ≡ numberOf least most (now (f .entry)) ⌝ }
-{
-    let n = f.len();
-    if n < least {
-        return Number::Bad;
-    }
-    if most < n {
-        return Number::Bad;
-    }
-    let mut v: u64 = 0;
-    let mut i: usize = 0;
-    while i < n {
-        let b = f[i];
-        if b < 48 {
-            return Number::Bad;
-        }
-        if 57 < b {
-            return Number::Bad;
-        }
-        v = v * 10 + (b - 48) as u64;
-        i += 1;
-    }
-    Number::Is(v)
-}
 
 fn is_kind(k: u64) -> bool
     ensures { λ r. ⌜ r ≡ isKind k ⌝ }
@@ -79,27 +52,6 @@ pub fn indicator(f: &[u8]) -> Number
         }
         Number::Bad => Number::Bad,
     }
-}
-
-// A zero with more behind it.
-fn leading(f: &[u8]) -> bool
-    ensures { λ r. ⌜ r ≡ leadingZero (now (f .entry)) ⌝ }
-{
-    if 1 < f.len() {
-        return f[0] == 48;
-    }
-    false
-}
-
-// 1 to most digits without a leading zero.
-fn small(f: &[u8], most: usize) -> Number
-    requires { ⌜ most ≤ 14 ⌝ }
-    ensures { λ r. ⌜ r ≡ smallOf most (now (f .entry)) ⌝ }
-{
-    if leading(f) {
-        return Number::Bad;
-    }
-    digits(f, 1, most)
 }
 
 // A 400's start or end.
@@ -258,7 +210,8 @@ pub fn register_read(f: &[u8]) -> bool
 pub fn index_read(f: &[u8]) -> bool
     ensures { λ r. ⌜ r ≡ isIndexRead (now (f .entry)) ⌝ }
 {
-    if f.len() == 0 {
+    let n = f.len();
+    if n == 0 {
         return true;
     }
     register_read(f)

@@ -1,34 +1,12 @@
 // Qualities, and the rules across fields.
-use super::numbers::digits;
 use format::Graded;
 use format::Number;
+use leaf::digits::digits;
+use leaf::flags::needs_reason;
+use leaf::flags::stands_alone;
+use leaf::flags::takes_method;
 ghost use mathlib.Core.Path.{_≡_};
-ghost use Rattle.format.specs.Quality.{standsAlone, takesMethod, qualityOf, needsReason, across};
-
-// A flag that stands without a method in a record of the kind.
-pub fn stands_alone(kind: u64, q: u8) -> bool
-    ensures { λ r. ⌜ r ≡ standsAlone kind q ⌝ }
-{
-    if q == 65 {
-        return true;
-    }
-    if q == 86 {
-        return kind == 300;
-    }
-    false
-}
-
-pub fn takes_method(q: u8) -> bool
-    ensures { λ r. ⌜ r ≡ takesMethod q ⌝ }
-{
-    if q == 69 {
-        return true;
-    }
-    if q == 70 {
-        return true;
-    }
-    q == 83
-}
+ghost use Rattle.format.specs.Quality.{qualityOf, across};
 
 // The quality that a field of a record of the kind says.
 pub fn quality(f: &[u8], kind: u64) -> Graded
@@ -57,15 +35,6 @@ pub fn quality(f: &[u8], kind: u64) -> Graded
         }
     }
     Graded::Bad
-}
-
-fn needs_reason(q: u8) -> bool
-    ensures { λ r. ⌜ r ≡ needsReason q ⌝ }
-{
-    if q == 83 {
-        return true;
-    }
-    q == 70
 }
 
 // A flag, a reason and a description of so many bytes may stand together: S and F need a reason, reason 0 needs a description, V has neither.

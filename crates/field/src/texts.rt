@@ -1,10 +1,10 @@
 // Names and texts: NMI, suffix, data stream, from and to, configuration, register, serial, unit, service order, description, direction, trans code, version.
-use super::Class;
-use super::bytes::all_in;
-use super::bytes::are_all;
-use super::bytes::same_bytes;
-use super::bytes::text;
 use format::Number;
+use leaf::Class;
+use leaf::bytes::all_in;
+use leaf::bytes::are_all;
+use leaf::bytes::same_bytes;
+use leaf::bytes::text;
 ghost use mathlib.Core.Path.{_≡_};
 ghost use Rattle.format.specs.Texts.{isNmi, isSuffix, isStream, isParty, isConfiguration, isRegister, isSerial, isUnit, isServiceOrder, isDescription, isDirection, isTransCode, versionOf};
 

@@ -15,7 +15,7 @@ use borrow.Author.Tests.{le-leb, eq-eqb, ne-eqb, leb-true}
 use Rattle.ground.specs.Lists.{all, spanOf, other}
 use Rattle.ground.specs.Digits.{isDigit, decimal}
 use Rattle.ground.proofs.Tests.{tests, and-false, and-true}
-use Rattle.ground.proofs.Lists.{Passed, passed-stops, passed-all, to-end}
+use Rattle.ground.proofs.Lists.{passed-stops, passed-all, to-end}
 use Rattle.ground.proofs.Decimal.{Read, decimal-below, pow-below}
 use Rattle.format.specs.Bytes.{areAll}
 use Rattle.format.specs.Numbers.{that, orEmpty, numberOf, leadingZero, smallOf, point, before, behind, times, fractionOf, amount, valueOf, areDigits, isRead}
@@ -37,18 +37,24 @@ module _ (least most : ℕ) (s : List ℕ) where
   unfolding numberOf areAll
   number-short h = search tests
 
-  pub number-long : least ≤ length s → most < length s → Bad ≡ numberOf least most s
-  unfolding numberOf areAll
-  number-long l h = search tests
-
   pub number-stops : (v i : ℕ) → i < length s → false ≡ isDigit (getD s i 0) → Read s v i → Bad ≡ numberOf least most s
   unfolding numberOf areAll
   number-stops v i h t r = rw (← passed-stops isDigit s i h t refl (r .passed), and-false)
 
-  pub number-is : (v i : ℕ) → least ≤ length s → length s ≤ most → length s ≤ i → Read s v i → Is v ≡ numberOf least most s
+  pub number-long : least ≤ length s → most < length s → Bad ≡ numberOf least (min most 14) s
   unfolding numberOf areAll
-  number-is v i l h e r =
-      rw (le-leb least (length s) l, le-leb (length s) most h, ← passed-all isDigit s i e (r .passed))
+  number-long l h = let g : min most 14 < length s = omega arith in search tests
+
+  pub number-over : least ≤ length s → 14 < length s → Bad ≡ numberOf least (min most 14) s
+  unfolding numberOf areAll
+  number-over l h = let g : min most 14 < length s = omega arith in search tests
+
+  pub number-is : (v i : ℕ) → least ≤ length s → length s ≤ most → length s ≤ 14 → length s ≤ i → Read s v i
+      → Is v ≡ numberOf least (min most 14) s
+  unfolding numberOf areAll
+  number-is v i l h k e r =
+      let g : length s ≤ min most 14 = omega arith in
+      rw (le-leb least (length s) l, le-leb (length s) (min most 14) g, ← passed-all isDigit s i e (r .passed))
       (ap Is (rw (drop-of-length-le s e) at (r .number)))
 
 -- what a number that was read says of the bytes
@@ -127,29 +133,32 @@ scaled-below v n h l =
     let e : n + (6 - n) ≡ 6 = omega arith in
     omega (arith, mul-lt-mul-of-pos-right h (one-le-pow (6 - n) 10 (lit≤ tt)), sym (pow-add 10 n (6 - n)) ∙ ap (λ (k : ℕ). 10 ^ k) e)
 
-module _ (d : ℕ) (s : List ℕ) {x : Number} {m : ℕ} (f : m ≡ min d 6) (e : x ≡ numberOf 1 m s) where
-  fraction-below : {v t : ℕ} → x ≡ Is v → t ≡ 10 ^ (6 - length s) → v * t < 10 ^ 6
-  fraction-below {v} i q =
-      let g = got 1 m s v (sym e ∙ i) .high in
-      rw q (scaled-below v (length s) (got-below 1 m s v (sym e ∙ i)) (omega arith))
+fraction-below : (d : ℕ) (s : List ℕ) {x : Number} {v t : ℕ} → x ≡ numberOf 1 (min d 6) s → x ≡ Is v → t ≡ 10 ^ (6 - length s) → v * t < 10 ^ 6
+fraction-below d s {x} {v} e i q =
+    let g = got 1 (min d 6) s v (sym e ∙ i) .high in
+    rw q (scaled-below v (length s) (got-below 1 (min d 6) s v (sym e ∙ i)) (omega arith))
+
+module _ (d : ℕ) (s : List ℕ) {x : Number} {m : ℕ} (f : m ≡ min d 6) (e : x ≡ numberOf 1 (min m 14) s) where
+  few : x ≡ numberOf 1 (min d 6) s
+  few = let g : min m 14 ≡ min d 6 = omega arith in rw g at e
 
   pub fraction-fits : {v t : ℕ} → x ≡ Is v → t ≡ 10 ^ (6 - length s) → Fits w64 (v * t)
-  fraction-fits i q = omega (arith, fraction-below i q)
+  fraction-fits i q = omega (arith, fraction-below d s few i q)
 
   pub fraction-is : {v t : ℕ} → x ≡ Is v → t ≡ 10 ^ (6 - length s) → Is (v * t) ≡ fractionOf d s
   unfolding fractionOf
-  fraction-is i q = rw (← f, ← e, i, q)
+  fraction-is i q = rw (← few, i, q)
 
   pub fraction-bad : x ≡ Bad → Bad ≡ fractionOf d s
   unfolding fractionOf
-  fraction-bad i = rw (← f, ← e, i)
+  fraction-bad i = rw (← few, i)
 
 pub fraction-under : (d : ℕ) (s : List ℕ) → under (10 ^ 6) (fractionOf d s)
 unfolding fractionOf
 fraction-under d s = one (numberOf 1 (min d 6) s) refl
   where
     one : (x : Number) → numberOf 1 (min d 6) s ≡ x → under (10 ^ 6) (times (10 ^ (6 - length s)) x)
-    one (Is v) e = fraction-below d s refl refl e refl
+    one (Is v) e = fraction-below d s refl e refl
     one Bad e = tt
 
 -- a whole number and millionths that were handed in

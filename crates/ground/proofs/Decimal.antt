@@ -50,7 +50,7 @@ pub pow-below : (v i n : ℕ) → v < 10 ^ i → i ≤ n → v < 10 ^ n
 pow-below v i n h le = omega (arith, pow-le-pow-right {n = 10} (lit≤ tt) le)
 
 -- ten times a number read so far, and a digit more, fit
-module _ (s : List ℕ) (v i : ℕ) {most : ℕ} (h : i < length s) (l : length s ≤ most) (m : most ≤ 14) (r : Read s v i) where
+module _ (s : List ℕ) (v i : ℕ) (h : i < length s) (l : length s ≤ 14) (r : Read s v i) where
   pub read-fits : Fits w64 (v * 10)
   read-fits = omega (arith, pow-below v i 13 (r .below) (omega arith))
 

@@ -1,5 +1,5 @@
 // Tests on numbers: what may come, an open cover, a 400's intervals, a read time's date, two marks.
-use field::bytes::same_bytes;
+use leaf::bytes::same_bytes;
 use format::Tag;
 ghost use mathlib.Core.Path.{_≡_};
 ghost use mathlib.Core.Bool.{not, _&&_};

@@ -104,6 +104,10 @@ line-ends file at m h e g =
       is = ap (λ (z : ℕ). at + z) (rw (to-end at file) at e);
     }
 
+-- every place has such an end
+pub line-at : (file : List ℕ) (at : ℕ) → at ≤ length file → LineEnd file at (at + lineLen (drop at file))
+line-at file at h = record { order = omega arith; within = omega (arith, lineLen-le (drop at file) .1, length-drop at file); is = refl }
+
 module _ (file : List ℕ) (at e : ℕ) (s : LineEnd file at e) where
   len : lineLen (drop at file) ≡ e - at
   len = omega (arith, s .is)

@@ -1,5 +1,5 @@
 // The fields of a record from left to right, each a part of the file itself, and what the field at a place says.
-use field::bytes::first_at;
+use leaf::bytes::first_at;
 ghost use mathlib.Core.Path.{_≡_};
 ghost use Prim.Native.Nat.{_≤_};
 ghost use lib.ListN.{length};

@@ -1,0 +1,80 @@
+// Numbers that are dates and times.
+ghost use mathlib.Core.Path.{_≡_};
+ghost use Rattle.format.specs.Dates.{isLeap, daysIn, isDate, isTime};
+
+fn is_leap(y: u64) -> bool
+    ensures { λ r. ⌜ r ≡ isLeap y ⌝ }
+{
+    if y % 4 == 0 {
+        if y % 100 == 0 {
+            return y % 400 == 0;
+        }
+        return true;
+    }
+    y % 400 == 0
+}
+
+fn days_in(y: u64, m: u64) -> u64
+    ensures { λ r. ⌜ r ≡ daysIn y m ⌝ }
+{
+    if m == 2 {
+        if is_leap(y) {
+            return 29;
+        }
+        return 28;
+    }
+    if m == 4 {
+        return 30;
+    }
+    if m == 6 {
+        return 30;
+    }
+    if m == 9 {
+        return 30;
+    }
+    if m == 11 {
+        return 30;
+    }
+    31
+}
+
+// A number that is a date, yyyymmdd.
+pub fn is_date(t: u64) -> bool
+    ensures { λ r. ⌜ r ≡ isDate t ⌝ }
+{
+    let y = t / 10000;
+    let m = t / 100 % 100;
+    let d = t % 100;
+    if y < 1900 {
+        return false;
+    }
+    if 2199 < y {
+        return false;
+    }
+    if m < 1 {
+        return false;
+    }
+    if 12 < m {
+        return false;
+    }
+    if d < 1 {
+        return false;
+    }
+    d <= days_in(y, m)
+}
+
+// A number that is a date and a time of day, yyyymmddhhmmss.
+pub fn is_time(t: u64) -> bool
+    ensures { λ r. ⌜ r ≡ isTime t ⌝ }
+{
+    if 24 <= t / 10000 % 100 {
+        return false;
+    }
+    if 60 <= t / 100 % 100 {
+        return false;
+    }
+    if 60 <= t % 100 {
+        return false;
+    }
+    is_date(t / 1000000)
+}

@@ -1,0 +1,2 @@
+// What a file says: a check of the whole.
+pub mod check;

@@ -1,0 +1,538 @@
+-- What is accepted is written by the grammar: by induction on the records, with a claim for each state. Assumes nothing.
+use Prim.Native.Nat.{ℕ, suc, _+_, _≤_, _<_}
+use mathlib.Core.Path.{_≡_, refl, sym, ap, _∙_, subst}
+use mathlib.Core.Bool.{Bool, true, false, true≢false, cond, _&&_}
+use mathlib.Core.List.{List, [], _∷_, _++_}
+use native.Mathlib.Omega.{arith}
+use lib.ListN.{length}
+use lib.Dec.{eqb, leb}
+use borrow.Author.Tests.{eqb-true, eqb-false, eq-eqb, ne-eqb, leb-true, leb-false, not-false}
+use Rattle.format.specs.Cut.{Lines, line, rest, lines, fields}
+use Rattle.format.specs.Records.{kindIn, versionIn, dateIn, firstIn, lastIn, readTimeIn}
+use Rattle.format.specs.Order.{Due, begun, isVaried, alikeWith, on100, on200, on300, on400, on500, on250, on550, on900, afterOf}
+use Rattle.format.specs.Faults.{isLate, covers, isOff, isAlike, onDay, isElsewhere, faultOf}
+use Rattle.format.specs.Answers.{accepted, refused}
+use Rattle.format.specs.File.{after, orGoOn, walkOf}
+use Rattle.format.specs.declared.Fault.{Fault}
+use Rattle.format.specs.declared.Fault.the-variants.{Fine, Stop}
+use Rattle.theorems.specs.Grammar.{Each, Rising, Record, text, IsRecord, Block, Covers, Extra, IsBlock, datesOf, Channel, IsChannel, Reading, IsReading, nem12, nem13, blocksThen, channelsThen, readingsThen, blocksIn, InFormat}
+use Rattle.theorems.proofs.Tests.{by, and-true}
+use Rattle.theorems.proofs.Bytes.{bytesOf, bytes-lines, join-fields, fields-some, fields-bytes}
+use Rattle.theorems.proofs.Rows.{Fields, Ok, is-record}
+use Rattle.theorems.proofs.Says.{intervals-some, version-13, on-day}
+use Rattle.theorems.proofs.Fit.{Fit, fine-fit, Head, h100, h200, more200, h300, h400, h500, h250, h550, h900, basic900, head, only, free-of, Apart, apart-back}
+
+not-refused : {A : Type 0} (n p k f v c d : ℕ) → refused n p k f ≡ accepted (v ∷ c ∷ d ∷ []) → A
+not-refused n p k f v c d e = absurd (let z : true ≡ false = cc in true≢false z)
+
+-- ---- one record on
+
+module _ (st : Due) (p k v c d : ℕ) where
+  told-line : (r : List ℕ) (ls : Lines) → walkOf st p k (line r ls) ≡ accepted (v ∷ c ∷ d ∷ [])
+      → Fit st r × (walkOf (after st r) (p + length r + 2) (k + 1) ls ≡ accepted (v ∷ c ∷ d ∷ []))
+  unfolding walkOf
+  told-line r ls e =
+      by (eqb (st .expect) 9)
+      (λ t. not-refused 13 p k 0 v c d (rw t at e))
+      (λ t. go (faultOf st r) refl (rw t at e))
+    where
+      go : (f : Fault) → faultOf st r ≡ f → orGoOn p k (faultOf st r) (walkOf (after st r) (p + length r + 2) (k + 1) ls) ≡ accepted (v ∷ c ∷ d ∷ [])
+          → Fit st r × (walkOf (after st r) (p + length r + 2) (k + 1) ls ≡ accepted (v ∷ c ∷ d ∷ []))
+      go Fine q h = (fine-fit st r q, rw q at h)
+      go (Stop n o f) q h = not-refused n (p + o) k f v c d (rw q at h)
+
+  told-open : (t : List ℕ) → (st .expect ≡ 9 → ⊥) → walkOf st p k (rest t) ≡ accepted (v ∷ c ∷ d ∷ []) → ⊥
+  unfolding walkOf
+  told-open t x e = not-refused 2 p k 0 v c d (rw (ne-eqb _ _ x) at e)
+
+  told-end : (ls : Lines) → st .expect ≡ 9 → walkOf st p k ls ≡ accepted (v ∷ c ∷ d ∷ []) → (bytesOf ls ≡ []) × (v ≡ st .version) × (c ≡ st .channels) × (d ≡ st .days)
+  unfolding walkOf
+  told-end (line r ls) x e = not-refused 13 p k 0 v c d (rw (eq-eqb _ _ x) at e)
+  told-end (rest []) x e =
+      let z : accepted (st .version ∷ st .channels ∷ st .days ∷ []) ≡ accepted (v ∷ c ∷ d ∷ []) = rw (eq-eqb _ _ x) at e in
+      (refl, cc, cc, cc)
+  told-end (rest (b ∷ t)) x e =
+      not-refused 13 p k 0 v c d
+      (let z : cond (eqb (suc (length t)) 0) (accepted (st .version ∷ st .channels ∷ st .days ∷ [])) (refused 13 p k 0) ≡ accepted (v ∷ c ∷ d ∷ []) = (rw (eq-eqb _ _ x) at e) in
+      rw (ne-eqb (suc (length t)) 0 (λ q. omega arith)) at z)
+
+-- ---- the fields of a fit record: one law for all kinds
+
+fit-fields : (st : Due) (r : List ℕ) → Fit st r → Fields (fields r)
+fit-fields st r f = (fields-some r, fields-bytes r (f .bytes))
+
+fit-rec : (st : Due) (r : List ℕ) (k : ℕ) → Fit st r → kindIn (fields r) ≡ k → (k ≡ 0 → ⊥) → (k ≡ 300 → ⊥) → IsRecord k 0 (fields r)
+fit-rec st r k f e z n =
+    let o : Ok k (cond (eqb k 300) (st .n) 0) (fields r) = subst (λ (x : ℕ). Ok x (cond (eqb x 300) (st .n) 0) (fields r)) e (f .ok) in
+    is-record k 0 (fields r) z (fit-fields st r f) e (subst (λ (b : Bool). Ok k (cond b (st .n) 0) (fields r)) (ne-eqb k 300 n) o)
+
+fit-300 : (st : Due) (r : List ℕ) → Fit st r → kindIn (fields r) ≡ 300 → IsRecord 300 (st .n) (fields r) × (st .date < dateIn (fields r))
+unfolding isLate
+fit-300 st r f e = (
+  is-record 300 (st .n) (fields r) (λ z. omega arith) (fit-fields st r f) e (subst (λ (x : ℕ). Ok x (cond (eqb x 300) (st .n) 0) (fields r)) e (f .ok)),
+  leb-false _ _ (rw e at (f .rises)),
+)
+
+row-bytes : (r : List ℕ) (ls : Lines) (rows : List Record) → bytesOf ls ≡ text rows → bytesOf (line r ls) ≡ text (fields r ∷ rows)
+unfolding text
+row-bytes r ls rows h = rw (h, join-fields r)
+
+-- ---- the claims
+
+rising-tail : (t : ℕ) (ts : List ℕ) → Rising (t ∷ ts) → Rising ts
+rising-tail t [] h = tt
+rising-tail t (a ∷ ts) h = h .1
+
+-- days of a channel, channels, the end
+pub record Rest (n t w a b v c d : ℕ) (rows : List Record) : Type 0 where
+  pub blocks : List Block
+  pub good : Each (IsBlock n) blocks
+  pub rising : Rising (t ∷ datesOf blocks)
+  pub channels : List Channel
+  pub each : Each IsChannel channels
+  pub last : Record
+  pub last-ok : IsRecord 900 0 last
+  pub is : rows ≡ blocksThen blocks (channelsThen channels (last ∷ []))
+  pub version : v ≡ w
+  pub channel-count : c ≡ a + length channels
+  pub day-count : d ≡ b + (length blocks + blocksIn channels)
+
+pub record Extras (st : Due) (ls : Lines) (v c d : ℕ) : Type 0 where
+  pub extra : List Record
+  pub fit : Each (Extra (st .date)) extra
+  pub rows : List Record
+  pub more : Rest (st .n) (st .date) (st .version) (st .channels) (st .days) v c d rows
+  pub bytes : bytesOf ls ≡ text (extra ++ rows)
+
+pub record Under (st : Due) (ls : Lines) (v c d : ℕ) : Type 0 where
+  pub runs : List Record
+  pub each : Each (IsRecord 400 0) runs
+  pub covers : Covers (st .n) (st .next) runs
+  pub apart : Apart st runs
+  pub extra : List Record
+  pub fit : Each (Extra (st .date)) extra
+  pub rows : List Record
+  pub more : Rest (st .n) (st .date) (st .version) (st .channels) (st .days) v c d rows
+  pub bytes : bytesOf ls ≡ text (runs ++ (extra ++ rows))
+
+pub record Firsts (st : Due) (ls : Lines) (v c d : ℕ) : Type 0 where
+  pub rows : List Record
+  pub more : Rest (st .n) (st .date) (st .version) (st .channels) (st .days) v c d rows
+  pub some : 1 ≤ length (more .blocks)
+  pub bytes : bytesOf ls ≡ text rows
+
+pub record Chans (st : Due) (ls : Lines) (v c d : ℕ) : Type 0 where
+  pub channels : List Channel
+  pub each : Each IsChannel channels
+  pub some : 1 ≤ length channels
+  pub last : Record
+  pub last-ok : IsRecord 900 0 last
+  pub bytes : bytesOf ls ≡ text (channelsThen channels (last ∷ []))
+  pub version : v ≡ st .version
+  pub channel-count : c ≡ st .channels + length channels
+  pub day-count : d ≡ st .days + blocksIn channels
+
+-- readings and the end
+pub record Basics (w a b v c d : ℕ) (rows : List Record) : Type 0 where
+  pub readings : List Reading
+  pub each : Each IsReading readings
+  pub last : Record
+  pub last-ok : IsRecord 900 0 last
+  pub is : rows ≡ readingsThen readings (last ∷ [])
+  pub version : v ≡ w
+  pub count : c ≡ a + length readings
+  pub no-days : d ≡ b
+
+pub data Seven (st : Due) (ls : Lines) (v c d : ℕ) : Type 0 where
+  none : (rows : List Record) → Basics (st .version) (st .channels) (st .days) v c d rows → bytesOf ls ≡ text rows → Seven st ls v c d
+  one : (e : Record) (rows : List Record) → IsRecord 550 0 e → Basics (st .version) (st .channels) (st .days) v c d rows → bytesOf ls ≡ text (e ∷ rows) → Seven st ls v c d
+
+pub record Inner (st : Due) : Type 0 where
+  pub in-v : st .expect ≡ 4
+  pub some : 1 ≤ st .n
+  pub low : 1 ≤ st .next
+  pub high : st .next ≤ st .n + 1
+  pub apart : st .n < st .next → st .alike ≡ false
+
+pub record Told (ls : Lines) (v c d : ℕ) : Type 0 where
+  pub ext : (st : Due) (p k : ℕ) → 1 ≤ st .n → 3 ≤ st .expect → st .expect ≤ 5 → (st .expect ≡ 4 → ⊥) → walkOf st p k ls ≡ accepted (v ∷ c ∷ d ∷ []) → Extras st ls v c d
+  pub under : (st : Due) (p k : ℕ) → Inner st → walkOf st p k ls ≡ accepted (v ∷ c ∷ d ∷ []) → Under st ls v c d
+  pub first : (st : Due) (p k : ℕ) → 1 ≤ st .n → st .expect ≡ 2 → walkOf st p k ls ≡ accepted (v ∷ c ∷ d ∷ []) → Firsts st ls v c d
+  pub seven : (st : Due) (p k : ℕ) → st .expect ≡ 7 → walkOf st p k ls ≡ accepted (v ∷ c ∷ d ∷ []) → Seven st ls v c d
+  pub eight : (st : Due) (p k : ℕ) → st .expect ≡ 8 → walkOf st p k ls ≡ accepted (v ∷ c ∷ d ∷ []) → (rows : List Record) × Basics (st .version) (st .channels) (st .days) v c d rows × (bytesOf ls ≡ text rows)
+
+-- ---- a record of each kind
+
+module _ (st : Due) (r : List ℕ) where
+  next-100 : kindIn (fields r) ≡ 100 → after st r ≡ on100 st (fields r)
+  unfolding afterOf
+  next-100 e = rw e
+
+  next-200 : kindIn (fields r) ≡ 200 → after st r ≡ on200 st (fields r)
+  unfolding afterOf
+  next-200 e = rw e
+
+  next-300 : kindIn (fields r) ≡ 300 → after st r ≡ on300 st (fields r)
+  unfolding afterOf
+  next-300 e = rw e
+
+  next-400 : kindIn (fields r) ≡ 400 → after st r ≡ on400 st (fields r)
+  unfolding afterOf
+  next-400 e = rw e
+
+  next-500 : kindIn (fields r) ≡ 500 → after st r ≡ on500 st (fields r)
+  unfolding afterOf
+  next-500 e = rw e
+
+  next-250 : kindIn (fields r) ≡ 250 → after st r ≡ on250 st (fields r)
+  unfolding afterOf
+  next-250 e = rw e
+
+  next-550 : kindIn (fields r) ≡ 550 → after st r ≡ on550 st (fields r)
+  unfolding afterOf
+  next-550 e = rw e
+
+  next-900 : kindIn (fields r) ≡ 900 → after st r ≡ on900 st (fields r)
+  unfolding afterOf
+  next-900 e = rw e
+
+module _ (st : Due) (p k v c d : ℕ) (r : List ℕ) (ls : Lines) (ih : Told ls v c d) (fit : Fit st r)
+    (e : walkOf (after st r) p k ls ≡ accepted (v ∷ c ∷ d ∷ [])) where
+  by-500 : 1 ≤ st .n → kindIn (fields r) ≡ 500 → Extras st (line r ls) v c d
+  unfolding isElsewhere
+  by-500 s q =
+      let u = ih .ext (on500 st (fields r)) p k s (omega arith) (omega arith) (λ z. omega arith) (rw (next-500 st r q) at e) in
+      let t : onDay (st .date) (readTimeIn (fields r)) ≡ true = not-false _ (rw q at (fit .day)) in
+      let g = fit-rec st r 500 fit q (λ z. omega arith) (λ z. omega arith) in
+      record {
+        extra = fields r ∷ u .extra;
+        fit = (on-day (st .date) (fields r) g t, u .fit);
+        rows = u .rows;
+        more = u .more;
+        bytes = row-bytes r ls (u .extra ++ u .rows) (u .bytes);
+      }
+
+  by-900 : kindIn (fields r) ≡ 900 → (rows : List Record) × Rest (st .n) (st .date) (st .version) (st .channels) (st .days) v c d rows × (bytesOf (line r ls) ≡ text rows)
+  unfolding text
+  by-900 q =
+      let w = told-end (on900 st (fields r)) p k v c d ls refl (rw (next-900 st r q) at e) in (
+        fields r ∷ [],
+        record {
+          blocks = [];
+          good = tt;
+          rising = tt;
+          channels = [];
+          each = tt;
+          last = fields r;
+          last-ok = fit-rec st r 900 fit q (λ z. omega arith) (λ z. omega arith);
+          is = refl;
+          version = w .1;
+          channel-count = omega (arith, w .2);
+          day-count = omega (arith, w .3);
+        },
+        row-bytes r ls [] (w .0),
+      )
+
+  by-200 : kindIn (fields r) ≡ 200 → Chans st (line r ls) v c d
+  by-200 q =
+      let g = fit-rec st r 200 fit q (λ z. omega arith) (λ z. omega arith) in
+      let u = ih .first (on200 st (fields r)) p k (intervals-some (fields r) g) refl (rw (next-200 st r q) at e) in
+      let m = u .more in
+      record {
+        channels = record { head = fields r; blocks = m .blocks } ∷ m .channels;
+        each = (record { head = g; some = u .some; blocks = m .good; rising = rising-tail 0 (datesOf (m .blocks)) (m .rising) }, m .each);
+        some = omega arith;
+        last = m .last;
+        last-ok = m .last-ok;
+        bytes = row-bytes r ls (blocksThen (m .blocks) (channelsThen (m .channels) (m .last ∷ []))) (u .bytes ∙ ap text (m .is));
+        version = m .version;
+        channel-count = omega (arith, m .channel-count);
+        day-count = omega (arith, m .day-count);
+      }
+
+  -- a day with what was found behind its 300
+  a-day : (b : Block) (rows : List Record) → kindIn (fields r) ≡ 300 → b .top ≡ fields r → IsBlock (st .n) b
+      → Rest (st .n) (dateIn (fields r)) (st .version) (st .channels) (st .days + 1) v c d rows → bytesOf ls ≡ text (b .runs ++ (b .extra ++ rows)) → Firsts st (line r ls) v c d
+  a-day b rows q t g m h =
+      record {
+        rows = fields r ∷ (b .runs ++ (b .extra ++ rows));
+        more = record {
+          blocks = b ∷ m .blocks;
+          good = (g, m .good);
+          rising = rw t (fit-300 st r fit q .1, m .rising);
+          channels = m .channels;
+          each = m .each;
+          last = m .last;
+          last-ok = m .last-ok;
+          is = rw t (ap (λ (y : List Record). fields r ∷ (b .runs ++ (b .extra ++ y))) (m .is));
+          version = m .version;
+          channel-count = m .channel-count;
+          day-count = omega (arith, m .day-count);
+        };
+        some = omega arith;
+        bytes = row-bytes r ls (b .runs ++ (b .extra ++ rows)) h;
+      }
+
+  by-300 : 1 ≤ st .n → kindIn (fields r) ≡ 300 → Firsts st (line r ls) v c d
+  by-300 s q =
+      let h : walkOf (on300 st (fields r)) p k ls ≡ accepted (v ∷ c ∷ d ∷ []) = rw (next-300 st r q) at e in
+      let g = fit-300 st r fit q .0 in
+      by (isVaried (st .n) (fields r))
+      (λ t.
+      let u = ih .under (on300 st (fields r)) p k (record { in-v = rw t; some = s; low = omega arith; high = omega arith; apart = λ z. refl }) h in
+      a-day (record { top = fields r; runs = u .runs; extra = u .extra }) (u .rows) q refl
+      (record {
+        top = g;
+        runs = u .each;
+        extra = u .fit;
+        only-v = λ z. absurd (true≢false (sym t ∙ z));
+        covers = λ z. u .covers;
+        unlike = λ z. u .apart .first refl;
+      })
+      (u .more) (u .bytes))
+      (λ t.
+      let u = ih .ext (on300 st (fields r)) p k s (rw t (omega arith)) (rw t (omega arith)) (λ z. (let y : 3 ≡ 4 = (rw t at z) in omega arith)) h in
+      a-day (record { top = fields r; runs = []; extra = u .extra }) (u .rows) q refl
+      (record {
+        top = g;
+        runs = tt;
+        extra = u .fit;
+        only-v = λ z. refl;
+        covers = λ z. absurd (true≢false (sym z ∙ t));
+        unlike = λ z. absurd (true≢false (sym z ∙ t));
+      })
+      (u .more) (u .bytes))
+
+  by-400 : Inner st → kindIn (fields r) ≡ 400 → Under st (line r ls) v c d
+  unfolding isOff covers isAlike
+  by-400 i q =
+      let fs : Record = fields r in
+      let x = and-true (eqb (firstIn fs) (st .next)) (leb (firstIn fs) (lastIn fs) && leb (lastIn fs) (st .n)) (not-false _ (rw q at (fit .cover))) in
+      let y = and-true (leb (firstIn fs) (lastIn fs)) (leb (lastIn fs) (st .n)) (x .1) in
+      let a : firstIn fs ≡ st .next = eqb-true _ _ (x .0) in
+      let o : firstIn fs ≤ lastIn fs = leb-true _ _ (y .0) in
+      let w : lastIn fs ≤ st .n = leb-true _ _ (y .1) in
+      let t : (eqb (lastIn fs) (st .n) && alikeWith st fs) ≡ false = rw q at (fit .apart) in
+      let no : st .n < lastIn fs + 1 → alikeWith st fs ≡ false =
+      λ z. (let b : lastIn fs ≡ st .n = omega arith in let g : alikeWith st fs ≡ false = (rw (eq-eqb _ _ b) at t) in g) in
+      let u = ih .under (on400 st fs) p k (record { in-v = refl; some = i .some; low = omega arith; high = omega arith; apart = no }) (rw (next-400 st r q) at e) in
+      record {
+        runs = fs ∷ u .runs;
+        each = (fit-rec st r 400 fit q (λ z. omega arith) (λ z. omega arith), u .each);
+        covers = (a, o, w, u .covers);
+        apart = apart-back st fs (u .runs) (u .apart .later (λ z. omega (arith, i .low)));
+        extra = u .extra;
+        fit = u .fit;
+        rows = u .rows;
+        more = u .more;
+        bytes = row-bytes r ls (u .runs ++ (u .extra ++ u .rows)) (u .bytes);
+      }
+
+  last-13 : kindIn (fields r) ≡ 900 → (rows : List Record) × Basics (st .version) (st .channels) (st .days) v c d rows × (bytesOf (line r ls) ≡ text rows)
+  unfolding text
+  last-13 q =
+      let w = told-end (on900 st (fields r)) p k v c d ls refl (rw (next-900 st r q) at e) in (
+        fields r ∷ [],
+        record { readings = []; each = tt; last = fields r; last-ok = fit-rec st r 900 fit q (λ z. omega arith) (λ z. omega arith); is = refl; version = w .1; count = omega (arith, w .2); no-days = w .3 },
+        row-bytes r ls [] (w .0),
+      )
+
+  by-550 : kindIn (fields r) ≡ 550 → Seven st (line r ls) v c d
+  by-550 q =
+      let u = ih .eight (on550 st (fields r)) p k refl (rw (next-550 st r q) at e) in
+      one (fields r) (u .0) (fit-rec st r 550 fit q (λ z. omega arith) (λ z. omega arith)) (u .1) (row-bytes r ls (u .0) (u .2))
+
+  by-250 : kindIn (fields r) ≡ 250
+      → (rows : List Record) × (b : Basics (st .version) (st .channels) (st .days) v c d rows) × (bytesOf (line r ls) ≡ text rows) × (1 ≤ length (b .readings))
+  by-250 q = go (ih .seven (on250 st (fields r)) p k refl (rw (next-250 st r q) at e))
+    where
+      g : IsRecord 250 0 (fields r)
+      g = fit-rec st r 250 fit q (λ z. omega arith) (λ z. omega arith)
+
+      go : Seven (on250 st (fields r)) ls v c d
+          → (rows : List Record) × (b : Basics (st .version) (st .channels) (st .days) v c d rows) × (bytesOf (line r ls) ≡ text rows) × (1 ≤ length (b .readings))
+      go (none rows b h) = (
+        fields r ∷ rows,
+        record {
+          readings = record { head = fields r; codes = [] } ∷ b .readings;
+          each = (record { head = g; few = omega arith; codes = tt }, b .each);
+          last = b .last;
+          last-ok = b .last-ok;
+          is = ap (λ (x : List Record). fields r ∷ x) (b .is);
+          version = b .version;
+          count = omega (arith, b .count);
+          no-days = b .no-days;
+        },
+        row-bytes r ls rows h,
+        omega arith,
+      )
+      go (one f rows o b h) = (
+        fields r ∷ f ∷ rows,
+        record {
+          readings = record { head = fields r; codes = f ∷ [] } ∷ b .readings;
+          each = (record { head = g; few = omega arith; codes = (o, tt) }, b .each);
+          last = b .last;
+          last-ok = b .last-ok;
+          is = ap (λ (x : List Record). fields r ∷ f ∷ x) (b .is);
+          version = b .version;
+          count = omega (arith, b .count);
+          no-days = b .no-days;
+        },
+        row-bytes r ls (f ∷ rows) h,
+        omega arith,
+      )
+
+-- ---- the induction
+
+-- days, channels or the end, with no 500 before them
+no-extra : (st : Due) (ls : Lines) (v c d : ℕ) (rows : List Record)
+    → Rest (st .n) (st .date) (st .version) (st .channels) (st .days) v c d rows → bytesOf ls ≡ text rows → Extras st ls v c d
+no-extra st ls v c d rows m h = record { extra = []; fit = tt; rows = rows; more = m; bytes = h }
+
+no-blocks : (st : Due) (ls : Lines) (v c d : ℕ) → Chans st ls v c d → Extras st ls v c d
+no-blocks st ls v c d u =
+    no-extra st ls v c d (channelsThen (u .channels) (u .last ∷ []))
+    (record {
+      blocks = [];
+      good = tt;
+      rising = tt;
+      channels = u .channels;
+      each = u .each;
+      last = u .last;
+      last-ok = u .last-ok;
+      is = refl;
+      version = u .version;
+      channel-count = u .channel-count;
+      day-count = omega (arith, u .day-count);
+    })
+    (u .bytes)
+
+-- and with no 400, where the cover is complete
+no-runs : (st : Due) (ls : Lines) (v c d : ℕ) → Inner st → st .n < st .next → Extras st ls v c d → Under st ls v c d
+no-runs st ls v c d i x u =
+    record {
+      runs = [];
+      each = tt;
+      covers = (let y = i .high in omega arith);
+      apart = record { first = λ z. absurd (let y : ⊥ = omega (arith, i .some) in y); later = λ z a b. true≢false (sym a ∙ i .apart x) };
+      extra = u .extra;
+      fit = u .fit;
+      rows = u .rows;
+      more = u .more;
+      bytes = u .bytes;
+    }
+
+module _ (st : Due) (p k v c d : ℕ) (r : List ℕ) (ls : Lines) (ih : Told ls v c d) (f : Fit st r)
+    (e : walkOf (after st r) p k ls ≡ accepted (v ∷ c ∷ d ∷ [])) where
+  ext-on : 1 ≤ st .n → 3 ≤ st .expect → st .expect ≤ 5 → (st .expect ≡ 4 → kindIn (fields r) ≡ 400 → ⊥) → Head (st .expect) (kindIn (fields r)) → Extras st (line r ls) v c d
+  ext-on s a b x (h100 q z) = absurd (let y : ⊥ = omega arith in y)
+  ext-on s a b x (h200 q z) = absurd (let y : ⊥ = omega arith in y)
+  ext-on s a b x (more200 q z w) = no-blocks st (line r ls) v c d (by-200 st p k v c d r ls ih f e q)
+  ext-on s a b x (h300 q z w) = let u = by-300 st p k v c d r ls ih f e s q in no-extra st (line r ls) v c d (u .rows) (u .more) (u .bytes)
+  ext-on s a b x (h400 q z) = absurd (x z q)
+  ext-on s a b x (h500 q z w) = by-500 st p k v c d r ls ih f e s q
+  ext-on s a b x (h250 q z w) = absurd (let y : ⊥ = omega arith in y)
+  ext-on s a b x (h550 q z) = absurd (let y : ⊥ = omega arith in y)
+  ext-on s a b x (h900 q z w) = let u = by-900 st p k v c d r ls ih f e q in no-extra st (line r ls) v c d (u .0) (u .1) (u .2)
+  ext-on s a b x (basic900 q z w) = absurd (let y : ⊥ = omega arith in y)
+
+  under-on : Inner st → Head (st .expect) (kindIn (fields r)) → Under st (line r ls) v c d
+  under-on i h =
+      by (eqb (kindIn (fields r)) 400)
+      (λ t. by-400 st p k v c d r ls ih f e i (eqb-true _ _ t))
+      (λ t. no-runs st (line r ls) v c d i (free-of st (kindIn (fields r)) (f .free) (eqb-false _ _ t) (i .in-v))
+      (ext-on (i .some) (omega (arith, i .in-v)) (omega (arith, i .in-v)) (λ z. eqb-false _ _ t) h))
+
+  seven-on : 7 ≤ st .expect → st .expect ≤ 8 → Head (st .expect) (kindIn (fields r)) → (kindIn (fields r) ≡ 550 → st .expect ≡ 7 → ⊥)
+      → (rows : List Record) × Basics (st .version) (st .channels) (st .days) v c d rows × (bytesOf (line r ls) ≡ text rows)
+  seven-on a b (h100 q z) n = absurd (let y : ⊥ = omega arith in y)
+  seven-on a b (h200 q z) n = absurd (let y : ⊥ = omega arith in y)
+  seven-on a b (more200 q z w) n = absurd (let y : ⊥ = omega arith in y)
+  seven-on a b (h300 q z w) n = absurd (let y : ⊥ = omega arith in y)
+  seven-on a b (h400 q z) n = absurd (let y : ⊥ = omega arith in y)
+  seven-on a b (h500 q z w) n = absurd (let y : ⊥ = omega arith in y)
+  seven-on a b (h250 q z w) n = let u = by-250 st p k v c d r ls ih f e q in (u .0, u .1, u .2)
+  seven-on a b (h550 q z) n = absurd (n q z)
+  seven-on a b (h900 q z w) n = absurd (let y : ⊥ = omega arith in y)
+  seven-on a b (basic900 q z w) n = last-13 st p k v c d r ls ih f e q
+
+pub all-told : (ls : Lines) (v c d : ℕ) → Told ls v c d
+all-told (rest t) v c d =
+    record {
+      ext = λ st p k s a b x e. absurd (told-open st p k v c d t (λ z. omega arith) e);
+      under = λ st p k i e. absurd (told-open st p k v c d t (λ z. omega (arith, i .in-v)) e);
+      first = λ st p k s x e. absurd (told-open st p k v c d t (λ z. omega arith) e);
+      seven = λ st p k x e. absurd (told-open st p k v c d t (λ z. omega arith) e);
+      eight = λ st p k x e. absurd (told-open st p k v c d t (λ z. omega arith) e);
+    }
+all-told (line r ls) v c d =
+    let ih = all-told ls v c d in
+    record {
+      ext = λ st p k s a b x e. (let w = told-line st p k v c d r ls e in ext-on st (p + length r + 2) (k + 1) v c d r ls ih (w .0) (w .1) s a b (λ z y. x z) (head _ _ (w .0 .may)));
+      under = λ st p k i e. (let w = told-line st p k v c d r ls e in under-on st (p + length r + 2) (k + 1) v c d r ls ih (w .0) (w .1) i (head _ _ (w .0 .may)));
+      first = λ st p k s x e. (let w = told-line st p k v c d r ls e in by-300 st (p + length r + 2) (k + 1) v c d r ls ih (w .0) (w .1) s (only _ _ (head _ _ (w .0 .may)) .at-2 x));
+      seven = λ st p k x e. (let w = told-line st p k v c d r ls e in
+          by (eqb (kindIn (fields r)) 550)
+          (λ t. by-550 st (p + length r + 2) (k + 1) v c d r ls ih (w .0) (w .1) (eqb-true _ _ t))
+          (λ t. let u = seven-on st (p + length r + 2) (k + 1) v c d r ls ih (w .0) (w .1) (omega arith) (omega arith) (head _ _ (w .0 .may)) (λ y z. eqb-false _ _ t y) in none (u .0) (u .1) (u .2)));
+      eight = λ st p k x e. (let w = told-line st p k v c d r ls e in seven-on st (p + length r + 2) (k + 1) v c d r ls ih (w .0) (w .1) (omega arith) (omega arith) (head _ _ (w .0 .may)) (λ y z. omega arith));
+    }
+
+-- ---- the header, and the file
+
+channels-on : (st : Due) (p k v c d : ℕ) (ls : Lines) → st .expect ≡ 1 → walkOf st p k ls ≡ accepted (v ∷ c ∷ d ∷ []) → Chans st ls v c d
+channels-on st p k v c d (rest t) x e = absurd (told-open st p k v c d t (λ z. omega arith) e)
+channels-on st p k v c d (line r ls) x e =
+    let w = told-line st p k v c d r ls e in
+    by-200 st (p + length r + 2) (k + 1) v c d r ls (all-told ls v c d) (w .0) (w .1) (only _ _ (head _ _ (w .0 .may)) .at-1 x)
+
+readings-on : (st : Due) (p k v c d : ℕ) (ls : Lines) → st .expect ≡ 6 → walkOf st p k ls ≡ accepted (v ∷ c ∷ d ∷ [])
+    → (rows : List Record) × (b : Basics (st .version) (st .channels) (st .days) v c d rows) × (bytesOf ls ≡ text rows) × (1 ≤ length (b .readings))
+readings-on st p k v c d (rest t) x e = absurd (told-open st p k v c d t (λ z. omega arith) e)
+readings-on st p k v c d (line r ls) x e =
+    let w = told-line st p k v c d r ls e in
+    by-250 st (p + length r + 2) (k + 1) v c d r ls (all-told ls v c d) (w .0) (w .1) (only _ _ (head _ _ (w .0 .may)) .at-6 x)
+
+whole : (v c d : ℕ) (ls : Lines) → length (bytesOf ls) ≤ 1048576 → walkOf begun 0 0 ls ≡ accepted (v ∷ c ∷ d ∷ []) → InFormat (bytesOf ls) v c d
+whole v c d (rest t) m e = absurd (told-open begun 0 0 v c d t (λ z. omega arith) e)
+whole v c d (line r ls) m e =
+    let t = told-line begun 0 0 v c d r ls e in
+    let q : kindIn (fields r) ≡ 100 = only _ _ (head _ _ (t .0 .may)) .at-0 refl in
+    let h : walkOf (on100 begun (fields r)) (0 + length r + 2) (0 + 1) ls ≡ accepted (v ∷ c ∷ d ∷ []) = rw (next-100 begun r q) at (t .1) in
+    let g = fit-rec begun r 100 (t .0) q (λ z. omega arith) (λ z. omega arith) in
+    by (eqb (versionIn (fields r)) 12)
+    (λ x.
+    let u = channels-on (on100 begun (fields r)) (0 + length r + 2) (0 + 1) v c d ls (rw x) h in
+    record {
+      header = fields r;
+      content = nem12 (u .channels);
+      last = u .last;
+      is-header = g;
+      is-content = (u .version ∙ eqb-true _ _ x, u .some, u .each);
+      is-last = u .last-ok;
+      bytes = row-bytes r ls (channelsThen (u .channels) (u .last ∷ [])) (u .bytes);
+      short = m;
+      version = u .version;
+      channels = omega (arith, u .channel-count);
+      days = omega (arith, u .day-count);
+    })
+    (λ x.
+    let w = readings-on (on100 begun (fields r)) (0 + length r + 2) (0 + 1) v c d ls (rw x) h in
+    let u = w .1 in
+    record {
+      header = fields r;
+      content = nem13 (u .readings);
+      last = u .last;
+      is-header = g;
+      is-content = (u .version ∙ version-13 (fields r) g (eqb-false _ _ x), w .3, u .each);
+      is-last = u .last-ok;
+      bytes = row-bytes r ls (readingsThen (u .readings) (u .last ∷ [])) (w .2 ∙ ap text (u .is));
+      short = m;
+      version = u .version;
+      channels = omega (arith, u .count);
+      days = u .no-days;
+    })
+
+pub told-file : (file : List ℕ) (v c d : ℕ) → length file ≤ 1048576 → walkOf begun 0 0 (lines file) ≡ accepted (v ∷ c ∷ d ∷ []) → InFormat file v c d
+told-file file v c d m e =
+    subst (λ (x : List ℕ). InFormat x v c d) (bytes-lines file) (whole v c d (lines file) (rw (bytes-lines file) m) e)

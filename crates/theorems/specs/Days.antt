@@ -1,0 +1,126 @@
+-- What the grammar's blocks and channels say: the days of a file with the places of their records, what each means, the day that bytes are as a block, and the
+-- channels' totals.
+use Prim.Native.Nat.{ℕ, _+_}
+use mathlib.Core.Path.{_≡_}
+use mathlib.Core.List.{List, [], _∷_, _++_}
+use lib.ListN.{length, drop}
+use Rattle.ground.specs.Lists.{sum}
+use Rattle.format.specs.Records.{intervalsIn, valuesIn, quantityIn}
+use Rattle.format.specs.Day.{Row, DayRows, daysOf, Day, dayOf}
+use Rattle.theorems.specs.Grammar.{Record, join, text, IsRecord, Block, IsBlock, Channel, Reading, Content, nem12, nem13, InFormat}
+
+-- ---- places
+
+-- the place behind these records, the first of which starts at p
+abbrev pub behind : ℕ → List Record → ℕ
+behind p [] = p
+behind p (r ∷ rs) = behind (p + length (join r) + 2) rs
+
+-- records one after another from p on, with their places
+abbrev pub rowsAt : ℕ → List Record → List Row
+rowsAt p [] = []
+rowsAt p (r ∷ rs) = record { place = p; cells = r } ∷ rowsAt (p + length (join r) + 2) rs
+
+-- ---- days
+
+abbrev pub rowsOf : Block → List Record
+rowsOf b = b .top ∷ (b .runs ++ b .extra)
+
+-- the day of n intervals that a block at p is
+abbrev pub dayAt : ℕ → ℕ → Block → DayRows
+dayAt p n b = record { n = n; top = record { place = p; cells = b .top }; runs = rowsAt (p + length (join (b .top)) + 2) (b .runs) }
+
+abbrev pub blockDays : ℕ → ℕ → List Block → List DayRows
+blockDays p n [] = []
+blockDays p n (b ∷ bs) = dayAt p n b ∷ blockDays (behind p (rowsOf b)) n bs
+
+abbrev pub behindBlocks : ℕ → List Block → ℕ
+behindBlocks p [] = p
+behindBlocks p (b ∷ bs) = behindBlocks (behind p (rowsOf b)) bs
+
+abbrev pub channelDays : ℕ → List Channel → List DayRows
+channelDays p [] = []
+channelDays p (c ∷ cs) =
+    blockDays (p + length (join (c .head)) + 2) (intervalsIn (c .head)) (c .blocks)
+    ++ channelDays (behindBlocks (p + length (join (c .head)) + 2) (c .blocks)) cs
+
+-- the days of a content at p; "A NEM13 file has no days."
+abbrev pub contentDays : ℕ → Content → List DayRows
+contentDays p (nem12 cs) = channelDays p cs
+contentDays p (nem13 rs) = []
+
+-- ---- what they mean: date, n, times, values and marks, whatever their places
+
+-- a block as a day of n intervals
+unfoldable pub dayIn : ℕ → Block → Day
+dayIn n b = dayOf (dayAt 0 n b)
+
+abbrev pub blockMeanings : ℕ → List Block → List Day
+blockMeanings n [] = []
+blockMeanings n (b ∷ bs) = dayIn n b ∷ blockMeanings n bs
+
+abbrev pub channelMeanings : List Channel → List Day
+channelMeanings [] = []
+channelMeanings (c ∷ cs) = blockMeanings (intervalsIn (c .head)) (c .blocks) ++ channelMeanings cs
+
+abbrev pub meanings : Content → List Day
+meanings (nem12 cs) = channelMeanings cs
+meanings (nem13 rs) = []
+
+-- in some way in which the file is in the format, its day k is this one
+pub record Means (file : List ℕ) (k : ℕ) (day : Day) : Type 0 where
+  pub v : ℕ
+  pub c : ℕ
+  pub d : ℕ
+  pub how : InFormat file v c d
+  pub more : List Day
+  pub is : drop k (meanings (how .content)) ≡ day ∷ more
+
+-- the bytes s are, as a block behind this 200, the day
+pub record ReadsAs (head : Record) (s : List ℕ) (day : Day) : Type 0 where
+  pub is-head : IsRecord 200 0 head
+  pub block : Block
+  pub good : IsBlock (intervalsIn head) block
+  pub bytes : s ≡ text (rowsOf block)
+  pub is : day ≡ dayIn (intervalsIn head) block
+
+-- the file of a 100, a 200, these bytes and a 900
+abbrev pub around : Record → Record → List ℕ → Record → List ℕ
+around header head s last = text (header ∷ head ∷ []) ++ (s ++ text (last ∷ []))
+
+-- at p in the file stands a block that is this day
+pub record StandsAt (file : List ℕ) (p : ℕ) (day : Day) : Type 0 where
+  pub before : List ℕ
+  pub block : List ℕ
+  pub after : List ℕ
+  pub is : file ≡ before ++ (block ++ after)
+  pub place : length before ≡ p
+  pub head : Record
+  pub reads : ReadsAs head block day
+
+-- the file's day k has one meaning: it is what a reading finds, it stands in the file at its place, and no other day is day k
+pub record OneDay (file : List ℕ) (k : ℕ) : Type 0 where
+  pub rows : DayRows
+  pub more : List DayRows
+  pub found : drop k (daysOf file) ≡ rows ∷ more
+  pub means : Means file k (dayOf rows)
+  pub only : (other : Day) → Means file k other → other ≡ dayOf rows
+  pub stands : StandsAt file (rows .top .place) (dayOf rows)
+
+-- ---- totals: "A 200's total is the sum of its days' values; a 250's is its quantity."
+
+abbrev pub blocksTotal : ℕ → List Block → ℕ
+blocksTotal n [] = 0
+blocksTotal n (b ∷ bs) = sum (valuesIn n (b .top)) + blocksTotal n bs
+
+abbrev pub channelTotals : List Channel → List ℕ
+channelTotals [] = []
+channelTotals (c ∷ cs) = blocksTotal (intervalsIn (c .head)) (c .blocks) ∷ channelTotals cs
+
+abbrev pub readingTotals : List Reading → List ℕ
+readingTotals [] = []
+readingTotals (r ∷ rs) = quantityIn (r .head) ∷ readingTotals rs
+
+abbrev pub totals : Content → List ℕ
+totals (nem12 cs) = channelTotals cs
+totals (nem13 rs) = readingTotals rs
