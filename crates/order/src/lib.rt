@@ -2,6 +2,7 @@
 pub mod records;
 pub mod steps;
 pub mod tests;
+
 use format::Tag;
 
 // What may come next.

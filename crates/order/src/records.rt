@@ -55,7 +55,14 @@ fn whole(to: usize, n: usize, alike: bool) -> bool
 
 impl State {
     // Where no V day is open.
-    pub fn closed(expect: u64, version: u64, n: usize, date: u64, channels: usize, days: usize) -> State
+    pub fn closed(
+        expect: u64,
+        version: u64,
+        n: usize,
+        date: u64,
+        channels: usize,
+        days: usize,
+    ) -> State
         ensures { λ r. ⌜ r ≡ closed expect version n date channels days ⌝ }
     {
         State {

@@ -1,6 +1,6 @@
 // Tests on numbers: what may come, an open cover, a 400's intervals, a read time's date, two marks.
-use leaf::bytes::same_bytes;
 use format::Tag;
+use leaf::bytes::same_bytes;
 ghost use mathlib.Core.Path.{_≡_};
 ghost use mathlib.Core.Bool.{not, _&&_};
 ghost use Prim.Native.Nat.{_≤_, _+_};

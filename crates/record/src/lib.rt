@@ -1,8 +1,8 @@
 // The records of a file and their fields: where a record ends, and its fields from left to right, each a part of the file, held to its rule.
 pub mod lines;
 pub mod pieces;
-pub mod says;
 pub mod rules;
+pub mod says;
 pub mod walk;
 
 // What a walk over a record's fields found: each meets its rule, and where the two start that later rules ask for; or the leftmost that breaks its

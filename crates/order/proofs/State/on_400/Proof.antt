@@ -1,77 +1,54 @@
+-- `order::State::on_400` meets its contract. Assumes nothing.
+use Rattle.order.proofs.Late.{on400-7, on400-9, on400-11, on400-on}
 use Rattle.order.proofs.Late.{picked-within}
 use Rattle.order.proofs.Marks.{tag-within}
-use Rattle.order.proofs.Late.{on400-7, on400-9, on400-11, on400-on}
-use native.Mathlib.Omega.{arith}
 use borrow.Author.Needs.{needs}
+use native.Mathlib.Omega.{arith}
 use Rattle.order.proofs.State.on_400.Statement.{statement}
 use Rattle.order.proofs.State.on_400.Tie as tie
-use Rattle.order.proofs.State.on_400.Reads as reads
-use Rattle.order.proofs.State.on_400.Lts as lts
-use Rattle.field.proofs.quality.across.Reads as across-reads
-use Rattle.order.proofs.State.alike_with.Reads as alike-with-reads
-use Rattle.order.proofs.State.first_mark.Reads as first-mark-reads
-use Rattle.order.proofs.records.whole.Reads as whole-reads
-use Rattle.order.proofs.tests.goes_on.Reads as goes-on-reads
-use Rattle.record.proofs.says.interval_at.Reads as interval-at-reads
-use Rattle.record.proofs.says.tag_at.Reads as tag-at-reads
 
--- src/records.rt:149:13
 tag-at-requires : tie.Need-tag-at-requires
 tag-at-requires c κs = search needs
 
--- src/records.rt:150:13
 across-requires : tie.Need-across-requires
 across-requires c κs = search needs
 
--- src/records.rt:151:34
 sub-t13 : tie.Need-sub-t13
 sub-t13 c = search needs
 
--- src/records.rt:151:13
 returns : tie.Need-returns
 returns c = (search on400-7, search needs)
 
--- src/records.rt:153:38
 add-interval-at : tie.Need-add-interval-at
 add-interval-at c = search needs
 
--- src/records.rt:153:13
 interval-at-requires : tie.Need-interval-at-requires
 interval-at-requires c κs = search needs
 
--- src/records.rt:154:13
 interval-at-requires-2 : tie.Need-interval-at-requires-2
 interval-at-requires-2 c κs = search needs
 
--- src/records.rt:155:13
 goes-on-requires : tie.Need-goes-on-requires
 goes-on-requires c κs = search needs
 
--- src/records.rt:156:13
 returns-2 : tie.Need-returns-2
 returns-2 c = (search on400-9, search needs)
 
--- src/records.rt:158:13
 alike-with-requires : tie.Need-alike-with-requires
 alike-with-requires c κs = (search needs, search tag-within)
 
--- src/records.rt:159:12
 whole-requires : tie.Need-whole-requires
 whole-requires c κs = search needs
 
--- src/records.rt:160:13
 returns-3 : tie.Need-returns-3
 returns-3 c = (search on400-11, search needs)
 
--- src/records.rt:167:19
 add-t14 : tie.Need-add-t14
 add-t14 c = search needs
 
--- src/records.rt:168:19
 first-mark-requires : tie.Need-first-mark-requires
 first-mark-requires c κs = search needs
 
--- src/records.rt:145:5
 returns-4 : tie.Need-returns-4
 returns-4 c = let k = c .before .before .before .before .before .before .before .before .before .before .before .before .pre .0 in let h = c .before .before .before .before .before .before .before .before .before .before .before .before .pre .1 in (search on400-on, record { within = search (picked-within, tag-within); small = k .small; channels = omega arith; days = omega arith })
 

@@ -1,22 +1,17 @@
-use Rattle.record.proofs.Ends.{line-room}
-use Rattle.reading.proofs.Walks.{kept-first, stop-within}
-use Rattle.order.specs.State.{seen, Kept}
-use Rattle.format.specs.File.{walkOf, checkOf}
-use Rattle.format.specs.Cut.{lines}
-use lib.ListN.{length, drop}
-use mathlib.Core.Path.{_≡_, refl}
+-- `reading::check::check` meets its contract. Assumes nothing.
 use Prim.Native.Nat.{_+_, _-_, _≤_}
+use Rattle.format.specs.Cut.{lines}
+use Rattle.format.specs.File.{walkOf, checkOf}
+use Rattle.order.specs.State.{seen, Kept}
+use Rattle.reading.proofs.Walks.{kept-first, stop-within}
 use Rattle.reading.proofs.Walks.{too-long, walk-begins, walk-2, walk-stop, walk-on, walk-end, walk-13, kept-on}
-use native.Mathlib.Omega.{arith}
+use Rattle.record.proofs.Ends.{line-room}
 use borrow.Author.Needs.{needs}
+use lib.ListN.{length, drop}
+use mathlib.Core.Path.{_≡_}
+use native.Mathlib.Omega.{arith}
 use Rattle.reading.proofs.check.check.Statement.{statement}
 use Rattle.reading.proofs.check.check.Tie as tie
-use Rattle.reading.proofs.check.check.Reads as reads
-use Rattle.reading.proofs.check.check.Lts as lts
-use Rattle.order.proofs.State.new.Reads as new-reads
-use Rattle.order.proofs.State.step.Reads as step-reads
-use Rattle.reading.proofs.check.refuse.Reads as refuse-reads
-use Rattle.record.proofs.lines.scan.Reads as scan-reads
 
 abbrev Inv-loop : tie.InvT-loop
 Inv-loop file at₀ k₀ st₀ at k st = (at ≤ length file) × (k ≤ at) × Kept file at st × (checkOf file ≡ walkOf (seen file st) at k (lines (drop at file)))
@@ -24,83 +19,63 @@ Inv-loop file at₀ k₀ st₀ at k st = (at ≤ length file) × (k ≤ at) × K
 abbrev μ-loop : tie.MeasureT-loop
 μ-loop file at₀ k₀ st₀ at k st = length file - at
 
--- src/check.rt:27:9
 refuse-requires : tie.Need-refuse-requires Inv-loop μ-loop
 refuse-requires c κs = search needs
 
--- src/check.rt:27:9
 returns : tie.Need-returns Inv-loop μ-loop
 returns c = search too-long
 
--- src/check.rt:31:9
 new-requires : tie.Need-new-requires Inv-loop μ-loop
 new-requires c κs = search needs
 
--- src/check.rt:32:5
 loop-holds : tie.Need-loop-holds Inv-loop μ-loop
 loop-holds c = (omega arith, omega arith, search kept-first, search walk-begins)
 
--- src/check.rt:33:13
 scan-requires : tie.Need-scan-requires Inv-loop μ-loop
 scan-requires c κs = search needs
 
--- src/check.rt:36:13
 refuse-requires-2 : tie.Need-refuse-requires-2 Inv-loop μ-loop
 refuse-requires-2 c κs = search needs
 
--- src/check.rt:36:13
 returns-2 : tie.Need-returns-2 Inv-loop μ-loop
 returns-2 c = search walk-2
 
--- src/check.rt:38:13
 step-requires : tie.Need-step-requires Inv-loop μ-loop
 step-requires c κs = search needs
 
--- src/check.rt:40:24
 enum-known-next : tie.Need-enum-known-next Inv-loop μ-loop
 enum-known-next c = search needs
 
--- src/check.rt:41:39
 add-refuse : tie.Need-add-refuse Inv-loop μ-loop
 add-refuse c = let h : c .before .before .before .before .before .before .before .before .loop .at + c .before .next .given .0 .1 .0 ≤ c .before .before .before .before .before .scan .result .end = stop-within _ _ _ _ (c .before .before .before .step .ensures .1) _ _ _ (c .before .next .given .1) in omega arith
 
--- src/check.rt:41:17
 refuse-requires-3 : tie.Need-refuse-requires-3 Inv-loop μ-loop
 refuse-requires-3 c κs = search needs
 
--- src/check.rt:41:17
 returns-3 : tie.Need-returns-3 Inv-loop μ-loop
 returns-3 c = search walk-stop
 
--- src/check.rt:43:22
 enum-known-next-2 : tie.Need-enum-known-next-2 Inv-loop μ-loop
 enum-known-next-2 c = search needs
 
--- src/check.rt:45:22
 add-at : tie.Need-add-at Inv-loop μ-loop
 add-at c = let r : c .before .before .before .before .before .scan .result .end + 2 ≤ length (c .before .before .before .before .before .before .before .before .before .before .before .before .args .file .now) = line-room _ _ _ (c .before .before .before .before .before .scan .ensures .ends) (c .before .before .before .before .if3 .left) in omega arith
 
--- src/check.rt:46:17
 add-k : tie.Need-add-k Inv-loop μ-loop
 add-k c = search needs
 
--- src/check.rt:32:5
 loop-less : tie.Need-loop-less Inv-loop μ-loop
 loop-less c = let r : c .before .before .before .before .before .scan .result .end + 2 ≤ length (c .before .before .before .before .before .before .before .before .before .before .before .before .args .file .now) = line-room _ _ _ (c .before .before .before .before .before .scan .ensures .ends) (c .before .before .before .before .if3 .left) in omega arith
 
--- src/check.rt:32:5
 loop-again : tie.Need-loop-again Inv-loop μ-loop
 loop-again c = let r : c .before .before .before .before .before .scan .result .end + 2 ≤ length (c .before .before .before .before .before .before .before .before .before .before .before .before .args .file .now) = line-room _ _ _ (c .before .before .before .before .before .scan .ensures .ends) (c .before .before .before .before .if3 .left) in (r, omega arith, search kept-on, search walk-on)
 
--- src/check.rt:51:9
 returns-4 : tie.Need-returns-4 Inv-loop μ-loop
 returns-4 c = search walk-end
 
--- src/check.rt:57:5
 refuse-requires-4 : tie.Need-refuse-requires-4 Inv-loop μ-loop
 refuse-requires-4 c κs = search needs
 
--- src/check.rt:23:1
 returns-5 : tie.Need-returns-5 Inv-loop μ-loop
 returns-5 c = search walk-13
 

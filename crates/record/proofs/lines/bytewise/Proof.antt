@@ -1,15 +1,12 @@
+-- `record::lines::bytewise` meets its contract. Assumes nothing.
 use Prim.Native.Nat.{_-_}
+use Rattle.record.proofs.Blocks.{passes}
+use Rattle.record.specs.Places.{Scanned}
+use borrow.Author.Needs.{needs}
 use lib.ListN.{length}
 use native.Mathlib.Omega.{arith}
-use Rattle.format.specs.Bytes.{plain}
-use Rattle.record.specs.Places.{Scanned}
-use Rattle.record.proofs.Blocks.{Held, Counted, passes}
-use borrow.Author.Needs.{needs}
 use Rattle.record.proofs.lines.bytewise.Statement.{statement}
 use Rattle.record.proofs.lines.bytewise.Tie as tie
-use Rattle.record.proofs.lines.bytewise.Reads as reads
-use Rattle.record.proofs.lines.bytewise.Lts as lts
-use Rattle.record.proofs.lines.is_plain.Reads as is-plain-reads
 
 abbrev Inv-loop : tie.InvT-loop
 Inv-loop s i₀ commas₀ i commas = Scanned s i commas
@@ -17,47 +14,36 @@ Inv-loop s i₀ commas₀ i commas = Scanned s i commas
 abbrev μ-loop : tie.MeasureT-loop
 μ-loop s i₀ commas₀ i commas = length s - i
 
--- src/lib.rt:90:5
 loop-holds : tie.Need-loop-holds Inv-loop μ-loop
 loop-holds c = search needs
 
--- src/lib.rt:91:17
 shared-slice-read-b : tie.Need-shared-slice-read-b Inv-loop μ-loop
 shared-slice-read-b c = search needs
 
--- src/lib.rt:92:13
 is-plain-requires : tie.Need-is-plain-requires Inv-loop μ-loop
 is-plain-requires c κs = search needs
 
--- src/lib.rt:93:13
 returns : tie.Need-returns Inv-loop μ-loop
 returns c = search (passes, arith)
 
--- src/lib.rt:98:9
 add-i : tie.Need-add-i Inv-loop μ-loop
 add-i c = search needs
 
--- src/lib.rt:100:13
 add-commas : tie.Need-add-commas Inv-loop μ-loop
 add-commas c = search needs
 
--- src/lib.rt:90:5
 loop-less : tie.Need-loop-less Inv-loop μ-loop
 loop-less c = search needs
 
--- src/lib.rt:90:5
 loop-again : tie.Need-loop-again Inv-loop μ-loop
 loop-again c = search passes
 
--- src/lib.rt:90:5
 loop-less-2 : tie.Need-loop-less-2 Inv-loop μ-loop
 loop-less-2 c = search needs
 
--- src/lib.rt:90:5
 loop-again-2 : tie.Need-loop-again-2 Inv-loop μ-loop
 loop-again-2 c = search passes
 
--- src/lib.rt:84:1
 returns-2 : tie.Need-returns-2 Inv-loop μ-loop
 returns-2 c = search (passes, arith)
 

@@ -1,14 +1,11 @@
+-- `record::lines::commas_in` meets its contract. Assumes nothing.
 use Prim.Native.Nat.{_-_}
+use Rattle.record.proofs.Blocks.{Counted, passes}
+use borrow.Author.Needs.{needs}
 use lib.ListN.{length}
 use native.Mathlib.Omega.{arith}
-use Rattle.format.specs.Bytes.{plain}
-use Rattle.record.specs.Places.{Scanned}
-use Rattle.record.proofs.Blocks.{Held, Counted, passes}
-use borrow.Author.Needs.{needs}
 use Rattle.record.proofs.lines.commas_in.Statement.{statement}
 use Rattle.record.proofs.lines.commas_in.Tie as tie
-use Rattle.record.proofs.lines.commas_in.Reads as reads
-use Rattle.record.proofs.lines.commas_in.Lts as lts
 
 abbrev Inv-loop : tie.InvT-loop
 Inv-loop s n₀ i₀ n i = Counted s i n
@@ -16,39 +13,30 @@ Inv-loop s n₀ i₀ n i = Counted s i n
 abbrev μ-loop : tie.MeasureT-loop
 μ-loop s n₀ i₀ n i = length s - i
 
--- src/lib.rt:47:5
 loop-holds : tie.Need-loop-holds Inv-loop μ-loop
 loop-holds c = search passes
 
--- src/lib.rt:48:17
 shared-slice-read-b : tie.Need-shared-slice-read-b Inv-loop μ-loop
 shared-slice-read-b c = search needs
 
--- src/lib.rt:49:9
 add-i : tie.Need-add-i Inv-loop μ-loop
 add-i c = search needs
 
--- src/lib.rt:51:13
 add-n : tie.Need-add-n Inv-loop μ-loop
 add-n c = search needs
 
--- src/lib.rt:47:5
 loop-less : tie.Need-loop-less Inv-loop μ-loop
 loop-less c = search needs
 
--- src/lib.rt:47:5
 loop-again : tie.Need-loop-again Inv-loop μ-loop
 loop-again c = search passes
 
--- src/lib.rt:47:5
 loop-less-2 : tie.Need-loop-less-2 Inv-loop μ-loop
 loop-less-2 c = search needs
 
--- src/lib.rt:47:5
 loop-again-2 : tie.Need-loop-again-2 Inv-loop μ-loop
 loop-again-2 c = search passes
 
--- src/lib.rt:41:1
 returns : tie.Need-returns Inv-loop μ-loop
 returns c = search (passes, arith)
 

@@ -1,4 +1,4 @@
-use borrow.Author.Needs.{needs}
+-- `record::lines::is_crlf` meets its contract. Assumes nothing.
 use borrow.Author.Tests.{eq-eqb, ne-eqb}
 use Rattle.record.proofs.lines.is_crlf.Statement.{statement}
 use Rattle.record.proofs.lines.is_crlf.Tie as tie

@@ -1,4 +1,4 @@
-use borrow.Author.Needs.{needs}
+-- `record::lines::is_plain` meets its contract. Assumes nothing.
 use borrow.Author.Tests.{le-leb, lt-leb}
 use Rattle.record.proofs.lines.is_plain.Statement.{statement}
 use Rattle.record.proofs.lines.is_plain.Tie as tie

@@ -1,16 +1,13 @@
-use Prim.Native.Nat.{ℕ, _+_, _≤_, _-_}
+-- `record::lines::line_len` meets its contract. Assumes nothing.
+use Prim.Native.Nat.{_+_, _≤_, _-_}
+use Rattle.record.proofs.Ends.{line-on, line-stop, line-out}
+use Rattle.record.specs.Places.{lineLen}
+use borrow.Author.Needs.{needs}
+use lib.ListN.{length, drop}
 use mathlib.Core.Path.{_≡_, refl, sym, _∙_}
 use native.Mathlib.Omega.{arith}
-use lib.ListN.{length, drop}
-use borrow.Author.Tests.{not-true, not-false}
-use Rattle.record.specs.Places.{lineLen}
-use Rattle.record.proofs.Ends.{line-on, line-stop, line-out}
-use borrow.Author.Needs.{needs}
 use Rattle.record.proofs.lines.line_len.Statement.{statement}
 use Rattle.record.proofs.lines.line_len.Tie as tie
-use Rattle.record.proofs.lines.line_len.Reads as reads
-use Rattle.record.proofs.lines.line_len.Lts as lts
-use Rattle.record.proofs.lines.is_crlf.Reads as is-crlf-reads
 
 abbrev Inv-loop : tie.InvT-loop
 Inv-loop s n i₀ i = (n ≡ length s) × (i ≤ n) × (lineLen s ≡ i + lineLen (drop i s))
@@ -18,31 +15,24 @@ Inv-loop s n i₀ i = (n ≡ length s) × (i ≤ n) × (lineLen s ≡ i + lineLe
 abbrev μ-loop : tie.MeasureT-loop
 μ-loop s n i₀ i = length s - i
 
--- src/lib.rt:32:5
 loop-holds : tie.Need-loop-holds Inv-loop μ-loop
 loop-holds c = search needs
 
--- src/lib.rt:32:11
 add-loop : tie.Need-add-loop Inv-loop μ-loop
 add-loop c = search needs
 
--- src/lib.rt:33:20
 shared-slice-read-is-crlf : tie.Need-shared-slice-read-is-crlf Inv-loop μ-loop
 shared-slice-read-is-crlf c = search needs
 
--- src/lib.rt:33:28
 add-is-crlf : tie.Need-add-is-crlf Inv-loop μ-loop
 add-is-crlf c = search needs
 
--- src/lib.rt:33:26
 shared-slice-read-is-crlf-2 : tie.Need-shared-slice-read-is-crlf-2 Inv-loop μ-loop
 shared-slice-read-is-crlf-2 c = search needs
 
--- src/lib.rt:33:12
 is-crlf-requires : tie.Need-is-crlf-requires Inv-loop μ-loop
 is-crlf-requires c κs = search needs
 
--- src/lib.rt:34:13
 returns : tie.Need-returns Inv-loop μ-loop
 returns c =
     let q = c .before .before .before .before .before in (
@@ -50,15 +40,12 @@ returns c =
       omega arith,
     )
 
--- src/lib.rt:36:9
 add-i : tie.Need-add-i Inv-loop μ-loop
 add-i c = search needs
 
--- src/lib.rt:32:5
 loop-less : tie.Need-loop-less Inv-loop μ-loop
 loop-less c = search needs
 
--- src/lib.rt:32:5
 loop-again : tie.Need-loop-again Inv-loop μ-loop
 loop-again c =
     let q = c .before .before .before .before .before in (
@@ -67,7 +54,6 @@ loop-again c =
       line-on (q .before .before .args .s .now) (q .loop .i) (omega arith) (sym (c .before .is-crlf .ensures) ∙ c .if1 .left) (q .loop .inv .2),
     )
 
--- src/lib.rt:27:1
 returns-2 : tie.Need-returns-2 Inv-loop μ-loop
 returns-2 c =
     let q = c .before in (

@@ -1,51 +1,40 @@
+-- `record::rules::count_of` meets its contract. Assumes nothing.
 use Rattle.format.specs.Records.{rowOf}
 use Rattle.record.proofs.Rows.{count-is, count-300, count-900}
-use native.Mathlib.Omega.{arith}
 use borrow.Author.Needs.{needs}
 use Rattle.record.proofs.rules.count_of.Statement.{statement}
 use Rattle.record.proofs.rules.count_of.Tie as tie
-use Rattle.record.proofs.rules.count_of.Reads as reads
-use Rattle.record.proofs.rules.count_of.Lts as lts
 
--- src/rules.rt:182:16
 add-result : tie.Need-add-result
 add-result c = search needs
 
--- src/rules.rt:175:1
 returns : tie.Need-returns
 unfolding rowOf
 returns c = search count-is
 
--- src/rules.rt:175:1
 returns-2 : tie.Need-returns-2
 unfolding rowOf
 returns-2 c = search count-is
 
--- src/rules.rt:175:1
 returns-3 : tie.Need-returns-3
 returns-3 c = search count-300
 
--- src/rules.rt:175:1
 returns-4 : tie.Need-returns-4
 unfolding rowOf
 returns-4 c = search count-is
 
--- src/rules.rt:175:1
 returns-5 : tie.Need-returns-5
 unfolding rowOf
 returns-5 c = search count-is
 
--- src/rules.rt:175:1
 returns-6 : tie.Need-returns-6
 unfolding rowOf
 returns-6 c = search count-is
 
--- src/rules.rt:175:1
 returns-7 : tie.Need-returns-7
 unfolding rowOf
 returns-7 c = search count-is
 
--- src/rules.rt:175:1
 returns-8 : tie.Need-returns-8
 returns-8 c = search count-900
 

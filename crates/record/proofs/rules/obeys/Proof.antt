@@ -1,430 +1,309 @@
-use Rattle.record.proofs.Rows.{obeys-is, obeys-number, obeys-graded}
+-- `record::rules::obeys` meets its contract. Assumes nothing.
 use Rattle.format.specs.Records.{obeys}
+use Rattle.record.proofs.Rows.{obeys-is, obeys-number, obeys-graded}
 use borrow.Author.Needs.{needs}
 use Rattle.record.proofs.rules.obeys.Statement.{statement}
 use Rattle.record.proofs.rules.obeys.Tie as tie
-use Rattle.record.proofs.rules.obeys.Reads as reads
-use Rattle.record.proofs.rules.obeys.Lts as lts
-use Rattle.field.proofs.dates.created.Reads as created-reads
-use Rattle.field.proofs.dates.date.Reads as date-reads
-use Rattle.field.proofs.dates.load_time.Reads as load-time-reads
-use Rattle.field.proofs.dates.next_read_date.Reads as next-read-date-reads
-use Rattle.field.proofs.dates.read_time.Reads as read-time-reads
-use Rattle.field.proofs.dates.time.Reads as time-reads
-use Rattle.field.proofs.numbers.index_read.Reads as index-read-reads
-use Rattle.field.proofs.numbers.interval.Reads as interval-reads
-use Rattle.field.proofs.numbers.interval_length.Reads as interval-length-reads
-use Rattle.field.proofs.numbers.reason.Reads as reason-reads
-use Rattle.field.proofs.numbers.register_read.Reads as register-read-reads
-use Rattle.field.proofs.numbers.value.Reads as value-reads
-use Rattle.field.proofs.quality.quality.Reads as quality-reads
-use Rattle.field.proofs.texts.configuration.Reads as configuration-reads
-use Rattle.field.proofs.texts.data_stream.Reads as data-stream-reads
-use Rattle.field.proofs.texts.description.Reads as description-reads
-use Rattle.field.proofs.texts.direction.Reads as direction-reads
-use Rattle.field.proofs.texts.nmi.Reads as nmi-reads
-use Rattle.field.proofs.texts.party.Reads as party-reads
-use Rattle.field.proofs.texts.register.Reads as register-reads
-use Rattle.field.proofs.texts.serial.Reads as serial-reads
-use Rattle.field.proofs.texts.service_order.Reads as service-order-reads
-use Rattle.field.proofs.texts.suffix.Reads as suffix-reads
-use Rattle.field.proofs.texts.trans_code.Reads as trans-code-reads
-use Rattle.field.proofs.texts.unit.Reads as unit-reads
-use Rattle.field.proofs.texts.version.Reads as version-reads
-use Rattle.record.proofs.rules.is_graded.Reads as is-graded-reads
-use Rattle.record.proofs.rules.is_number.Reads as is-number-reads
 
--- src/rules.rt:214:28
 enum-told : tie.Need-enum-told
 enum-told c = search needs
 
--- src/rules.rt:215:36
 enum-told-2 : tie.Need-enum-told-2
 enum-told-2 c = search needs
 
--- src/rules.rt:215:36
 version-requires : tie.Need-version-requires
 version-requires c κs = search needs
 
--- src/rules.rt:215:26
 is-number-requires : tie.Need-is-number-requires
 is-number-requires c κs = search needs
 
--- src/rules.rt:216:36
 enum-told-3 : tie.Need-enum-told-3
 enum-told-3 c = search needs
 
--- src/rules.rt:216:36
 created-requires : tie.Need-created-requires
 created-requires c κs = search needs
 
--- src/rules.rt:216:26
 is-number-requires-2 : tie.Need-is-number-requires-2
 is-number-requires-2 c κs = search needs
 
--- src/rules.rt:217:24
 enum-told-4 : tie.Need-enum-told-4
 enum-told-4 c = search needs
 
--- src/rules.rt:217:24
 party-requires : tie.Need-party-requires
 party-requires c κs = search needs
 
--- src/rules.rt:218:22
 enum-told-5 : tie.Need-enum-told-5
 enum-told-5 c = search needs
 
--- src/rules.rt:218:22
 nmi-requires : tie.Need-nmi-requires
 nmi-requires c κs = search needs
 
--- src/rules.rt:219:32
 enum-told-6 : tie.Need-enum-told-6
 enum-told-6 c = search needs
 
--- src/rules.rt:219:32
 configuration-requires : tie.Need-configuration-requires
 configuration-requires c κs = search needs
 
--- src/rules.rt:220:27
 enum-told-7 : tie.Need-enum-told-7
 enum-told-7 c = search needs
 
--- src/rules.rt:220:27
 register-requires : tie.Need-register-requires
 register-requires c κs = search needs
 
--- src/rules.rt:221:25
 enum-told-8 : tie.Need-enum-told-8
 enum-told-8 c = search needs
 
--- src/rules.rt:221:25
 suffix-requires : tie.Need-suffix-requires
 suffix-requires c κs = search needs
 
--- src/rules.rt:222:25
 enum-told-9 : tie.Need-enum-told-9
 enum-told-9 c = search needs
 
--- src/rules.rt:222:25
 data-stream-requires : tie.Need-data-stream-requires
 data-stream-requires c κs = search needs
 
--- src/rules.rt:223:25
 enum-told-10 : tie.Need-enum-told-10
 enum-told-10 c = search needs
 
--- src/rules.rt:223:25
 serial-requires : tie.Need-serial-requires
 serial-requires c κs = search needs
 
--- src/rules.rt:224:23
 enum-told-11 : tie.Need-enum-told-11
 enum-told-11 c = search needs
 
--- src/rules.rt:224:23
 unit-requires : tie.Need-unit-requires
 unit-requires c κs = search needs
 
--- src/rules.rt:225:35
 enum-told-12 : tie.Need-enum-told-12
 enum-told-12 c = search needs
 
--- src/rules.rt:225:35
 interval-length-requires : tie.Need-interval-length-requires
 interval-length-requires c κs = search needs
 
--- src/rules.rt:225:25
 is-number-requires-3 : tie.Need-is-number-requires-3
 is-number-requires-3 c κs = search needs
 
--- src/rules.rt:226:37
 enum-told-13 : tie.Need-enum-told-13
 enum-told-13 c = search needs
 
--- src/rules.rt:226:37
 next-read-date-requires : tie.Need-next-read-date-requires
 next-read-date-requires c κs = search needs
 
--- src/rules.rt:226:27
 is-number-requires-4 : tie.Need-is-number-requires-4
 is-number-requires-4 c κs = search needs
 
--- src/rules.rt:227:33
 enum-told-14 : tie.Need-enum-told-14
 enum-told-14 c = search needs
 
--- src/rules.rt:227:33
 date-requires : tie.Need-date-requires
 date-requires c κs = search needs
 
--- src/rules.rt:227:23
 is-number-requires-5 : tie.Need-is-number-requires-5
 is-number-requires-5 c κs = search needs
 
--- src/rules.rt:228:34
 enum-told-15 : tie.Need-enum-told-15
 enum-told-15 c = search needs
 
--- src/rules.rt:228:34
 value-requires : tie.Need-value-requires
 value-requires c κs = search needs
 
--- src/rules.rt:228:24
 is-number-requires-6 : tie.Need-is-number-requires-6
 is-number-requires-6 c κs = search needs
 
--- src/rules.rt:229:36
 enum-told-16 : tie.Need-enum-told-16
 enum-told-16 c = search needs
 
--- src/rules.rt:229:36
 quality-requires : tie.Need-quality-requires
 quality-requires c κs = search needs
 
--- src/rules.rt:229:26
 is-graded-requires : tie.Need-is-graded-requires
 is-graded-requires c κs = search needs
 
--- src/rules.rt:230:35
 enum-told-17 : tie.Need-enum-told-17
 enum-told-17 c = search needs
 
--- src/rules.rt:230:35
 reason-requires : tie.Need-reason-requires
 reason-requires c κs = search needs
 
--- src/rules.rt:230:25
 is-number-requires-7 : tie.Need-is-number-requires-7
 is-number-requires-7 c κs = search needs
 
--- src/rules.rt:231:30
 enum-told-18 : tie.Need-enum-told-18
 enum-told-18 c = search needs
 
--- src/rules.rt:231:30
 description-requires : tie.Need-description-requires
 description-requires c κs = search needs
 
--- src/rules.rt:232:33
 enum-told-19 : tie.Need-enum-told-19
 enum-told-19 c = search needs
 
--- src/rules.rt:232:33
 time-requires : tie.Need-time-requires
 time-requires c κs = search needs
 
--- src/rules.rt:232:23
 is-number-requires-8 : tie.Need-is-number-requires-8
 is-number-requires-8 c κs = search needs
 
--- src/rules.rt:233:33
 enum-told-20 : tie.Need-enum-told-20
 enum-told-20 c = search needs
 
--- src/rules.rt:233:33
 load-time-requires : tie.Need-load-time-requires
 load-time-requires c κs = search needs
 
--- src/rules.rt:233:23
 is-number-requires-9 : tie.Need-is-number-requires-9
 is-number-requires-9 c κs = search needs
 
--- src/rules.rt:234:37
 enum-told-21 : tie.Need-enum-told-21
 enum-told-21 c = search needs
 
--- src/rules.rt:234:37
 interval-requires : tie.Need-interval-requires
 interval-requires c κs = search needs
 
--- src/rules.rt:234:27
 is-number-requires-10 : tie.Need-is-number-requires-10
 is-number-requires-10 c κs = search needs
 
--- src/rules.rt:235:28
 enum-told-22 : tie.Need-enum-told-22
 enum-told-22 c = search needs
 
--- src/rules.rt:235:28
 trans-code-requires : tie.Need-trans-code-requires
 trans-code-requires c κs = search needs
 
--- src/rules.rt:236:31
 enum-told-23 : tie.Need-enum-told-23
 enum-told-23 c = search needs
 
--- src/rules.rt:236:31
 service-order-requires : tie.Need-service-order-requires
 service-order-requires c κs = search needs
 
--- src/rules.rt:237:37
 enum-told-24 : tie.Need-enum-told-24
 enum-told-24 c = search needs
 
--- src/rules.rt:237:37
 read-time-requires : tie.Need-read-time-requires
 read-time-requires c κs = search needs
 
--- src/rules.rt:237:27
 is-number-requires-11 : tie.Need-is-number-requires-11
 is-number-requires-11 c κs = search needs
 
--- src/rules.rt:238:28
 enum-told-25 : tie.Need-enum-told-25
 enum-told-25 c = search needs
 
--- src/rules.rt:238:28
 index-read-requires : tie.Need-index-read-requires
 index-read-requires c κs = search needs
 
--- src/rules.rt:239:28
 enum-told-26 : tie.Need-enum-told-26
 enum-told-26 c = search needs
 
--- src/rules.rt:239:28
 direction-requires : tie.Need-direction-requires
 direction-requires c κs = search needs
 
--- src/rules.rt:240:31
 enum-told-27 : tie.Need-enum-told-27
 enum-told-27 c = search needs
 
--- src/rules.rt:240:31
 register-read-requires : tie.Need-register-read-requires
 register-read-requires c κs = search needs
 
--- src/rules.rt:210:1
 returns : tie.Need-returns
 unfolding obeys
 returns c = search (obeys-is, obeys-number, obeys-graded)
 
--- src/rules.rt:210:1
 returns-2 : tie.Need-returns-2
 unfolding obeys
 returns-2 c = search (obeys-is, obeys-number, obeys-graded)
 
--- src/rules.rt:210:1
 returns-3 : tie.Need-returns-3
 unfolding obeys
 returns-3 c = search (obeys-is, obeys-number, obeys-graded)
 
--- src/rules.rt:210:1
 returns-4 : tie.Need-returns-4
 unfolding obeys
 returns-4 c = search (obeys-is, obeys-number, obeys-graded)
 
--- src/rules.rt:210:1
 returns-5 : tie.Need-returns-5
 unfolding obeys
 returns-5 c = search (obeys-is, obeys-number, obeys-graded)
 
--- src/rules.rt:210:1
 returns-6 : tie.Need-returns-6
 unfolding obeys
 returns-6 c = search (obeys-is, obeys-number, obeys-graded)
 
--- src/rules.rt:210:1
 returns-7 : tie.Need-returns-7
 unfolding obeys
 returns-7 c = search (obeys-is, obeys-number, obeys-graded)
 
--- src/rules.rt:210:1
 returns-8 : tie.Need-returns-8
 unfolding obeys
 returns-8 c = search (obeys-is, obeys-number, obeys-graded)
 
--- src/rules.rt:210:1
 returns-9 : tie.Need-returns-9
 unfolding obeys
 returns-9 c = search (obeys-is, obeys-number, obeys-graded)
 
--- src/rules.rt:210:1
 returns-10 : tie.Need-returns-10
 unfolding obeys
 returns-10 c = search (obeys-is, obeys-number, obeys-graded)
 
--- src/rules.rt:210:1
 returns-11 : tie.Need-returns-11
 unfolding obeys
 returns-11 c = search (obeys-is, obeys-number, obeys-graded)
 
--- src/rules.rt:210:1
 returns-12 : tie.Need-returns-12
 unfolding obeys
 returns-12 c = search (obeys-is, obeys-number, obeys-graded)
 
--- src/rules.rt:210:1
 returns-13 : tie.Need-returns-13
 unfolding obeys
 returns-13 c = search (obeys-is, obeys-number, obeys-graded)
 
--- src/rules.rt:210:1
 returns-14 : tie.Need-returns-14
 unfolding obeys
 returns-14 c = search (obeys-is, obeys-number, obeys-graded)
 
--- src/rules.rt:210:1
 returns-15 : tie.Need-returns-15
 unfolding obeys
 returns-15 c = search (obeys-is, obeys-number, obeys-graded)
 
--- src/rules.rt:210:1
 returns-16 : tie.Need-returns-16
 unfolding obeys
 returns-16 c = search (obeys-is, obeys-number, obeys-graded)
 
--- src/rules.rt:210:1
 returns-17 : tie.Need-returns-17
 unfolding obeys
 returns-17 c = search (obeys-is, obeys-number, obeys-graded)
 
--- src/rules.rt:210:1
 returns-18 : tie.Need-returns-18
 unfolding obeys
 returns-18 c = search (obeys-is, obeys-number, obeys-graded)
 
--- src/rules.rt:210:1
 returns-19 : tie.Need-returns-19
 unfolding obeys
 returns-19 c = search (obeys-is, obeys-number, obeys-graded)
 
--- src/rules.rt:210:1
 returns-20 : tie.Need-returns-20
 unfolding obeys
 returns-20 c = search (obeys-is, obeys-number, obeys-graded)
 
--- src/rules.rt:210:1
 returns-21 : tie.Need-returns-21
 unfolding obeys
 returns-21 c = search (obeys-is, obeys-number, obeys-graded)
 
--- src/rules.rt:210:1
 returns-22 : tie.Need-returns-22
 unfolding obeys
 returns-22 c = search (obeys-is, obeys-number, obeys-graded)
 
--- src/rules.rt:210:1
 returns-23 : tie.Need-returns-23
 unfolding obeys
 returns-23 c = search (obeys-is, obeys-number, obeys-graded)
 
--- src/rules.rt:210:1
 returns-24 : tie.Need-returns-24
 unfolding obeys
 returns-24 c = search (obeys-is, obeys-number, obeys-graded)
 
--- src/rules.rt:210:1
 returns-25 : tie.Need-returns-25
 unfolding obeys
 returns-25 c = search (obeys-is, obeys-number, obeys-graded)
 
--- src/rules.rt:210:1
 returns-26 : tie.Need-returns-26
 unfolding obeys
 returns-26 c = search (obeys-is, obeys-number, obeys-graded)
 
--- src/rules.rt:210:1
 returns-27 : tie.Need-returns-27
 unfolding obeys
 returns-27 c = search (obeys-is, obeys-number, obeys-graded)

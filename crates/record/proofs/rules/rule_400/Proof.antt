@@ -1,34 +1,27 @@
-use mathlib.Core.Path.{refl}
+-- `record::rules::rule_400` meets its contract. Assumes nothing.
 use Rattle.format.specs.Records.{row400}
 use Rattle.record.proofs.Rows.{off-row}
-use native.Mathlib.Omega.{arith}
 use borrow.Author.Needs.{needs}
+use mathlib.Core.Path.{refl}
+use native.Mathlib.Omega.{arith}
 use Rattle.record.proofs.rules.rule_400.Statement.{statement}
 use Rattle.record.proofs.rules.rule_400.Tie as tie
-use Rattle.record.proofs.rules.rule_400.Reads as reads
-use Rattle.record.proofs.rules.rule_400.Lts as lts
 
--- src/rules.rt:81:1
 returns : tie.Need-returns
 returns c = search needs
 
--- src/rules.rt:81:1
 returns-2 : tie.Need-returns-2
 returns-2 c = search needs
 
--- src/rules.rt:81:1
 returns-3 : tie.Need-returns-3
 returns-3 c = search needs
 
--- src/rules.rt:81:1
 returns-4 : tie.Need-returns-4
 returns-4 c = search needs
 
--- src/rules.rt:81:1
 returns-5 : tie.Need-returns-5
 returns-5 c = search needs
 
--- src/rules.rt:81:1
 returns-6 : tie.Need-returns-6
 returns-6 c = off-row row400 (c .before .args .i) (λ h. omega arith) refl
 

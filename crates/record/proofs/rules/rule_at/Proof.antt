@@ -1,83 +1,59 @@
+-- `record::rules::rule_at` meets its contract. Assumes nothing.
 use Rattle.format.specs.Records.{rowOf}
 use Rattle.record.proofs.Rows.{rule-is, rule-900}
-use native.Mathlib.Omega.{arith}
 use borrow.Author.Needs.{needs}
 use Rattle.record.proofs.rules.rule_at.Statement.{statement}
 use Rattle.record.proofs.rules.rule_at.Tie as tie
-use Rattle.record.proofs.rules.rule_at.Reads as reads
-use Rattle.record.proofs.rules.rule_at.Lts as lts
-use Rattle.record.proofs.rules.rule_100.Reads as rule-100-reads
-use Rattle.record.proofs.rules.rule_200.Reads as rule-200-reads
-use Rattle.record.proofs.rules.rule_250.Reads as rule-250-reads
-use Rattle.record.proofs.rules.rule_300.Reads as rule-300-reads
-use Rattle.record.proofs.rules.rule_400.Reads as rule-400-reads
-use Rattle.record.proofs.rules.rule_500.Reads as rule-500-reads
-use Rattle.record.proofs.rules.rule_550.Reads as rule-550-reads
 
--- src/rules.rt:163:16
 rule-100-requires : tie.Need-rule-100-requires
 rule-100-requires c κs = search needs
 
--- src/rules.rt:164:16
 rule-200-requires : tie.Need-rule-200-requires
 rule-200-requires c κs = search needs
 
--- src/rules.rt:165:16
 rule-300-requires : tie.Need-rule-300-requires
 rule-300-requires c κs = search needs
 
--- src/rules.rt:166:16
 rule-400-requires : tie.Need-rule-400-requires
 rule-400-requires c κs = search needs
 
--- src/rules.rt:167:16
 rule-500-requires : tie.Need-rule-500-requires
 rule-500-requires c κs = search needs
 
--- src/rules.rt:168:16
 rule-250-requires : tie.Need-rule-250-requires
 rule-250-requires c κs = search needs
 
--- src/rules.rt:169:16
 rule-550-requires : tie.Need-rule-550-requires
 rule-550-requires c κs = search needs
 
--- src/rules.rt:158:1
 returns : tie.Need-returns
 unfolding rowOf
 returns c = search rule-is
 
--- src/rules.rt:158:1
 returns-2 : tie.Need-returns-2
 unfolding rowOf
 returns-2 c = search rule-is
 
--- src/rules.rt:158:1
 returns-3 : tie.Need-returns-3
 unfolding rowOf
 returns-3 c = search rule-is
 
--- src/rules.rt:158:1
 returns-4 : tie.Need-returns-4
 unfolding rowOf
 returns-4 c = search rule-is
 
--- src/rules.rt:158:1
 returns-5 : tie.Need-returns-5
 unfolding rowOf
 returns-5 c = search rule-is
 
--- src/rules.rt:158:1
 returns-6 : tie.Need-returns-6
 unfolding rowOf
 returns-6 c = search rule-is
 
--- src/rules.rt:158:1
 returns-7 : tie.Need-returns-7
 unfolding rowOf
 returns-7 c = search rule-is
 
--- src/rules.rt:158:1
 returns-8 : tie.Need-returns-8
 returns-8 c = search rule-900
 

@@ -1,39 +1,31 @@
-use mathlib.Core.Path.{refl}
-use lib.ListN.{take}
+-- `record::rules::rule_meter` meets its contract. Assumes nothing.
 use Rattle.format.specs.Records.{row200}
 use Rattle.record.proofs.Rows.{off-row}
-use native.Mathlib.Omega.{arith}
 use borrow.Author.Needs.{needs}
+use lib.ListN.{take}
+use mathlib.Core.Path.{refl}
+use native.Mathlib.Omega.{arith}
 use Rattle.record.proofs.rules.rule_meter.Statement.{statement}
 use Rattle.record.proofs.rules.rule_meter.Tie as tie
-use Rattle.record.proofs.rules.rule_meter.Reads as reads
-use Rattle.record.proofs.rules.rule_meter.Lts as lts
 
--- src/rules.rt:30:1
 returns : tie.Need-returns
 returns c = search needs
 
--- src/rules.rt:30:1
 returns-2 : tie.Need-returns-2
 returns-2 c = search needs
 
--- src/rules.rt:30:1
 returns-3 : tie.Need-returns-3
 returns-3 c = search needs
 
--- src/rules.rt:30:1
 returns-4 : tie.Need-returns-4
 returns-4 c = search needs
 
--- src/rules.rt:30:1
 returns-5 : tie.Need-returns-5
 returns-5 c = search needs
 
--- src/rules.rt:30:1
 returns-6 : tie.Need-returns-6
 returns-6 c = search needs
 
--- src/rules.rt:30:1
 returns-7 : tie.Need-returns-7
 returns-7 c = off-row (take 7 row200) (c .before .args .i) (λ h. omega arith) refl
 

@@ -1,16 +1,11 @@
+-- `record::says::start_of` meets its contract. Assumes nothing.
 use Rattle.ground.proofs.Tests.{tests}
-use native.Mathlib.Omega.{arith}
-use borrow.Author.Needs.{needs}
 use Rattle.record.proofs.says.start_of.Statement.{statement}
 use Rattle.record.proofs.says.start_of.Tie as tie
-use Rattle.record.proofs.says.start_of.Reads as reads
-use Rattle.record.proofs.says.start_of.Lts as lts
 
--- src/says.rt:109:9
 returns : tie.Need-returns
 returns c = search tests
 
--- src/says.rt:105:1
 returns-2 : tie.Need-returns-2
 returns-2 c = search tests
 
