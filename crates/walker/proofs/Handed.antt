@@ -107,5 +107,9 @@ module _ (file : List ℕ) (at : ℕ) where
       pub handed-inside : f .end ≡ length file → ⊥
       handed-inside = subst Told (sym is ∙ q) told .1
 
+      -- the next record starts behind this one, in the file
+      pub handed-order : at ≤ f .end
+      handed-order = handed-looked .ends .order
+
       pub handed-room : f .end + 2 ≤ length file
       handed-room = line-room file at (f .end) (handed-looked .ends) handed-inside
