@@ -19,6 +19,11 @@ use Rattle.format.specs.declared.Fault.{Fault}
 use Rattle.format.specs.declared.Fault.the-variants.{Fine, Stop}
 use Rattle.record.specs.Places.{lineLen, LineEnd}
 use Rattle.record.proofs.Ends.{line-at, line-none, line-more, line-long}
+use Rattle.record.specs.declared.lines.Found.{Found}
+use Rattle.walker.specs.Handed.{recordAt}
+use Rattle.walker.specs.declared.Record.{Record}
+use Rattle.walker.specs.declared.Record.the-variants.{At, None}
+use Rattle.walker.proofs.Handed.{handed-none, handed-looked, handed-inside}
 use Rattle.order.specs.declared.State.{State}
 use Rattle.order.specs.declared.Step.{Step}
 use Rattle.order.specs.declared.Step.the-variants as step
@@ -49,19 +54,23 @@ turned : (p k : ℕ) (f : Fault) (st : Due) (w : Due → Answer) → orGoOn p k 
 turned p k Fine st w = refl
 turned p k (Stop x o i) st w = refl
 
-module _ (file : List ℕ) (at k e : ℕ) (st : State) (s : LineEnd file at e) (going : st .expect ≡ 9 → ⊥)
+module _ (file : List ℕ) (at k : ℕ) (st : State) (r : Record) (is : r ≡ recordAt file at) (going : st .expect ≡ 9 → ⊥)
     (inv : checkOf file ≡ walkOf (seen file st) at k (lines (drop at file))) where
-  pub walk-2 : {a : Answer} → e ≡ length file → a ≡ refused 2 at k 0 → a ≡ checkOf file
+  pub walk-2 : {a : Answer} → r ≡ None → a ≡ refused 2 at k 0 → a ≡ checkOf file
   unfolding walkOf
-  walk-2 h q = q ∙ sym (inv ∙ rw (line-none file at e s h, ne-eqb _ _ going))
+  walk-2 h q = q ∙ sym (inv ∙ rw (handed-none file at r is h, ne-eqb _ _ going))
 
-  module _ (t : Step) (h : e ≡ length file → ⊥) (et : stepAs file t ≡ nextOf (seen file st) (part file at e)) where
+  module _ (p : ℕ) (f : Found) (h : r ≡ At p f) (t : Step) (et : stepAs file t ≡ nextOf (seen file st) (part file at (f .end))) where
+    abbrev e : ℕ
+    e = f .end
+
     turn : checkOf file ≡ onward at k (behind file e k) (stepAs file t)
     unfolding walkOf nextOf behind
     turn =
+        let s : LineEnd file at e = handed-looked file at r is p f h .ends in
         let m : at + length (part file at e) + 2 ≡ e + 2 = omega (arith, line-long file at e s, s .order) in
         rw et
-        (inv ∙ rw (line-more file at e s h, ne-eqb _ _ going, m)
+        (inv ∙ rw (line-more file at e s (handed-inside file at r is p f h), ne-eqb _ _ going, m)
         (turned at k (faultOf (seen file st) (part file at e)) (after (seen file st) (part file at e)) (behind file e k)))
 
     pub walk-stop : {a : Answer} (x o i : ℕ) → t ≡ step.Stop x o i → a ≡ refused x (at + o) k i → a ≡ checkOf file

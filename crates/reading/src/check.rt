@@ -3,7 +3,8 @@ use format::Checked;
 use format::Refusal;
 use order::State;
 use order::Step;
-use record::lines::scan;
+use walker::Record;
+use walker::record_at;
 ghost use mathlib.Core.Path.{_≡_};
 ghost use Rattle.format.specs.Answers.{checkedAs, refused};
 ghost use Rattle.format.specs.File.{checkOf};
@@ -30,11 +31,11 @@ pub fn check(file: &[u8]) -> Checked
     let mut k: usize = 0;
     let mut st = State::new();
     while st.expect != 9 {
-        let found = scan(file, at);
-        let e = found.end;
-        if e == file.len() {
+        let handed = record_at(file, at);
+        let Record::At(_, found) = handed else {
             return refuse(2, at, k, 0);
-        }
+        };
+        let e = found.end;
         let next = st.step(file, at, found);
         match next {
             Step::Stop(number, o, field) => {

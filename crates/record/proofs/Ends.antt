@@ -55,7 +55,7 @@ module _ (s : List ℕ) (i : ℕ) where
 -- ---- the first record, and the rest of them
 
 -- a CR LF is within the list, or none is there
-pub lineLen-le : (s : List ℕ) → (lineLen s < length s → lineLen s + 2 ≤ length s) × (lineLen s ≤ length s)
+lineLen-le : (s : List ℕ) → (lineLen s < length s → lineLen s + 2 ≤ length s) × (lineLen s ≤ length s)
 unfolding lineLen
 lineLen-le [] = omega arith
 lineLen-le (b ∷ []) = omega arith

@@ -4,7 +4,7 @@ use mathlib.Core.Path.{_≡_, refl, sym, _∙_, subst}
 use mathlib.Core.List.{List, [], _∷_}
 use mathlib.Core.Bool.{Bool, true, false, cond}
 use native.Mathlib.Omega.{arith}
-use lib.ListN.{length, take, drop, length-drop, drop-of-length-le}
+use lib.ListN.{length, take, drop, drop-of-length-le}
 use lib.Dec.{ltb, eqb}
 use borrow.Author.Tests.{ltb-true, ltb-false, eqb-true, eqb-false}
 use Rattle.ground.specs.Lists.{spanOf, other, part}
@@ -13,7 +13,7 @@ use Rattle.format.specs.Bytes.{plain}
 use Rattle.format.specs.Cut.{rest, lines, onField, fields}
 use Rattle.format.proofs.Cut.{fields-some}
 use Rattle.record.specs.Places.{lineLen, LineEnd, Looked}
-use Rattle.record.proofs.Ends.{lineLen-le, line-none, line-more, line-long}
+use Rattle.record.proofs.Ends.{line-at, line-none, line-more, line-room, line-long}
 use Rattle.record.specs.declared.lines.Found.{Found}
 use Rattle.walker.specs.declared.Record.{Record}
 use Rattle.walker.specs.declared.Record.the-variants.{At, None}
@@ -74,7 +74,7 @@ module _ (file : List ℕ) (at : ℕ) where
 
   looks : at ≤ length file → Looked file at (found .end) (found .bad) (found .commas)
   looks h =
-      let l : LineEnd file at end = record { order = omega arith; within = omega (arith, lineLen-le (drop at file) .1, length-drop at file); is = refl } in
+      let l : LineEnd file at end = line-at file at h in
       let w : spanOf plain (part file at end) ≤ end - at = rw (part-length file at end (l .within)) at (span-le plain (part file at end)) in
       record {
         ends = l;
@@ -106,3 +106,10 @@ module _ (file : List ℕ) (at : ℕ) where
 
       pub handed-inside : f .end ≡ length file → ⊥
       handed-inside = subst Told (sym is ∙ q) told .1
+
+      -- the next record starts behind this one, in the file
+      pub handed-order : at ≤ f .end
+      handed-order = handed-looked .ends .order
+
+      pub handed-room : f .end + 2 ≤ length file
+      handed-room = line-room file at (f .end) (handed-looked .ends) handed-inside

@@ -5,7 +5,7 @@ use Rattle.format.specs.File.{walkOf, checkOf}
 use Rattle.order.specs.State.{seen, Kept}
 use Rattle.reading.proofs.Walks.{kept-first, stop-within}
 use Rattle.reading.proofs.Walks.{too-long, walk-begins, walk-2, walk-stop, walk-on, walk-end, walk-13, kept-on}
-use Rattle.record.proofs.Ends.{line-room}
+use Rattle.walker.proofs.Handed.{handed-looked, handed-order, handed-room}
 use borrow.Author.Needs.{needs}
 use lib.ListN.{length, drop}
 use mathlib.Core.Path.{_≡_}
@@ -31,8 +31,14 @@ new-requires c κs = search needs
 loop-holds : tie.Need-loop-holds Inv-loop μ-loop
 loop-holds c = (omega arith, omega arith, search kept-first, search walk-begins)
 
-scan-requires : tie.Need-scan-requires Inv-loop μ-loop
-scan-requires c κs = search needs
+record-at-requires : tie.Need-record-at-requires Inv-loop μ-loop
+record-at-requires c κs = search needs
+
+enum-known-handed : tie.Need-enum-known-handed Inv-loop μ-loop
+enum-known-handed c = search needs
+
+enum-told : tie.Need-enum-told Inv-loop μ-loop
+enum-told c = search needs
 
 refuse-requires-2 : tie.Need-refuse-requires-2 Inv-loop μ-loop
 refuse-requires-2 c κs = search needs
@@ -41,13 +47,16 @@ returns-2 : tie.Need-returns-2 Inv-loop μ-loop
 returns-2 c = search walk-2
 
 step-requires : tie.Need-step-requires Inv-loop μ-loop
-step-requires c κs = search needs
+step-requires c κs = search (needs, handed-looked)
 
 enum-known-next : tie.Need-enum-known-next Inv-loop μ-loop
 enum-known-next c = search needs
 
 add-refuse : tie.Need-add-refuse Inv-loop μ-loop
-add-refuse c = let h : c .before .before .before .before .before .before .before .before .loop .at + c .before .next .given .0 .1 .0 ≤ c .before .before .before .before .before .scan .result .end = stop-within _ _ _ _ (c .before .before .before .step .ensures .1) _ _ _ (c .before .next .given .1) in omega arith
+add-refuse c =
+    let r : c .before .before .before .before .before .handed .given .0 .1 .0 .end + 2 ≤ length (c .before .before .before .before .before .before .before .before .before .before .before .before .before .before .args .file .now) = search handed-room in
+    let h : c .before .before .before .before .before .before .before .before .before .before .loop .at + c .before .next .given .0 .1 .0 ≤ c .before .before .before .before .before .handed .given .0 .1 .0 .end = search stop-within in
+    omega (arith, r, h)
 
 refuse-requires-3 : tie.Need-refuse-requires-3 Inv-loop μ-loop
 refuse-requires-3 c κs = search needs
@@ -59,16 +68,23 @@ enum-known-next-2 : tie.Need-enum-known-next-2 Inv-loop μ-loop
 enum-known-next-2 c = search needs
 
 add-at : tie.Need-add-at Inv-loop μ-loop
-add-at c = let r : c .before .before .before .before .before .scan .result .end + 2 ≤ length (c .before .before .before .before .before .before .before .before .before .before .before .before .args .file .now) = line-room _ _ _ (c .before .before .before .before .before .scan .ensures .ends) (c .before .before .before .before .if3 .left) in omega arith
+add-at c =
+    let r : c .before .before .before .before .before .handed .given .0 .1 .0 .end + 2 ≤ length (c .before .before .before .before .before .before .before .before .before .before .before .before .before .before .args .file .now) = search handed-room in
+    omega (arith, r)
 
 add-k : tie.Need-add-k Inv-loop μ-loop
 add-k c = search needs
 
 loop-less : tie.Need-loop-less Inv-loop μ-loop
-loop-less c = let r : c .before .before .before .before .before .scan .result .end + 2 ≤ length (c .before .before .before .before .before .before .before .before .before .before .before .before .args .file .now) = line-room _ _ _ (c .before .before .before .before .before .scan .ensures .ends) (c .before .before .before .before .if3 .left) in omega arith
+loop-less c =
+    let a : c .before .before .before .before .before .before .before .before .before .before .loop .at ≤ c .before .before .before .before .before .handed .given .0 .1 .0 .end = search handed-order in
+    let r : c .before .before .before .before .before .handed .given .0 .1 .0 .end + 2 ≤ length (c .before .before .before .before .before .before .before .before .before .before .before .before .before .before .args .file .now) = search handed-room in
+    omega (arith, a, r)
 
 loop-again : tie.Need-loop-again Inv-loop μ-loop
-loop-again c = let r : c .before .before .before .before .before .scan .result .end + 2 ≤ length (c .before .before .before .before .before .before .before .before .before .before .before .before .args .file .now) = line-room _ _ _ (c .before .before .before .before .before .scan .ensures .ends) (c .before .before .before .before .if3 .left) in (r, omega arith, search kept-on, search walk-on)
+loop-again c =
+    let a : c .before .before .before .before .before .before .before .before .before .before .loop .at ≤ c .before .before .before .before .before .handed .given .0 .1 .0 .end = search handed-order in
+    (search handed-room, omega (arith, a), search kept-on, search walk-on)
 
 returns-4 : tie.Need-returns-4 Inv-loop μ-loop
 returns-4 c = search walk-end
@@ -89,7 +105,9 @@ check-spec =
     returns
     new-requires
     loop-holds
-    scan-requires
+    record-at-requires
+    enum-known-handed
+    enum-told
     refuse-requires-2
     returns-2
     step-requires
