@@ -1,7 +1,6 @@
 -- `block::marks::mark_len` meets its contract. Assumes nothing.
 use Prim.Native.Nat.{_≤_}
 use Rattle.block.proofs.OneMark.{fit-short, mark-length}
-use Rattle.block.proofs.OneMark.{fit-short, mark-length}
 use borrow.Author.Needs.{needs}
 use lib.ListN.{length}
 use native.Mathlib.Omega.{arith}

@@ -1,7 +1,7 @@
 -- `block::marks::same_mark` meets its contract. Assumes nothing.
 use Rattle.block.proofs.OneMark.{flags-differ, methods-differ, reasons-differ, marks-same}
-use borrow.Author.Needs.{needs}
 use Rattle.fit.specs.Tags.{tagInside}
+use borrow.Author.Needs.{needs}
 use Rattle.block.proofs.marks.same_mark.Statement.{statement}
 use Rattle.block.proofs.marks.same_mark.Tie as tie
 

@@ -1,7 +1,6 @@
 -- `block::marks::same_part` meets its contract. Assumes nothing.
 use Prim.Native.Nat.{_+_, _≤_}
 use Rattle.block.proofs.OneMark.{parts-differ, parts-empty, parts-same, part-room}
-use Rattle.block.proofs.OneMark.{parts-differ, parts-empty, parts-same, part-room}
 use Rattle.text.proofs.Texts.{inside-some}
 use borrow.Author.Needs.{needs}
 use denote.Ref.{now}
