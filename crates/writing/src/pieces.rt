@@ -70,7 +70,7 @@ pub fn fit_day(
     measure_values(values)
 }
 
-// The block's bytes and records, where the values of a fit day have k bytes.
+// The block's bytes and records, where the values of a fit day have k bytes. It takes the values only so that its contract can speak of them.
 pub fn measure_block(
     day: DayHead,
     values: &[u64],
