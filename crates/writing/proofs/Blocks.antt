@@ -31,7 +31,7 @@ use Rattle.block.specs.declared.Measured.{Measured}
 use Rattle.block.specs.declared.Measured.the-variants.{Unfit}
 use Rattle.block.proofs.ValueList.{values-most}
 use Rattle.block.proofs.Covers.{marked-fit}
-use Rattle.writing.specs.Pieces.{frontText, timesText, dayWith, fitHead, fitWith, fitOf, Ready, Sizes}
+use Rattle.writing.specs.Pieces.{frontText, timesText, dayWith, fitHead, fitWith, fitOf, FitDay, Sizes}
 
 -- ---- the head
 
@@ -70,19 +70,19 @@ module _ (h : DayHead) (n : ℕ) (vs : List ℕ) (l : Five) (text : List ℕ) wh
       unfolding fitOf fitWith measureOf
       day-measured t q = rw (← e, not-false a s, ← f, not-false b t) (q ∙ by (all fitValue vs) (λ z. rw z) (λ z. rw z))
 
-  module _ (r : Ready n vs l) (fit : fitWith h n vs l text ≡ true) where
+  module _ (r : FitDay h n vs l text) where
     fits : (fitHead h && all fitValue vs ≡ true) × (fitMarks l text n ≡ true)
     unfolding fitWith
-    fits = and-true (fitHead h && all fitValue vs) (fitMarks l text n) fit
+    fits = and-true (fitHead h && all fitValue vs) (fitMarks l text n) (r .fit)
 
     pub ready-marked : Marked l text n
-    ready-marked = record { long = r .long; fit = fits .1; few = r .few }
+    ready-marked = record { long = r .ready .long; fit = fits .1; few = r .ready .few }
 
     pub values-few : {k : ℕ} → k ≡ length (valuesText vs) → k ≤ 4320
-    values-few e = omega (arith, values-most vs (and-true (fitHead h) (all fitValue vs) (fits .0) .1), r .values, r .few)
+    values-few e = omega (arith, values-most vs (and-true (fitHead h) (all fitValue vs) (fits .0) .1), r .ready .values, r .ready .few)
 
     pub first-fit : {t : Tag} → t ≡ tagFrom l 0 → fitTag text t ≡ true
-    first-fit e = marked-fit l text n 0 (r .some) ready-marked e
+    first-fit e = marked-fit l text n 0 (r .ready .some) ready-marked e
 
 -- ---- the two forms
 
@@ -147,11 +147,11 @@ module _ (h : DayHead) (n : ℕ) (vs : List ℕ) (l : Five) (text : List ℕ) wh
       some-run (runsIn (from (marksFrom l text) 0 n)) (from (marksFrom l text) 0 n) (runs-spell (from (marksFrom l text) 0 n))
       (omega (arith, length-from (marksFrom l text) 0 n))
 
-  pub one-record : {r : ℕ} → 0 < n → r ≡ recordsOf (dayWith h n vs l text) → r ≡ 1 → isUniform (dayWith h n vs l text .marks) ≡ true
+  pub one-record : {r : ℕ} → FitDay h n vs l text → r ≡ recordsOf (dayWith h n vs l text) → r ≡ 1 → isUniform (dayWith h n vs l text .marks) ≡ true
   unfolding recordsOf
   one-record p e q =
       by (isUniform (dayWith h n vs l text .marks)) (λ t. t)
-      (λ t. absurd (omega (arith, some-runs p, rw t at e)))
+      (λ t. absurd (omega (arith, some-runs (p .ready .some), rw t at e)))
 
   pub more-records : {r : ℕ} → r ≡ recordsOf (dayWith h n vs l text) → (r ≡ 1 → ⊥) → isUniform (dayWith h n vs l text .marks) ≡ false
   unfolding recordsOf
@@ -193,13 +193,13 @@ pub length-times : (update load : ℕ) → length (timesText update load) ≡ 18
 unfolding timesText
 length-times update load = simp (length-append, length-padded) (omega arith)
 
-module _ (h : DayHead) (n : ℕ) (vs : List ℕ) (l : Five) (text : List ℕ) {k w b r : ℕ} (p : Ready n vs l)
+module _ (h : DayHead) (n : ℕ) (vs : List ℕ) (l : Five) (text : List ℕ) {k w b r : ℕ} (p : FitDay h n vs l text)
     (e : k ≡ length (valuesText vs)) (f : w ≡ length (loadText (h .load))) (s : Sized (marksFrom l text) n b r) where
   pub uniform-sizes : {t : Tag} {m : ℕ} → r ≡ 1 → t ≡ tagFrom l 0 → m ≡ length (markText (markOf text t)) → Sizes (dayWith h n vs l text) (31 + k + w + m) 1
   uniform-sizes {t} q g z =
       let u = one-run h n vs l text (s .records-are) q in
       record {
-        bytes-are = omega (arith, ap length (block-uniform h n vs l text u (p .some) g), length-append (frontText (h .date) vs) (markText (markOf text t) ++ timesText (h .update) (h .load)), length-append (markText (markOf text t)) (timesText (h .update) (h .load)), length-front (h .date) vs, length-times (h .update) (h .load));
+        bytes-are = omega (arith, ap length (block-uniform h n vs l text u (p .ready .some) g), length-append (frontText (h .date) vs) (markText (markOf text t) ++ timesText (h .update) (h .load)), length-append (markText (markOf text t)) (timesText (h .update) (h .load)), length-front (h .date) vs, length-times (h .update) (h .load));
         records-are = records-one h n vs l text u;
       }
 
@@ -230,13 +230,13 @@ module _ (h : DayHead) (n : ℕ) (vs : List ℕ) (l : Five) (text room : List �
       omega (arith, ap length (block-with d (topText (d .marks)) (tailText (d .marks)) refl refl), length-append (frontText (h .date) vs ++ top) (tailText (d .marks)), length-append (frontText (h .date) vs) top)
 
   module _ {p : ℕ} {m : List ℕ} (front : Put room 0 (frontText (h .date) vs) p m) where
-    module _ {t : Tag} (some : 0 < n) (u : isUniform (dayWith h n vs l text .marks) ≡ true) (e : t ≡ tagFrom l 0) where
+    module _ {t : Tag} (r : FitDay h n vs l text) (u : isUniform (dayWith h n vs l text .marks) ≡ true) (e : t ≡ tagFrom l 0) where
       pub uniform-room : p + length (markText (markOf text t) ++ timesText (h .update) (h .load)) ≤ length m
       uniform-room =
-          omega (arith, ap length (block-uniform h n vs l text u some e), length-append (frontText (h .date) vs) (markText (markOf text t) ++ timesText (h .update) (h .load)), front .behind, put-kept front)
+          omega (arith, ap length (block-uniform h n vs l text u (r .ready .some) e), length-append (frontText (h .date) vs) (markText (markOf text t) ++ timesText (h .update) (h .load)), front .behind, put-kept front)
 
       pub uniform-put : {q : ℕ} {o : List ℕ} → Put m p (markText (markOf text t) ++ timesText (h .update) (h .load)) q o → Put room 0 (blockOf (dayWith h n vs l text)) q o
-      uniform-put x = put-as (put-then front x) (block-uniform h n vs l text u some e)
+      uniform-put x = put-as (put-then front x) (block-uniform h n vs l text u (r .ready .some) e)
 
     module _ (u : isUniform (dayWith h n vs l text .marks) ≡ false) where
       varied-length : length (blockOf (dayWith h n vs l text)) ≡ length (frontText (h .date) vs) + length (bytes "V,," ++ timesText (h .update) (h .load)) + length (coverFrom (marksFrom l text) n 0)

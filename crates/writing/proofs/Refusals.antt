@@ -25,19 +25,19 @@ use Rattle.text.specs.Inside.{inside}
 use Rattle.fit.specs.Tags.{tagFrom, markOf, marksFrom, tagInside, insideAt, fitMarks}
 use Rattle.block.specs.declared.Measured.{Measured}
 use Rattle.block.specs.declared.Measured.the-variants.{Bytes, Unfit}
-use Rattle.writing.specs.Pieces.{dayWith, fitHead, fitWith, fitOf, Ready, Sizes}
+use Rattle.writing.specs.Pieces.{dayWith, fitHead, fitWith, fitOf, Ready, FitDay, Sizes}
 use Rattle.writing.specs.Layers.{placedOf, answeredOf, Writes}
 
 -- ---- a fit day
 
 module _ (d : Day) {b r : ℕ} (s : Sizes d b r) (room : List ℕ) where
-  pub no-room : {w : Written} → length room < b → writtenAs w ≡ refusal 15 → Writes (placedOf d (length room)) (blockOf d) room w room
+  pub no-room : {w : Written} → length room < b → writtenAs w ≡ refusal 15 → Writes placedOf d room w room
   unfolding placedOf
   no-room h e =
       let f : leb (length (blockOf d)) (length room) ≡ false = lt-leb (length (blockOf d)) (length room) (omega (arith, s .bytes-are)) in
       record { answer = rw f e; left = rw f }
 
-  pub placed : {p : ℕ} {after : List ℕ} → b ≤ length room → Put room 0 (blockOf d) p after → Writes (placedOf d (length room)) (blockOf d) room (Block b r) after
+  pub placed : {p : ℕ} {after : List ℕ} → b ≤ length room → Put room 0 (blockOf d) p after → Writes placedOf d room (Block b r) after
   unfolding placedOf
   placed h w =
       let g : length (blockOf d) ≤ length room = omega (arith, s .bytes-are) in
@@ -61,27 +61,30 @@ unfit-if true j e = let z : _≡_ {A = ℕ} 0 1 = cc in absurd (omega arith)
 unfit-if false j e = refl
 
 module _ (h : DayHead) (n : ℕ) (vs : List ℕ) (l : Five) (text : List ℕ) {m : Measured} (e : m ≡ fitOf h n vs l text) where
-  pub day-fit : {k : ℕ} → m ≡ Bytes k → fitWith h n vs l text ≡ true
+  is-fit : {k : ℕ} → m ≡ Bytes k → fitWith h n vs l text ≡ true
   unfolding fitOf
-  day-fit {k} f = bytes-if (fitWith h n vs l text) (length (valuesText vs)) k (sym f ∙ e) .0
+  is-fit {k} f = bytes-if (fitWith h n vs l text) (length (valuesText vs)) k (sym f ∙ e) .0
+
+  pub day-fit : {k : ℕ} → m ≡ Bytes k → Ready n vs l → FitDay h n vs l text
+  day-fit f r = record { ready = r; fit = is-fit f }
 
   pub day-bytes : {k : ℕ} → m ≡ Bytes k → k ≡ length (valuesText vs)
   unfolding fitOf
   day-bytes {k} f = bytes-if (fitWith h n vs l text) (length (valuesText vs)) k (sym f ∙ e) .1
 
   pub unfit : {w : Written} {room : List ℕ} → m ≡ Unfit → writtenAs w ≡ refusal 16
-      → Writes (answeredOf (fitWith h n vs l text) (dayWith h n vs l text) (length room)) (blockOf (dayWith h n vs l text)) room w room
+      → Writes (answeredOf (fitWith h n vs l text)) (dayWith h n vs l text) room w room
   unfolding answeredOf fitOf
   unfit f q =
       let z : fitWith h n vs l text ≡ false = unfit-if (fitWith h n vs l text) (length (valuesText vs)) (sym f ∙ e) in
       record { answer = rw z q; left = rw z }
 
   pub fit-written : {k : ℕ} {w : Written} {room after : List ℕ} → m ≡ Bytes k
-      → Writes (placedOf (dayWith h n vs l text) (length room)) (blockOf (dayWith h n vs l text)) room w after
-      → Writes (answeredOf (fitWith h n vs l text) (dayWith h n vs l text) (length room)) (blockOf (dayWith h n vs l text)) room w after
+      → Writes placedOf (dayWith h n vs l text) room w after
+      → Writes (answeredOf (fitWith h n vs l text)) (dayWith h n vs l text) room w after
   unfolding answeredOf
   fit-written f x =
-      let z : fitWith h n vs l text ≡ true = day-fit f in
+      let z : fitWith h n vs l text ≡ true = is-fit f in
       record { answer = rw z (x .answer); left = rw z (x .left) }
 
 -- ---- any day
@@ -176,8 +179,7 @@ module _ (h : DayHead) (vs fs ms rs ss ls text : List ℕ) {n : ℕ} (e : n ≡ 
       answered room = rw (← e, ne-eqb n 0 some, enough n vs fs ms rs ss ls f t, same-fit, same-day)
 
       module _ (room : List ℕ) {w : Written} {after : List ℕ}
-          (x : Writes (answeredOf (fitWith h n (take n vs) (five fs ms rs ss ls) text) (dayWith h n (take n vs) (five fs ms rs ss ls) text) (length room))
-          (blockOf (dayWith h n (take n vs) (five fs ms rs ss ls) text)) room w after) where
+          (x : Writes (answeredOf (fitWith h n (take n vs) (five fs ms rs ss ls) text)) (dayWith h n (take n vs) (five fs ms rs ss ls) text) room w after) where
         pub day-answer : writtenAs w ≡ writeOf (given h vs fs ms rs ss ls text) (length room)
         day-answer = x .answer ∙ answered (length room)
 

@@ -18,7 +18,7 @@ placedOf d room = cond (leb (length (blockOf d)) room) (accepted (length (blockO
 unfoldable pub answeredOf : Bool → Day → ℕ → Answer
 answeredOf fit d room = cond fit (placedOf d room) (refusal 16)
 
--- the answer, and what it leaves of the room
-pub record Writes (a : Answer) (block room : List ℕ) (w : Written) (after : List ℕ) : Type 0 where
-  pub answer : writtenAs w ≡ a
-  pub left : after ≡ leftBy a block room
+-- the answer to a day where the room has so many bytes, and what it leaves of the room
+pub record Writes (answerOf : Day → ℕ → Answer) (d : Day) (room : List ℕ) (w : Written) (after : List ℕ) : Type 0 where
+  pub answer : writtenAs w ≡ answerOf d (length room)
+  pub left : after ≡ leftBy (answerOf d (length room)) (blockOf d) room

@@ -2,7 +2,7 @@
 use Prim.Native.Nat.{ℕ, _≤_, _<_}
 use mathlib.Core.Path.{_≡_}
 use mathlib.Core.List.{List, _++_}
-use mathlib.Core.Bool.{Bool, cond, _&&_, _||_}
+use mathlib.Core.Bool.{Bool, true, cond, _&&_, _||_}
 use lib.ListN.{length}
 use lib.Dec.{eqb}
 use Rattle.ground.specs.Lists.{all, from}
@@ -45,6 +45,11 @@ pub record Ready (n : ℕ) (vs : List ℕ) (l : Five) : Type 0 where
   pub few : n ≤ 288
   pub values : length vs ≡ n
   pub long : Long n l
+
+-- and which is fit
+pub record FitDay (h : DayHead) (n : ℕ) (vs : List ℕ) (l : Five) (text : List ℕ) : Type 0 where
+  pub ready : Ready n vs l
+  pub fit : fitWith h n vs l text ≡ true
 
 -- the block of a day has so many bytes and records
 pub record Sizes (d : Day) (bytes records : ℕ) : Type 0 where

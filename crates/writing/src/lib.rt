@@ -16,7 +16,7 @@ ghost use lib.ListN.{length};
 ghost use Rattle.format.specs.Answers.{refusal, writtenAs};
 ghost use Rattle.format.specs.Day.{five, enoughFor};
 ghost use Rattle.format.specs.Block.{given, valuesText, blockOf, writeOf, roomOf};
-ghost use Rattle.writing.specs.Pieces.{dayWith, fitWith, Ready};
+ghost use Rattle.writing.specs.Pieces.{dayWith, fitWith, Ready, FitDay};
 ghost use Rattle.writing.specs.Layers.{placedOf, answeredOf, Writes};
 
 fn no_block(number: u64) -> Written
@@ -66,9 +66,8 @@ fn write_fit(
     n: usize,
     k: usize,
 ) -> Written
-    requires { ⌜ Ready n (now values) (five (now flags) (now methods) (now reasons) (now starts) (now lengths)) ⌝ }
-    requires { ⌜ (fitWith day n (now values) (five (now flags) (now methods) (now reasons) (now starts) (now lengths)) (now text) ≡ true) × (k ≡ length (valuesText (now values))) ⌝ }
-    ensures { λ w. ⌜ Writes (placedOf (dayWith day n (now (values .entry)) (five (now (flags .entry)) (now (methods .entry)) (now (reasons .entry)) (now (starts .entry)) (now (lengths .entry))) (now (text .entry))) (length (now (room .entry)))) (blockOf (dayWith day n (now (values .entry)) (five (now (flags .entry)) (now (methods .entry)) (now (reasons .entry)) (now (starts .entry)) (now (lengths .entry))) (now (text .entry)))) (now (room .entry)) w (now (room .exit)) ⌝ }
+    requires { ⌜ FitDay day n (now values) (five (now flags) (now methods) (now reasons) (now starts) (now lengths)) (now text) × (k ≡ length (valuesText (now values))) ⌝ }
+    ensures { λ w. ⌜ Writes placedOf (dayWith day n (now (values .entry)) (five (now (flags .entry)) (now (methods .entry)) (now (reasons .entry)) (now (starts .entry)) (now (lengths .entry))) (now (text .entry))) (now (room .entry)) w (now (room .exit)) ⌝ }
 {
     let size = measure_block(
         day,
@@ -120,7 +119,7 @@ fn write_long(
     n: usize,
 ) -> Written
     requires { ⌜ Ready n (now values) (five (now flags) (now methods) (now reasons) (now starts) (now lengths)) ⌝ }
-    ensures { λ w. ⌜ Writes (answeredOf (fitWith day n (now (values .entry)) (five (now (flags .entry)) (now (methods .entry)) (now (reasons .entry)) (now (starts .entry)) (now (lengths .entry))) (now (text .entry))) (dayWith day n (now (values .entry)) (five (now (flags .entry)) (now (methods .entry)) (now (reasons .entry)) (now (starts .entry)) (now (lengths .entry))) (now (text .entry))) (length (now (room .entry)))) (blockOf (dayWith day n (now (values .entry)) (five (now (flags .entry)) (now (methods .entry)) (now (reasons .entry)) (now (starts .entry)) (now (lengths .entry))) (now (text .entry)))) (now (room .entry)) w (now (room .exit)) ⌝ }
+    ensures { λ w. ⌜ Writes (answeredOf (fitWith day n (now (values .entry)) (five (now (flags .entry)) (now (methods .entry)) (now (reasons .entry)) (now (starts .entry)) (now (lengths .entry))) (now (text .entry)))) (dayWith day n (now (values .entry)) (five (now (flags .entry)) (now (methods .entry)) (now (reasons .entry)) (now (starts .entry)) (now (lengths .entry))) (now (text .entry))) (now (room .entry)) w (now (room .exit)) ⌝ }
 {
     let m = fit_day(
         day,

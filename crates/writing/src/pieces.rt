@@ -28,7 +28,7 @@ ghost use Rattle.ground.specs.Text.{bytes};
 ghost use Rattle.format.specs.Day.{five};
 ghost use Rattle.format.specs.Block.{markText, valuesText, blockOf, recordsOf};
 ghost use Rattle.fit.specs.Tags.{markOf, fitTag};
-ghost use Rattle.writing.specs.Pieces.{frontText, timesText, dayWith, fitHead, fitWith, fitOf, Ready, Sizes};
+ghost use Rattle.writing.specs.Pieces.{frontText, timesText, dayWith, fitHead, fitOf, Ready, FitDay, Sizes};
 
 // The date and the times meet their rules; a load time of 0 is none.
 fn fit_head(day: DayHead) -> bool
@@ -70,7 +70,7 @@ pub fn fit_day(
     measure_values(values)
 }
 
-// The block's bytes and records, where the values of a fit day have k bytes.
+// The block's bytes and records, where the values of a fit day have k bytes. It takes the values only so that its contract can speak of them.
 pub fn measure_block(
     day: DayHead,
     values: &[u64],
@@ -83,8 +83,7 @@ pub fn measure_block(
     text: &[u8],
     n: usize,
 ) -> Size
-    requires { ⌜ Ready n (now values) (five (now flags) (now methods) (now reasons) (now starts) (now lengths)) ⌝ }
-    requires { ⌜ (fitWith day n (now values) (five (now flags) (now methods) (now reasons) (now starts) (now lengths)) (now text) ≡ true) × (k ≡ length (valuesText (now values))) ⌝ }
+    requires { ⌜ FitDay day n (now values) (five (now flags) (now methods) (now reasons) (now starts) (now lengths)) (now text) × (k ≡ length (valuesText (now values))) ⌝ }
     ensures { λ r. ⌜ Sizes (dayWith day n (now (values .entry)) (five (now (flags .entry)) (now (methods .entry)) (now (reasons .entry)) (now (starts .entry)) (now (lengths .entry))) (now (text .entry))) (r .bytes) (r .records) ⌝ }
 {
     let runs = measure_runs(flags, methods, reasons, starts, lengths, text, n);
@@ -157,8 +156,7 @@ pub fn put_block(
     n: usize,
     records: usize,
 ) -> usize
-    requires { ⌜ Ready n (now values) (five (now flags) (now methods) (now reasons) (now starts) (now lengths)) ⌝ }
-    requires { ⌜ (fitWith day n (now values) (five (now flags) (now methods) (now reasons) (now starts) (now lengths)) (now text) ≡ true) × (records ≡ recordsOf (dayWith day n (now values) (five (now flags) (now methods) (now reasons) (now starts) (now lengths)) (now text))) ⌝ }
+    requires { ⌜ FitDay day n (now values) (five (now flags) (now methods) (now reasons) (now starts) (now lengths)) (now text) × (records ≡ recordsOf (dayWith day n (now values) (five (now flags) (now methods) (now reasons) (now starts) (now lengths)) (now text))) ⌝ }
     requires { ⌜ length (blockOf (dayWith day n (now values) (five (now flags) (now methods) (now reasons) (now starts) (now lengths)) (now text))) ≤ length (now room) ⌝ }
     ensures { λ r. ⌜ Put (now (room .entry)) 0 (blockOf (dayWith day n (now (values .entry)) (five (now (flags .entry)) (now (methods .entry)) (now (reasons .entry)) (now (starts .entry)) (now (lengths .entry))) (now (text .entry)))) r (now (room .exit)) ⌝ }
 {

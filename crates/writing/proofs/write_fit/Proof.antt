@@ -14,7 +14,7 @@ returns : tie.Need-returns
 returns c = search no-room
 
 put-block-requires : tie.Need-put-block-requires
-put-block-requires c κs = (c .before .before .before .before .before .before .before .before .before .before .before .pre .0, ((c .before .before .before .before .before .before .before .before .before .before .before .pre .1 .0, c .before .before .measure-block .ensures .records-are), search placed-room))
+put-block-requires c κs = ((c .before .before .before .before .before .before .before .before .before .before .before .pre .0, c .before .before .measure-block .ensures .records-are), search placed-room)
 
 same-length : tie.Need-same-length
 same-length c = search needs

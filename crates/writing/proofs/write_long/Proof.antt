@@ -17,7 +17,7 @@ enum-known-m : tie.Need-enum-known-m
 enum-known-m c = search needs
 
 write-fit-requires : tie.Need-write-fit-requires
-write-fit-requires c κs = (c .before .before .before .before .before .before .before .before .before .before .before .before .before .pre, (search day-fit, search day-bytes))
+write-fit-requires c κs = (search day-fit, search day-bytes)
 
 returns : tie.Need-returns
 returns c = search unfit
