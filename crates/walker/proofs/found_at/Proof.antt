@@ -1,6 +1,6 @@
--- `walker::found_at` meets its contract. Assumes nothing.
-use Rattle.walker.proofs.Handed.{none-behind, none-here, one-here}
+-- `walker::found_at` meets its contract: a law for each way out. Assumes nothing.
 use borrow.Author.Needs.{needs}
+use Rattle.walker.proofs.Handed.{none-behind, none-here, one-here}
 use Rattle.walker.proofs.found_at.Statement.{statement}
 use Rattle.walker.proofs.found_at.Tie as tie
 
