@@ -7,3 +7,4 @@ pub mod NumberText
 pub mod ValueText
 pub mod MarkText
 pub mod CoverText
+pub mod Refusals
