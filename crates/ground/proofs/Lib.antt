@@ -1,3 +1,9 @@
 pub mod Tests
+pub mod Cases
 pub mod Lists
+pub mod Same
 pub mod Decimal
+pub mod Digits
+pub mod From
+pub mod Room
+pub mod Runs

@@ -1,0 +1,21 @@
+use Prim.Native.Nat.{_+_, _≤_}
+use lib.ListN.{length}
+use denote.Ref.{now}
+use Rattle.text.proofs.Texts.{inside-some, part-length, put-part-none, put-part-some, put-as-dec, dec-room, quality-one, quality-three, quality-room, method-room, put-alone, put-graded, reason-zero, reason-width, reason-room, put-no-reason, put-some-reason, load-zero, load-full, load-room, put-no-load, put-some-load, value-plain, value-point, whole-room, put-plain, point-room, fraction-room, put-point}
+use native.Mathlib.Omega.{arith}
+use borrow.Author.Needs.{needs}
+use Rattle.text.proofs.marks.load_len.Statement.{statement}
+use Rattle.text.proofs.marks.load_len.Tie as tie
+use Rattle.text.proofs.marks.load_len.Reads as reads
+use Rattle.text.proofs.marks.load_len.Lts as lts
+
+-- src/marks.rt:59:9
+returns : tie.Need-returns
+returns c = (search load-zero, omega arith)
+
+-- src/marks.rt:55:1
+returns-2 : tie.Need-returns-2
+returns-2 c = (search load-full, omega arith)
+
+pub load-len-spec : {M : Type 1} → statement M
+load-len-spec = tie.close (tie.spec returns returns-2)
