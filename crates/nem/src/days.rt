@@ -6,7 +6,9 @@ use crate::lines::hour;
 use crate::lines::right;
 use crate::lines::say;
 use crate::lines::time;
+use crate::lines::two;
 use crate::records::part;
+use crate::records::text_at;
 use crate::refusals::explain;
 use format::Checked;
 use format::DayHead;
@@ -22,7 +24,10 @@ use page::texts::put;
 use page::texts::value;
 use reading::check;
 use reading::read_day;
+use text::digits::digits_len;
 use writing::write_day;
+
+ghost use Prim.Native.Nat.{_≤_};
 
 const MOST: usize = 288;
 
@@ -92,21 +97,26 @@ fn clock(minutes: u64) -> u64 {
 fn title(page: &mut [u8], day: DayHead, n: usize) {
     let p = date(page, 0, day.date as u64);
     let q = put(page, p, b": ");
-    let r = number(page, q, n as u64);
-    let s = put(page, r, b" intervals of ");
-    let t = number(page, s, day.length as u64);
-    let u = put(page, t, b" minutes, updated ");
-    let v = time(page, u, day.update);
-    let w = loaded(page, v, day.load);
-    say(page, w);
+    let r = intervals(page, q, n, day.length as u64);
+    let s = times(page, r, day.update, day.load);
+    say(page, s);
 }
 
-fn loaded(page: &mut [u8], at: usize, load: u64) -> usize {
+fn intervals(page: &mut [u8], at: usize, n: usize, minutes: u64) -> usize {
+    let p = number(page, at, n as u64);
+    let q = put(page, p, b" intervals of ");
+    let r = number(page, q, minutes);
+    put(page, r, b" minutes")
+}
+
+fn times(page: &mut [u8], at: usize, update: u64, load: u64) -> usize {
+    let p = put(page, at, b", updated ");
+    let q = time(page, p, update);
     if load == 0 {
-        return at;
+        return q;
     }
-    let p = put(page, at, b", loaded ");
-    time(page, p, load)
+    let r = put(page, q, b", loaded ");
+    time(page, r, load)
 }
 
 fn headings(page: &mut [u8]) {
@@ -121,7 +131,7 @@ fn quality(page: &mut [u8], at: usize, flag: u8, method: u8) -> usize {
     if method == NO_METHOD {
         return q;
     }
-    crate::lines::two(page, q, method as u64)
+    two(page, q, method as u64)
 }
 
 fn reason(page: &mut [u8], at: usize, code: u16) -> usize {
@@ -150,12 +160,48 @@ fn amount(page: &mut [u8], at: usize, v: u64) -> usize {
     value(page, p, v)
 }
 
+// When interval k from 1 ends, of n in a day: in minutes.
+fn end_of(k: u64, n: usize) -> u64
+    requires { ⌜ k ≤ 288 ⌝ }
+{
+    if n == 0 {
+        return 0;
+    }
+    k * 1440 / n as u64
+}
+
 // The number of interval i from 1, and when it ends.
-fn interval(page: &mut [u8], i: usize, length: u32) -> usize {
+fn interval(page: &mut [u8], i: usize, n: usize) -> usize {
     let k = i as u64 % 288 + 1;
     let p = right(page, 0, 3, k);
     let q = column(page, p, ENDS);
-    hour(page, q, clock(k * length as u64))
+    hour(page, q, clock(end_of(k, n)))
+}
+
+fn mark(page: &mut [u8], at: usize, flag: u8, method: u8, code: u16, text: &[u8]) -> usize {
+    let p = quality(page, at, flag, method);
+    let q = reason(page, p, code);
+    description(page, q, text)
+}
+
+// Interval i of the lists.
+fn row(
+    page: &mut [u8],
+    file: &[u8],
+    i: usize,
+    n: usize,
+    values: &[u64],
+    flags: &[u8],
+    methods: &[u8],
+    reasons: &[u16],
+    starts: &[usize],
+    lengths: &[usize],
+) {
+    let p = interval(page, i, n);
+    let q = amount(page, p, u64_at(values, i));
+    let text = text_at(file, usize_at(starts, i), usize_at(lengths, i));
+    let r = mark(page, q, u8_at(flags, i), u8_at(methods, i), u16_at(reasons, i), text);
+    say(page, r);
 }
 
 fn table(
@@ -171,30 +217,23 @@ fn table(
 ) {
     let mut i: usize = 0;
     while i < n {
-        let p = interval(page, i, minutes(n));
-        let q = amount(page, p, u64_at(values, i));
-        let r = quality(page, q, u8_at(flags, i), u8_at(methods, i));
-        let s = reason(page, r, u16_at(reasons, i));
-        let t = description(page, s, text_at(file, usize_at(starts, i), usize_at(lengths, i)));
-        say(page, t);
+        row(page, file, i, n, values, flags, methods, reasons, starts, lengths);
         i += 1;
     }
 }
 
 // ---- the block
 
-fn block_in(page: &mut [u8], file: &[u8], x: Written, room: &[u8]) {
+fn block_out(page: &mut [u8], file: &[u8], x: Written, room: &[u8]) {
     match x {
         Written::Block { bytes, records: _ } => {
-            if bytes <= room.len() {
-                io::write_all(libc::STDOUT_FILENO, &room[..bytes]);
-            }
+            io::write_all(libc::STDOUT_FILENO, part(room, 0, bytes));
         }
         Written::Refused(y) => explain(page, file, y),
     }
 }
 
-fn block(
+fn block_in(
     page: &mut [u8],
     file: &[u8],
     day: DayHead,
@@ -207,5 +246,86 @@ fn block(
     room: &mut [u8],
 ) {
     let x = write_day(day, values, flags, methods, reasons, starts, lengths, file, room);
-    block_in(page, file, x, room);
+    block_out(page, file, x, room);
+}
+
+fn block(
+    page: &mut [u8],
+    file: &[u8],
+    day: DayHead,
+    values: &[u64],
+    flags: &[u8],
+    methods: &[u8],
+    reasons: &[u16],
+    starts: &[usize],
+    lengths: &[usize],
+) {
+    let mut room = [0u8; MOST_ROOM];
+    block_in(page, file, day, values, flags, methods, reasons, starts, lengths, &mut room);
+}
+
+// ---- the day
+
+fn day_shown(
+    page: &mut [u8],
+    file: &[u8],
+    wanted: Wanted,
+    day: DayHead,
+    n: usize,
+    values: &[u64],
+    flags: &[u8],
+    methods: &[u8],
+    reasons: &[u16],
+    starts: &[usize],
+    lengths: &[usize],
+) {
+    match wanted {
+        Wanted::Table => {
+            title(page, day, n);
+            headings(page);
+            table(page, file, n, values, flags, methods, reasons, starts, lengths);
+        }
+        Wanted::Block => block(page, file, day, values, flags, methods, reasons, starts, lengths),
+    }
+}
+
+fn day_in(
+    page: &mut [u8],
+    file: &[u8],
+    k: usize,
+    wanted: Wanted,
+    values: &mut [u64],
+    flags: &mut [u8],
+    methods: &mut [u8],
+    reasons: &mut [u16],
+    starts: &mut [usize],
+    lengths: &mut [usize],
+) {
+    match read_day(file, k, values, flags, methods, reasons, starts, lengths) {
+        DayRead::Read {
+            date,
+            n,
+            update,
+            load,
+        } => {
+            let day = DayHead {
+                date: date,
+                length: minutes(n),
+                update: update,
+                load: load,
+            };
+            day_shown(page, file, wanted, day, n, values, flags, methods, reasons, starts, lengths);
+        }
+        DayRead::Refused(x) => refused(page, file, x),
+    }
+}
+
+pub fn show(page: &mut [u8], file: &[u8], k: usize, wanted: Wanted) {
+    let mut values = [0u64; MOST];
+    let mut flags = [0u8; MOST];
+    let mut methods = [0u8; MOST];
+    let mut reasons = [0u16; MOST];
+    let mut starts = [0usize; MOST];
+    let mut lengths = [0usize; MOST];
+    day_in(page, file, k, wanted, &mut values, &mut flags, &mut methods, &mut reasons, &mut starts, &mut lengths);
 }

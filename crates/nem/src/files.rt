@@ -1,4 +1,5 @@
 // The file that a word of the command names.
+use crate::records::part;
 use page::texts::put;
 
 // A file's bytes at the start of the room, all of them or as many as the room has; or it could not be read, and that was said.
@@ -45,9 +46,7 @@ fn read_all(fd: i32, room: &mut [u8]) -> Loaded {
 fn cannot_read(page: &mut [u8], path: &[u8]) {
     let p = put(page, 0, b"nem: ");
     let q = put(page, p, path);
-    if q <= page.len() {
-        os::fail(&page[..q]);
-    }
+    os::fail(part(page, 0, q));
 }
 
 pub fn load(page: &mut [u8], path: &[u8], room: &mut [u8]) -> Loaded {

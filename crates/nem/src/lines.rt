@@ -1,32 +1,24 @@
 // A line is put together on a page and written out whole.
+use crate::records::part;
 use page::texts::number;
 use page::texts::put;
 use text::digits::digits_len;
 
-fn write(fd: i32, page: &[u8], at: usize) {
-    if at <= page.len() {
-        io::write_all(fd, &page[..at]);
-    }
-}
-
 // The line that ends at a place of the page, to standard output.
 pub fn say(page: &mut [u8], at: usize) {
     let p = put(page, at, b"\n");
-    write(libc::STDOUT_FILENO, page, p);
+    io::write_all(libc::STDOUT_FILENO, part(page, 0, p));
 }
 
 // The same to standard error, for what is no answer about a file.
 pub fn complain(page: &mut [u8], at: usize) {
     let p = put(page, at, b"\n");
-    write(libc::STDERR_FILENO, page, p);
+    io::write_all(libc::STDERR_FILENO, part(page, 0, p));
 }
 
+// At most 80 of them.
 pub fn spaces(page: &mut [u8], at: usize, n: usize) -> usize {
-    let all = b"                                                                                ";
-    if 80 < n {
-        return at;
-    }
-    put(page, at, &all[..n])
+    put(page, at, part(b"                                                                                ", 0, n))
 }
 
 // Spaces up to a place of the line.

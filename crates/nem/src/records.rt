@@ -47,43 +47,59 @@ pub fn part(file: &[u8], from: usize, to: usize) -> &[u8] {
     &file[..0]
 }
 
+// The n bytes from a place on, none where the file has no such part.
+pub fn text_at(file: &[u8], from: usize, n: usize) -> &[u8] {
+    if from <= file.len() {
+        if n <= file.len() - from {
+            return part(file, from, from + n);
+        }
+    }
+    part(file, 0, 0)
+}
+
 // The record that starts at a place.
 pub fn record_at(file: &[u8], start: usize) -> &[u8] {
     part(file, start, end_of(file, start))
 }
 
-// What stands before the first comma, and what stands behind it.
+// What stands before the first comma.
 fn first(rec: &[u8]) -> &[u8] {
     part(rec, 0, first_at(rec, b','))
 }
 
-fn rest(rec: &[u8]) -> &[u8] {
-    let n = first_at(rec, b',');
-    if n < rec.len() {
-        return part(rec, n + 1, rec.len());
+// Where the field behind the one at a place starts, or the record's end.
+fn next(rec: &[u8], at: usize) -> usize {
+    if rec.len() <= at {
+        return rec.len();
     }
-    part(rec, 0, 0)
+    let n = first_at(&rec[at..], b',');
+    if n < rec.len() - at {
+        return at + n + 1;
+    }
+    rec.len()
 }
 
 // The record's field of a number from 1.
 pub fn field(rec: &[u8], number: usize) -> &[u8] {
-    let mut left = rec;
+    let mut at: usize = 0;
     let mut k: usize = 1;
     while k < number {
-        left = rest(left);
+        at = next(rec, at);
         k += 1;
     }
-    first(left)
+    first(part(rec, at, rec.len()))
 }
 
+// How many fields the record has.
 pub fn count(rec: &[u8]) -> usize {
     let mut n: usize = 1;
     let mut i: usize = 0;
     while i < rec.len() {
-        if rec[i] == 44 {
+        let b = rec[i];
+        i += 1;
+        if b == 44 {
             n += 1;
         }
-        i += 1;
     }
     n
 }

@@ -78,7 +78,7 @@ fn whereabouts(page: &mut [u8], rec: &[u8], x: Refusal) {
     say(page, u);
 }
 
-// How many fields there are, and how many there should be.
+// How many fields a record of the kind has.
 fn fields_asked(page: &mut [u8], at: usize, kind: u64) -> usize {
     match kind {
         200 => put(page, at, b", and a 200 has 10"),
@@ -96,7 +96,11 @@ fn of_five(page: &mut [u8], at: usize, kind: u64) -> usize {
     put(page, q, b" has 5")
 }
 
-fn field_count(page: &mut [u8], rec: &[u8]) {
+// How many fields there are, where that is what is wrong.
+fn field_count(page: &mut [u8], rec: &[u8], number: u64) {
+    if number != 5 {
+        return;
+    }
     let p = put(page, 0, b"this record has ");
     let q = counted(page, p, records::count(rec) as u64, b"field");
     let r = fields_asked(page, q, records::kind(rec));
@@ -153,6 +157,14 @@ fn last_shown(from: usize, length: usize) -> usize {
     from + 74
 }
 
+// Where a place stands in the record that starts at another.
+fn column_of(start: usize, place: usize) -> usize {
+    if place < start {
+        return 0;
+    }
+    place - start
+}
+
 fn excerpt(page: &mut [u8], rec: &[u8], column: usize) {
     let from = first_shown(column);
     let to = last_shown(from, rec.len());
@@ -177,20 +189,20 @@ fn under(page: &mut [u8], at: usize, column: usize, from: usize) -> usize {
     spaces(page, at, column - from)
 }
 
+// The line, where there is something of it.
+fn shown_at(page: &mut [u8], rec: &[u8], column: usize) {
+    if rec.len() == 0 {
+        return;
+    }
+    excerpt(page, rec, column);
+}
+
 fn place_shown(page: &mut [u8], file: &[u8], x: Refusal) {
     let start = records::start_of(file, x.place);
     let rec = records::record_at(file, start);
     whereabouts(page, rec, x);
-    if x.number == 5 {
-        field_count(page, rec);
-    }
-    if rec.len() == 0 {
-        return;
-    }
-    if x.place < start {
-        return;
-    }
-    excerpt(page, rec, x.place - start);
+    field_count(page, rec, x.number);
+    shown_at(page, rec, column_of(start, x.place));
 }
 
 pub fn explain(page: &mut [u8], file: &[u8], x: Refusal) {

@@ -94,18 +94,23 @@ fn total_of(page: &mut [u8], at: usize, x: Totalled) -> usize {
     }
 }
 
+// NMI, suffix and unit of a channel's record.
+fn names(page: &mut [u8], at: usize, rec: &[u8]) -> usize {
+    let p = column(page, at, NMI);
+    let q = put(page, p, records::field(rec, 2));
+    let r = column(page, q, SUFFIX);
+    let s = put(page, r, records::field(rec, 5));
+    let t = column(page, s, UNIT);
+    put(page, t, records::field(rec, unit_of(records::kind(rec))))
+}
+
 // The row of channel k, whose record is rec.
 fn row(page: &mut [u8], file: &[u8], k: usize, rec: &[u8], days: usize) {
     let p = right(page, 0, CHANNEL, k as u64);
-    let q = column(page, p, NMI);
-    let r = put(page, q, records::field(rec, 2));
-    let s = column(page, r, SUFFIX);
-    let t = put(page, s, records::field(rec, 5));
-    let u = column(page, t, UNIT);
-    let v = put(page, u, records::field(rec, unit_of(records::kind(rec))));
-    let w = right(page, v, DAYS, days as u64);
-    let x = total_of(page, w, total(file, k));
-    say(page, x);
+    let q = names(page, p, rec);
+    let r = right(page, q, DAYS, days as u64);
+    let s = total_of(page, r, total(file, k));
+    say(page, s);
 }
 
 fn rows(page: &mut [u8], file: &[u8]) {

@@ -3,11 +3,29 @@ use text::bytes::put_bytes;
 use text::digits::put_dec;
 use text::values::put_value;
 
+ghost use mathlib.Core.Path.{_≡_};
 ghost use mathlib.Core.List.{_∷_};
+ghost use Rattle.ground.specs.Lists.{part as Lists·part};
 ghost use Rattle.ground.specs.Digits.{dec};
 ghost use Rattle.format.specs.Block.{valueText};
 ghost use Rattle.page.specs.Filled.{Filled};
 ghost use Rattle.page.specs.Lines.{numbersText};
+
+// The bytes from one place up to another, as far as there are any.
+pub fn part(text: &[u8], from: usize, to: usize) -> &[u8]
+    ensures { λ r. ⌜ now r ≡ Lists·part (now (text .entry)) from to ⌝ }
+{
+    if text.len() <= from {
+        return &text[..0];
+    }
+    if to <= from {
+        return &text[..0];
+    }
+    if text.len() <= to {
+        return &text[from..];
+    }
+    &text[from..to]
+}
 
 pub fn put(page: &mut [u8], at: usize, text: &[u8]) -> usize
     ensures { λ r. ⌜ Filled (now (page .entry)) at (now (text .entry)) r (now (page .exit)) ⌝ }
