@@ -1,0 +1,161 @@
+// The tool for people. Words: check FILE, day FILE K, totals FILE, block FILE K, help.
+mod lines;
+mod records;
+mod names;
+mod refusals;
+mod files;
+mod checks;
+mod days;
+mod totals;
+
+use days::Wanted;
+use files::Loaded;
+use format::Number;
+use leaf::bytes::same_bytes;
+use leaf::digits::digits;
+use lines::complain;
+use lines::quoted;
+use page::texts::put;
+
+// What the first word asks for.
+enum Task {
+    Check,
+    Day,
+    Totals,
+    Block,
+    Help,
+    Unknown,
+}
+
+fn asked(word: &[u8]) -> Task {
+    if same_bytes(word, b"check") {
+        return Task::Check;
+    }
+    if same_bytes(word, b"day") {
+        return Task::Day;
+    }
+    if same_bytes(word, b"totals") {
+        return Task::Totals;
+    }
+    if same_bytes(word, b"block") {
+        return Task::Block;
+    }
+    if same_bytes(word, b"help") {
+        return Task::Help;
+    }
+    Task::Unknown
+}
+
+// How many words the task takes, the program's own name and its own among them.
+fn words(task: Task) -> usize {
+    match task {
+        Task::Check => 3,
+        Task::Totals => 3,
+        Task::Day => 4,
+        Task::Block => 4,
+        Task::Help => 2,
+        Task::Unknown => 2,
+    }
+}
+
+fn help() {
+    io::write_all(libc::STDOUT_FILENO, b"nem reads NEM12 and NEM13 metering files\n\n");
+    io::write_all(libc::STDOUT_FILENO, b"  nem check FILE     whether the file is accepted, or its first fault and where it stands\n");
+    io::write_all(libc::STDOUT_FILENO, b"  nem day FILE K     day K as a table, a line for each interval; days are numbered from 0\n");
+    io::write_all(libc::STDOUT_FILENO, b"  nem totals FILE    what each channel adds up to\n");
+    io::write_all(libc::STDOUT_FILENO, b"  nem block FILE K   day K as its shortest block of records\n");
+    io::write_all(libc::STDOUT_FILENO, b"  nem help           this text\n");
+}
+
+// ---- what is wrong with the words
+
+fn form(page: &mut [u8], at: usize, task: Task) -> usize {
+    match task {
+        Task::Check => put(page, at, b"check FILE"),
+        Task::Day => put(page, at, b"day FILE K"),
+        Task::Totals => put(page, at, b"totals FILE"),
+        Task::Block => put(page, at, b"block FILE K"),
+        Task::Help => put(page, at, b"help"),
+        Task::Unknown => put(page, at, b"help"),
+    }
+}
+
+fn usage(page: &mut [u8], task: Task) {
+    let p = put(page, 0, b"nem: the words are nem ");
+    let q = form(page, p, task);
+    complain(page, q);
+}
+
+fn no_task(page: &mut [u8], word: &[u8]) {
+    let p = put(page, 0, b"nem: no such word: ");
+    let q = quoted(page, p, word);
+    let r = put(page, q, b"; nem help says which there are");
+    complain(page, r);
+}
+
+fn no_number(page: &mut [u8], word: &[u8]) {
+    let p = put(page, 0, b"nem: no number of a day: ");
+    let q = quoted(page, p, word);
+    complain(page, q);
+}
+
+// ---- the tasks
+
+fn day(page: &mut [u8], file: &[u8], wanted: Wanted) {
+    let mut word = io::buffer();
+    let n = os::arg(3, &mut word);
+    match digits(&word[..n], 1, 14) {
+        Number::Is(k) => days::show(page, file, k as usize, wanted),
+        Number::Bad => no_number(page, &word[..n]),
+    }
+}
+
+fn done(page: &mut [u8], file: &[u8], task: Task) {
+    match task {
+        Task::Check => checks::show(page, file),
+        Task::Totals => totals::show(page, file),
+        Task::Day => day(page, file, Wanted::Table),
+        Task::Block => day(page, file, Wanted::Block),
+        Task::Help => help(),
+        Task::Unknown => help(),
+    }
+}
+
+fn with_file(page: &mut [u8], room: &mut [u8], task: Task) {
+    let mut path = io::buffer();
+    let n = os::arg(2, &mut path);
+    let Loaded::Bytes(k) = files::load(page, &path[..n], room) else {
+        return;
+    };
+    done(page, records::part(room, 0, k), task);
+}
+
+fn go(room: &mut [u8]) {
+    let mut page = io::large_buffer();
+    let mut word = io::buffer();
+    let n = os::arg(1, &mut word);
+    start(&mut page, room, &word[..n]);
+}
+
+fn start(page: &mut [u8], room: &mut [u8], word: &[u8]) {
+    let task = asked(word);
+    if let Task::Unknown = task {
+        no_task(page, word);
+        return;
+    }
+    if os::arg_count() != words(task) {
+        usage(page, task);
+        return;
+    }
+    if let Task::Help = task {
+        help();
+        return;
+    }
+    with_file(page, room, task);
+}
+
+// A place more than the longest file has, so that a longer one is seen to be one.
+fn main() {
+    let mut room = [0u8; 1048577];
+    go(&mut room);
+}

@@ -1,0 +1,19 @@
+-- An answer's line from its word and its numbers, and the line of a value whose case is known. Assumes nothing.
+use Prim.Native.Nat.{ℕ}
+use mathlib.Core.Path.{_≡_, ap, sym}
+use mathlib.Core.List.{List, [], _∷_}
+use Rattle.ground.specs.Text.{bytes}
+use Rattle.format.specs.Answers.{Answer, accepted, refused}
+use Rattle.page.specs.Filled.{Filled}
+use Rattle.page.specs.Lines.{numbersText, lineOf}
+use Rattle.page.proofs.Filling.{filled-then, filled-as}
+
+module _ {l m n : List ℕ} {at i j : ℕ} where
+  pub line-accepted : (xs : List ℕ) → Filled l at (bytes "accepted") i m → Filled m i (numbersText 32 xs) j n → Filled l at (lineOf (accepted xs)) j n
+  line-accepted xs p q = filled-then p q
+
+  pub line-refused : (x p k f : ℕ) → Filled l at (bytes "refused") i m → Filled m i (numbersText 32 (x ∷ p ∷ k ∷ f ∷ [])) j n → Filled l at (lineOf (refused x p k f)) j n
+  line-refused x p k f a b = filled-then a b
+
+pub line-is : {X : Type 0} (f : X → Answer) {x y : X} {l m : List ℕ} {at i : ℕ} → x ≡ y → Filled l at (lineOf (f y)) i m → Filled l at (lineOf (f x)) i m
+line-is f e p = filled-as p (ap (λ z. lineOf (f z)) (sym e))

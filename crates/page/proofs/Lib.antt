@@ -1,0 +1,3 @@
+pub mod Filling
+pub mod Listed
+pub mod Answered

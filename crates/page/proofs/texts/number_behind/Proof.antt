@@ -1,0 +1,32 @@
+use Rattle.page.proofs.Filling.{filled-none, filled-whole, filled-part, filled-then, filled-sign, filled-front, front-within, front-long, part-room, dec-room, value-room}
+use borrow.Author.Needs.{needs}
+use Rattle.page.proofs.texts.number_behind.Statement.{statement}
+use Rattle.page.proofs.texts.number_behind.Tie as tie
+use Rattle.page.proofs.texts.number_behind.Reads as reads
+use Rattle.page.proofs.texts.number_behind.Lts as lts
+use Rattle.page.proofs.texts.number.Reads as number-reads
+use Rattle.page.proofs.texts.put.Reads as put-reads
+
+-- src/texts.rt:46:27
+slice-aggregate-put : tie.Need-slice-aggregate-put
+slice-aggregate-put c = search needs
+
+-- src/texts.rt:46:9
+put-requires : tie.Need-put-requires
+put-requires c κs = search needs
+
+-- src/texts.rt:47:5
+number-requires : tie.Need-number-requires
+number-requires c κs = search needs
+
+-- src/texts.rt:43:1
+same-length : tie.Need-same-length
+same-length c = search needs
+
+-- src/texts.rt:43:1
+returns : tie.Need-returns
+returns c = search filled-sign
+
+pub number-behind-spec : {M : Type 1} → statement M
+number-behind-spec =
+    tie.close (tie.spec slice-aggregate-put put-requires number-requires same-length returns)

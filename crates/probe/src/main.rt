@@ -1,0 +1,68 @@
+// Answers the cases on standard input, one after the other, so that each public entry can be driven with any bytes.
+mod input;
+mod numbers;
+mod out;
+mod kept;
+mod files;
+mod days;
+
+use input::next;
+use input::Cursor;
+use input::Going;
+use input::Taken;
+
+// Nothing says that the input ends, so the loop over its cases has a count that falls.
+const TURNS: u64 = 18446744073709551615;
+
+// The next case, told by its first byte.
+fn case(buf: &mut [u8], c: Cursor, file: &mut [u8], page: &mut [u8], at: usize) -> Going {
+    let Taken::Byte(b, after) = next(buf, c) else {
+        return Going::Ended;
+    };
+    match b {
+        b'c' => files::check_case(buf, after, file, page, at),
+        b'd' => files::day_case(buf, after, file, page, at),
+        b't' => files::total_case(buf, after, file, page, at),
+        b'w' => days::write_case(buf, after, page, at),
+        _ => Going::Bad,
+    }
+}
+
+fn bad_case(page: &mut [u8], at: usize) {
+    let p = page::texts::put(page, at, b"bad case\n");
+    out::write(page, p);
+}
+
+fn run(buf: &mut [u8], file: &mut [u8], page: &mut [u8]) {
+    let mut c = Cursor { at: 0, end: 0 };
+    let mut at: usize = 0;
+    let mut turns = TURNS;
+    while 0 < turns {
+        turns -= 1;
+        match case(buf, c, file, page, at) {
+            Going::On(next, place) => {
+                c = next;
+                at = out::make_room(page, place);
+            }
+            Going::Ended => {
+                out::write(page, at);
+                return;
+            }
+            Going::Bad => {
+                bad_case(page, at);
+                return;
+            }
+        }
+    }
+}
+
+fn go(file: &mut [u8]) {
+    let mut buf = io::large_buffer();
+    let mut page = io::large_buffer();
+    run(&mut buf, file, &mut page);
+}
+
+fn main() {
+    let mut file = [0u8; 1100000];
+    go(&mut file);
+}

@@ -1,0 +1,150 @@
+// The settled cases of document 01 that are not proved as rows of a statement: each is run, and its file 'stdout' has what 01 says of it.
+use format::DayHead;
+use format::Written;
+use page::answers;
+use page::texts::put;
+use reading::check;
+use reading::total;
+use writing::write_day;
+
+// ---- lines
+
+fn say(page: &mut [u8], at: usize) {
+    let p = put(page, at, b"\n");
+    if p <= page.len() {
+        io::write_all(libc::STDOUT_FILENO, &page[..p]);
+    }
+}
+
+// The first n bytes.
+fn first(file: &[u8], n: usize) -> &[u8] {
+    if file.len() < n {
+        return file;
+    }
+    &file[..n]
+}
+
+// What a case is called, and what the check answers of its file.
+fn checked(page: &mut [u8], name: &[u8], file: &[u8]) {
+    let p = put(page, 0, name);
+    let q = put(page, p, b": ");
+    let r = answers::checked(page, q, check(file));
+    say(page, r);
+}
+
+// ---- files with one half-hour channel
+
+fn channel(file: &mut [u8]) -> usize {
+    put(file, 0, b"100,NEM12,200401011200,MDP1,RETAILER\r\n200,NEM1234567,E1,1,E1,N1,METER1,kWh,30,\r\n")
+}
+
+// A day of a date and a quality, each of whose 48 values is 1.
+fn day(file: &mut [u8], at: usize, date: &[u8], quality: &[u8]) -> usize {
+    let p = put(file, at, b"300,");
+    let q = put(file, p, date);
+    let r = put(file, q, b",1,1,1,1,1,1,1,1,1,1,1,1,1,1,1,1,1,1,1,1,1,1,1,1,1,1,1,1,1,1,1,1,1,1,1,1,1,1,1,1,1,1,1,1,1,1,1,1,");
+    let s = put(file, r, quality);
+    put(file, s, b",,,20040102010203,\r\n")
+}
+
+// The channel with a day and the records behind it.
+fn file_of(file: &mut [u8], date: &[u8], quality: &[u8], records: &[u8]) -> usize {
+    let p = channel(file);
+    let q = day(file, p, date, quality);
+    put(file, q, records)
+}
+
+fn day_case(page: &mut [u8], name: &[u8], date: &[u8], quality: &[u8], records: &[u8]) {
+    let mut file = io::buffer();
+    let n = file_of(&mut file, date, quality, records);
+    checked(page, name, first(&file, n));
+}
+
+// ---- the sample 250
+
+fn sample(page: &mut [u8], file: &[u8]) {
+    checked(page, b"the sample 250 of section 5.3", file);
+    let p = put(page, 0, b"its quantity: ");
+    let q = answers::totalled(page, p, total(file, 0));
+    say(page, q);
+}
+
+// ---- the day that is written whole
+
+// The answer, and behind its line the block.
+fn block(page: &mut [u8], x: Written, room: &[u8]) {
+    let p = put(page, 0, b"the day written whole: ");
+    let q = answers::written(page, p, x);
+    say(page, q);
+    match x {
+        Written::Block { bytes, records: _ } => {
+            io::write_all(libc::STDOUT_FILENO, first(room, bytes));
+        }
+        Written::Refused(_) => {}
+    }
+}
+
+// 3 of quality A, and from the twenty-first on 4 of E52.
+fn values() -> [u64; 48]
+    ensures { λ r. ⌜ 48 ≡ length r ⌝ }
+{
+    let mut list = [3000000u64; 48];
+    let mut i: usize = 20;
+    while i < 48 {
+        list[i] = 4000000;
+        i += 1;
+    }
+    list
+}
+
+fn bytes(before: u8, behind: u8) -> [u8; 48]
+    ensures { λ r. ⌜ 48 ≡ length r ⌝ }
+{
+    let mut list = [before; 48];
+    let mut i: usize = 20;
+    while i < 48 {
+        list[i] = behind;
+        i += 1;
+    }
+    list
+}
+
+fn written_in(page: &mut [u8], values: &[u64], flags: &[u8], methods: &[u8], room: &mut [u8]) {
+    let day = DayHead {
+        date: 20030922,
+        length: 30,
+        update: 20030922092231,
+        load: 0,
+    };
+    let reasons = [65535u16; 48];
+    let none = [0usize; 48];
+    let x = write_day(day, values, flags, methods, &reasons, &none, &none, b"", room);
+    block(page, x, room);
+}
+
+fn written(page: &mut [u8]) {
+    let values = values();
+    let flags = bytes(b'A', b'E');
+    let methods = bytes(255, 52);
+    let mut room = io::buffer();
+    written_in(page, &values, &flags, &methods, &mut room);
+}
+
+fn cases(page: &mut [u8]) {
+    day_case(page, b"20040229", b"20040229", b"A", b"900\r\n");
+    day_case(page, b"20030229", b"20030229", b"A", b"900\r\n");
+    day_case(page, b"1 to 31 and then a 500", b"20040101", b"V", b"400,1,31,A,,\r\n500,O,,,\r\n900\r\n");
+    day_case(page, b"400,1,48,A,,", b"20040101", b"V", b"400,1,48,A,,\r\n900\r\n");
+    checked(page, b"the empty file", b"");
+    day_case(page, b"900,", b"20040101", b"A", b"900,\r\n");
+}
+
+fn main() {
+    let mut page = io::buffer();
+    cases(&mut page);
+    sample(
+        &mut page,
+        b"100,NEM13,200301011534,MDP1,Retailer1\r\n250,1234567890,1141,01,11,11,METSERG6,E,000021.2,20031001103230,A,,,000534.5,20040201100030,E64,77,,343.5,kWh,20040509,20040202125010,20040203000130\r\n900\r\n",
+    );
+    written(&mut page);
+}
