@@ -5,7 +5,7 @@ use crate::refusals::explain;
 use format::Checked;
 use page::texts::number;
 use page::texts::put;
-use reading::check;
+use reading::check::check;
 
 fn accepted(page: &mut [u8], version: u64, channels: usize, days: usize) {
     let p = put(page, 0, b"accepted: NEM");

@@ -22,8 +22,8 @@ use page::days::usize_at;
 use page::texts::number;
 use page::texts::put;
 use page::texts::value;
-use reading::check;
-use reading::read_day;
+use reading::check::check;
+use reading::read_day::read_day;
 use text::digits::digits_len;
 use writing::write_day;
 

@@ -8,8 +8,8 @@ use format::Checked;
 use format::Totalled;
 use page::texts::put;
 use page::texts::value;
-use reading::check;
-use reading::total;
+use reading::check::check;
+use reading::total::total;
 use text::digits::digits_len;
 
 // Where the columns of the table start, or, of numbers, end.

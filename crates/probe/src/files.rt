@@ -10,9 +10,9 @@ use format::DayRead;
 use page::answers;
 use page::days::intervals;
 use page::texts::put;
-use reading::check;
-use reading::read_day;
-use reading::total;
+use reading::check::check;
+use reading::read_day::read_day;
+use reading::total::total;
 
 // What each place of a lent list is filled with: nothing that an interval of a day has.
 const WIDE_MARK: u64 = 18446744073709551557;
