@@ -1,0 +1,462 @@
+//! The contents of single fields: ones that keep their rules, and ones that are near to breaking them.
+
+use super::chance::Chance;
+use crate::fields::{is_real_date, Quality, Rule};
+use crate::notes::{Note, NO_REASON};
+
+pub type Word = Vec<u8>;
+
+const LETTERS_AND_DIGITS: &[u8] = b"ABCDEFGHIJKLMNOPQRSTUVWXYZabcdefghijklmnopqrstuvwxyz0123456789";
+const LETTERS: &[u8] = b"ABCDEFGHIJKLMNOPQRSTUVWXYZabcdefghijklmnopqrstuvwxyz";
+const CAPITALS: &[u8] = b"ABCDEFGHIJKLMNOPQRSTUVWXYZ";
+const DIGITS: &[u8] = b"0123456789";
+
+fn from_alphabet(chance: &mut Chance, alphabet: &[u8], length: usize) -> Word {
+    (0..length).map(|_| chance.pick(alphabet)).collect()
+}
+
+/// A byte that may stand in a field and is no space.
+fn dense_byte(chance: &mut Chance) -> u8 {
+    loop {
+        let byte = chance.between(0x21, 0x7E) as u8;
+        if byte != b',' {
+            return byte;
+        }
+    }
+}
+
+/// Text that may stand in a field: spaces only between other bytes.
+pub fn text(chance: &mut Chance, length: usize) -> Word {
+    let mut text: Word = (0..length).map(|_| dense_byte(chance)).collect();
+    if length > 2 {
+        for inner in &mut text[1..length - 1] {
+            if chance.one_in(8) {
+                *inner = b' ';
+            }
+        }
+    }
+    text
+}
+
+fn participant(chance: &mut Chance) -> Word {
+    let length = chance.length(1, 10);
+    let mut name = text(chance, length);
+    for byte in &mut name {
+        if *byte == b'#' {
+            *byte = b'$';
+        }
+    }
+    name
+}
+
+// --- Dates and times ---
+
+/// Dates at the edges of years, months and the calendar.
+const EDGE_DATES: [u32; 14] = [
+    19000101, 19000228, 19000301, 19991231, 20000101, 20000228, 20000229, 20031231, 20040229, 20991231, 21000228,
+    21960229, 21991230, 21991231,
+];
+
+pub fn date(chance: &mut Chance) -> u32 {
+    if chance.one_in(4) {
+        return chance.pick(&EDGE_DATES);
+    }
+    loop {
+        let date = chance.between(1900, 2199) * 10_000 + chance.between(1, 12) * 100 + chance.between(1, 31);
+        if is_real_date(date as u64) {
+            return date as u32;
+        }
+    }
+}
+
+/// The date of the next day, if it is one that a file may hold.
+pub fn next_date(date: u32) -> Option<u32> {
+    let next_month = date / 100 * 100 + 101;
+    let next_year = date / 10_000 * 10_000 + 10_101;
+    [date + 1, next_month, next_year].into_iter().find(|next| is_real_date(u64::from(*next)))
+}
+
+/// One date or more, each later than the one before it.
+pub fn rising_dates(chance: &mut Chance, count: usize) -> Vec<u32> {
+    let mut dates = vec![date(chance)];
+    while dates.len() < count {
+        let mut last = dates[dates.len() - 1];
+        for _ in 0..if chance.one_in(4) { chance.between(1, 400) } else { 1 } {
+            match next_date(last) {
+                Some(next) => last = next,
+                None => return dates,
+            }
+        }
+        dates.push(last);
+    }
+    dates
+}
+
+/// A time of day as the six digits hhmmss.
+fn clock(chance: &mut Chance) -> u64 {
+    match chance.below(6) {
+        0 => 0,
+        1 => 235_959,
+        _ => (chance.below(24) * 10_000 + chance.below(60) * 100 + chance.below(60)) as u64,
+    }
+}
+
+/// A time on this date, as one number of 14 digits.
+pub fn time_on(chance: &mut Chance, date: u32) -> u64 {
+    u64::from(date) * 1_000_000 + clock(chance)
+}
+
+pub fn time(chance: &mut Chance) -> u64 {
+    let date = date(chance);
+    time_on(chance, date)
+}
+
+pub fn number_word(number: impl ToString) -> Word {
+    number.to_string().into_bytes()
+}
+
+fn or_empty(chance: &mut Chance, word: Word) -> Word {
+    if chance.one_in(2) {
+        Vec::new()
+    } else {
+        word
+    }
+}
+
+// --- Values and reads ---
+
+/// Digits, then nothing or a point and digits.
+fn decimal_word(chance: &mut Chance, before: usize, behind: usize) -> Word {
+    let mut word = from_alphabet(chance, DIGITS, before);
+    if behind > 0 {
+        word.push(b'.');
+        word.extend(from_alphabet(chance, DIGITS, behind));
+    }
+    word
+}
+
+fn read(chance: &mut Chance) -> Word {
+    let length = chance.length(1, 15);
+    if length < 3 || chance.one_in(3) {
+        return decimal_word(chance, length, 0);
+    }
+    let before = chance.between(1, length - 2);
+    decimal_word(chance, before, length - 1 - before)
+}
+
+/// A value in any shape that is allowed.
+fn value_of_any_shape(chance: &mut Chance) -> Word {
+    match chance.below(10) {
+        0 => b"9999999.999999".to_vec(),
+        1 => b"0000000.000000".to_vec(),
+        2 => b"0".to_vec(),
+        3 => b"003.40".to_vec(),
+        _ => {
+            let (before, behind) = (chance.between(1, 7), chance.below(7));
+            decimal_word(chance, before, behind)
+        }
+    }
+}
+
+/// The values of one day, all in one style.
+pub fn values(chance: &mut Chance, n: usize) -> Vec<Word> {
+    match chance.below(8) {
+        0 => vec![value_of_any_shape(chance); n],
+        1 => (0..n).map(|_| value_of_any_shape(chance)).collect(),
+        2..=4 => (0..n).map(|_| decimal_word(chance, 1, 0)).collect(),
+        _ => (0..n).map(|_| decimal_word(chance, 1, 2)).collect(),
+    }
+}
+
+// --- Notes ---
+
+/// Quality, reason and description as they stand in a record.
+#[derive(Clone, Debug, PartialEq, Eq)]
+pub struct NoteWords {
+    pub quality: Word,
+    pub reason: Word,
+    pub description: Word,
+}
+
+impl NoteWords {
+    pub fn fields(&self) -> [Word; 3] {
+        [self.quality.clone(), self.reason.clone(), self.description.clone()]
+    }
+
+    fn keeps_rules_across(&self) -> bool {
+        let reason = if self.reason.is_empty() { NO_REASON } else { crate::fields::decimal(&self.reason) as u16 };
+        let quality = Quality { flag: self.quality[0], method: 0 };
+        Note { quality, reason, description: &self.description, description_start: 0 }.keeps_rules_across()
+    }
+}
+
+fn quality(chance: &mut Chance) -> Word {
+    let flag = chance.pick(b"AAAEEFS");
+    let mut quality = vec![flag];
+    if flag != b'A' {
+        quality.extend(from_alphabet(chance, DIGITS, 2));
+    }
+    quality
+}
+
+fn reason(chance: &mut Chance) -> Word {
+    match chance.below(6) {
+        0 | 1 => Vec::new(),
+        2 => b"0".to_vec(),
+        3 => chance.pick(&[b"1".as_slice(), b"9", b"10", b"79", b"99", b"100", b"999"]).to_vec(),
+        _ => number_word(chance.below(1000)),
+    }
+}
+
+fn description(chance: &mut Chance) -> Word {
+    if chance.one_in(2) {
+        return Vec::new();
+    }
+    let length = if chance.one_in(12) { 240 } else { chance.between(1, 20) };
+    text(chance, length)
+}
+
+/// A note that a 400 may carry.
+pub fn note(chance: &mut Chance) -> NoteWords {
+    loop {
+        let note = NoteWords { quality: quality(chance), reason: reason(chance), description: description(chance) };
+        if note.keeps_rules_across() {
+            return note;
+        }
+    }
+}
+
+/// A note that differs from this one, mostly in one part alone.
+pub fn other_note(chance: &mut Chance, from: &NoteWords) -> NoteWords {
+    loop {
+        let mut other = from.clone();
+        match chance.below(6) {
+            0 => other.quality = quality(chance),
+            1 => other.reason = reason(chance),
+            2 => other.description = description(chance),
+            // One byte of the description another.
+            3 if !other.description.is_empty() => {
+                let place = chance.below(other.description.len());
+                other.description[place] = dense_byte(chance);
+            }
+            // One byte of the method another.
+            4 if other.quality.len() == 3 => {
+                let place = chance.between(1, 2);
+                other.quality[place] = chance.pick(DIGITS);
+            }
+            _ => other = note(chance),
+        }
+        if other != *from && other.keeps_rules_across() {
+            return other;
+        }
+    }
+}
+
+/// A note, each part of which keeps its rule, that breaks a rule across them.
+pub fn note_against_rules(chance: &mut Chance, in_day: bool) -> NoteWords {
+    loop {
+        let quality = if in_day && chance.one_in(3) { b"V".to_vec() } else { quality(chance) };
+        let note = NoteWords { quality, reason: reason(chance), description: description(chance) };
+        if !note.keeps_rules_across() {
+            return note;
+        }
+    }
+}
+
+// --- Any field by its rule ---
+
+/// A content that keeps the rule.
+pub fn keeping(chance: &mut Chance, rule: Rule) -> Word {
+    let text_of = |chance: &mut Chance, low, high| {
+        let length = chance.length(low, high);
+        text(chance, length)
+    };
+    match rule {
+        Rule::Indicator => chance.pick(&INDICATORS[..INDICATORS_RIGHT]).as_bytes().to_vec(),
+        Rule::Version => chance.pick(&[b"NEM12", b"NEM13"]).to_vec(),
+        Rule::FileTime => number_word(time(chance) / 100),
+        Rule::Participant => participant(chance),
+        Rule::Nmi => from_alphabet(chance, LETTERS_AND_DIGITS, 10),
+        Rule::Configuration => text_of(chance, 1, 240),
+        Rule::Register => text_of(chance, 0, 10),
+        Rule::Suffix => from_alphabet(chance, LETTERS_AND_DIGITS, 2),
+        Rule::DataStream => {
+            let word = from_alphabet(chance, LETTERS_AND_DIGITS, 2);
+            or_empty(chance, word)
+        }
+        Rule::Serial => text_of(chance, 0, 12),
+        Rule::Unit => {
+            let length = chance.between(1, 5);
+            from_alphabet(chance, LETTERS, length)
+        }
+        Rule::IntervalLength => number_word(chance.pick(&[5, 15, 30])),
+        Rule::Date => number_word(date(chance)),
+        Rule::DateOrEmpty => {
+            let word = number_word(date(chance));
+            or_empty(chance, word)
+        }
+        Rule::Time => number_word(time(chance)),
+        Rule::TimeOrEmpty => {
+            let word = number_word(time(chance));
+            or_empty(chance, word)
+        }
+        Rule::Value => value_of_any_shape(chance),
+        Rule::DayQuality | Rule::Quality => quality(chance),
+        Rule::Reason => reason(chance),
+        Rule::Description => description(chance),
+        Rule::IntervalNumber => number_word(chance.below(300)),
+        Rule::TransCode => from_alphabet(chance, CAPITALS, 1),
+        Rule::ServiceOrder => text_of(chance, 0, 15),
+        Rule::Direction => chance.pick(&[b"I", b"E"]).to_vec(),
+        Rule::Read => read(chance),
+        Rule::ReadOrEmpty => {
+            let word = read(chance);
+            or_empty(chance, word)
+        }
+    }
+}
+
+/// Indicators, and behind these words that are nearly ones.
+const INDICATORS: [&str; 26] = [
+    "100", "200", "300", "400", "500", "250", "550", "900", "", " ", "0", "101", "901", "3O0", " 300", "300 ", "0300",
+    "400 ", " 400", "0400", "40", "4000", "30", "900 ", "600", "NEM12",
+];
+const INDICATORS_RIGHT: usize = 8;
+
+const VERSIONS: [&str; 9] = ["NEM12", "NEM13", "nem12", "NEM11", "NEM1", "NEM123", "", "NEM12 ", "Nem13"];
+
+const DATES: [&str; 33] = [
+    "20000229", "21000229", "19000229", "20040229", "20030229", "19000101", "18991231", "21991231", "22000101",
+    "20031301", "20030001", "20030132", "20031131", "20030100", "20030431", "20030430", "20030631", "20030931",
+    "20031231", "20030230", "20960229", "21960229", "19040229", "2003043", "200304300", "", "2003O430", "00000000",
+    "99999999", "20030 30", " 20030430", "20030430 ", "+0030430",
+];
+/// So many of the dates are tried in times too.
+const TELLING_DATES: usize = 13;
+
+const CLOCKS: [&str; 12] = [
+    "000000", "235959", "240000", "236000", "235960", "126000", "120060", "1a0000", "12:000", "00000 ", "00000a",
+    "995959",
+];
+
+const VALUES: [&str; 34] = [
+    "0", "00", "0000000", "00000000", "9999999", "10000000", "12345678", "9999999.999999", "9999999.9999999",
+    "99999999.9", "0.0", "0.000000", "0.0000000", "0.000001", "0.0000001", "003.40", "17.461", ".5", "5.", ".", "5.0",
+    "1..2", "1.2.3", "-1", "+1", "1e3", "", "1 2", " 1", "1 ", "0x1", "1.2a", "1234567.1", "5.000000",
+];
+
+const QUALITIES: [&str; 36] = [
+    "A", "V", "E52", "F14", "S14", "E00", "S99", "F00", "E5", "E", "S", "F", "A14", "V14", "v", "a", "e52", "s14",
+    "f14", "E5a", "Ea5", "E521", "", "N", "N52", "E 2", "E2 ", " A", "A ", "V ", "AA", "VV", "B12", "Q", "514", "E-1",
+];
+
+const REASONS: [&str; 20] = [
+    "", "0", "00", "000", "01", "007", "099", "7", "79", "999", "1000", "10", "100", "-1", "a", "1a", " 1", "1 ", "0 ",
+    "+7",
+];
+
+const INTERVAL_NUMBERS: [&str; 28] = [
+    "0", "1", "2", "00", "01", "47", "48", "49", "95", "96", "97", "287", "288", "289", "290", "999", "1000", "9999",
+    "10000", "", "-1", "048", "1 ", " 1", "1.0", "a", "0001", "0048",
+];
+
+const INTERVAL_LENGTHS: [&str; 18] =
+    ["5", "15", "30", "05", "015", "030", "10", "60", "0", "1", "", "3O", "30 ", " 5", "300", "31", "5.0", "55"];
+
+const READS: [&str; 18] = [
+    "0", "000021.2", "123456789012345", "1234567890123456", "1234567.1234567", "1234567.12345678", ".5", "5.", ".", "",
+    "1.2.3", "1..2", "-5", "1e5", " 5", "5 ", "5 5", "00000",
+];
+
+/// All contents that are interesting under the rule, whether they keep it or not.
+pub fn edges(rule: Rule) -> Vec<Word> {
+    let words = |words: &[&str]| words.iter().map(|word| word.as_bytes().to_vec()).collect();
+    match rule {
+        Rule::Indicator => words(&INDICATORS),
+        Rule::Version => words(&VERSIONS),
+        Rule::Date | Rule::DateOrEmpty => words(&DATES),
+        Rule::FileTime => times(4),
+        Rule::Time | Rule::TimeOrEmpty => times(6),
+        Rule::Value => words(&VALUES),
+        Rule::DayQuality | Rule::Quality => words(&QUALITIES),
+        Rule::Reason => words(&REASONS),
+        Rule::IntervalNumber => words(&INTERVAL_NUMBERS),
+        Rule::IntervalLength => words(&INTERVAL_LENGTHS),
+        Rule::Read | Rule::ReadOrEmpty => words(&READS),
+        Rule::TransCode => words(&["N", "Z", "A", "n", "", "NN", "1", "@", "[", " ", "N "]),
+        Rule::Direction => words(&["I", "E", "i", "e", "", "B", "IE", "A", " ", "I "]),
+        Rule::Participant => lengths(10, b"# ~!"),
+        Rule::Nmi => lengths(10, b"-_ /:@[`{5Z"),
+        Rule::Suffix | Rule::DataStream => lengths(2, b"-_ /:@[`{5Z"),
+        Rule::Unit => lengths(5, b"0-@[`{ Z"),
+        Rule::Configuration | Rule::Description => lengths(240, b"# ~!"),
+        Rule::Register => lengths(10, b"# ~!"),
+        Rule::Serial => lengths(12, b"# ~!"),
+        Rule::ServiceOrder => lengths(15, b"# ~!"),
+    }
+}
+
+/// Letters up to just over the longest length, and spaces and other bytes among letters.
+fn lengths(longest: usize, others: &[u8]) -> Vec<Word> {
+    let letters = |length: usize| vec![b'k'; length];
+    let mut words: Vec<Word> = [0, 1, longest - 1, longest, longest + 1].map(letters).to_vec();
+    for other in others {
+        let mut word = letters(longest);
+        word[longest / 2] = *other;
+        words.push(word);
+    }
+    for end in [0, longest - 1] {
+        let mut word = letters(longest);
+        word[end] = b' ';
+        words.push(word);
+    }
+    words.push(b" ".to_vec());
+    words
+}
+
+/// Dates at noon, and times of one day, with as many digits behind the date as the rule has.
+fn times(digits: usize) -> Vec<Word> {
+    let time = |date: &str, clock: &str| format!("{date}{}", &clock[..clock.len().min(digits)]).into_bytes();
+    let mut words: Vec<Word> = DATES[..TELLING_DATES].iter().map(|date| time(date, "120000")).collect();
+    words.extend(CLOCKS.iter().map(|clock| time("20030430", clock)));
+    let others = ["", " ", "20030430", "20030430123", "2003043012345", "200304301234567", "20030430 12345"];
+    words.extend(others.map(|word| word.as_bytes().to_vec()));
+    // Right but for the number of digits, which is the other kind of time's.
+    words.push(if digits == 4 { b"20030430120000".to_vec() } else { b"200304301200".to_vec() });
+    words
+}
+
+/// A content that is interesting under the rule, whether it keeps it or not.
+pub fn interesting(chance: &mut Chance, rule: Rule) -> Word {
+    match chance.below(12) {
+        0 | 1 => keeping(chance, rule),
+        2 => with_end_space(chance, rule),
+        _ => {
+            let mut edges = edges(rule);
+            let place = chance.below(edges.len());
+            edges.swap_remove(place)
+        }
+    }
+}
+
+fn with_end_space(chance: &mut Chance, rule: Rule) -> Word {
+    let mut word = keeping(chance, rule);
+    let place = if chance.one_in(2) { 0 } else { word.len() };
+    word.insert(place, b' ');
+    word
+}
+
+/// A content that breaks the rule.
+pub fn breaking(chance: &mut Chance, rule: Rule) -> Word {
+    loop {
+        let word = interesting(chance, rule);
+        if !rule.allows(&word) {
+            return word;
+        }
+    }
+}
+
+/// A first field that names no kind of record.
+pub fn breaking_indicator(chance: &mut Chance) -> Word {
+    chance.pick(&INDICATORS[INDICATORS_RIGHT..]).as_bytes().to_vec()
+}

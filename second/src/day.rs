@@ -1,0 +1,59 @@
+//! Reading one day of a NEM12 file into lent lists.
+
+use crate::check::{read_file, Day};
+use crate::refusal::{Refusal, LENT_TOO_SHORT, NO_SUCH_NUMBER};
+
+/// The six lists that a reader lends. Each has a place for each interval.
+pub struct LentLists<'a> {
+    pub values: &'a mut [u64],
+    pub flags: &'a mut [u8],
+    pub methods: &'a mut [u8],
+    pub reasons: &'a mut [u16],
+    pub starts: &'a mut [usize],
+    pub lengths: &'a mut [usize],
+}
+
+impl LentLists<'_> {
+    fn shortest(&self) -> usize {
+        let lengths = [
+            self.values.len(),
+            self.flags.len(),
+            self.methods.len(),
+            self.reasons.len(),
+            self.starts.len(),
+            self.lengths.len(),
+        ];
+        lengths.into_iter().min().unwrap_or(0)
+    }
+
+    fn fill(&mut self, day: &Day) {
+        for (index, (value, note)) in day.values.iter().zip(&day.notes).enumerate() {
+            let length = note.description.len();
+            self.values[index] = *value;
+            self.flags[index] = note.quality.flag;
+            self.methods[index] = note.quality.method;
+            self.reasons[index] = note.reason;
+            self.starts[index] = if length == 0 { 0 } else { note.description_start };
+            self.lengths[index] = length;
+        }
+    }
+}
+
+#[derive(Clone, Copy, Debug, PartialEq, Eq)]
+pub struct DayRead {
+    pub date: u32,
+    pub n: usize,
+    pub update: u64,
+    pub load: u64,
+}
+
+pub fn read_day(file: &[u8], number: usize, mut lists: LentLists) -> Result<DayRead, Refusal> {
+    let content = read_file(file)?;
+    let day = content.days.get(number).ok_or(Refusal::without_place(NO_SUCH_NUMBER))?;
+    let n = day.values.len();
+    if lists.shortest() < n {
+        return Err(Refusal::without_place(LENT_TOO_SHORT));
+    }
+    lists.fill(day);
+    Ok(DayRead { date: day.date, n, update: day.update, load: day.load })
+}

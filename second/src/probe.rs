@@ -1,0 +1,412 @@
+//! The probe: cases in, answers out, line by line.
+
+use crate::check::check;
+use crate::day::{read_day, DayRead, LentLists};
+use crate::refusal::{self, Refusal};
+use crate::total::total;
+use crate::write::{write_day, DayHead, DayLists};
+use std::io::{self, Write};
+
+const LONGEST_LENT_FILE: u64 = 1_100_000;
+const LONGEST_LIST: u64 = 300;
+const LONGEST_TEXT: u64 = 4_096;
+const LARGEST_ROOM: u64 = 131_072;
+
+/// How often each answer was given.
+#[derive(Default)]
+pub struct Tally {
+    accepted: u64,
+    refused: [u64; refusal::LAST as usize + 1],
+    bad_case: bool,
+}
+
+impl Tally {
+    fn count<T>(&mut self, answer: &Result<T, Refusal>) {
+        match answer {
+            Ok(_) => self.accepted += 1,
+            Err(refusal) => self.refused[refusal.number as usize] += 1,
+        }
+    }
+
+    /// Times that a refusal was given.
+    #[cfg(test)]
+    pub fn refusals(&self, number: u64) -> u64 {
+        self.refused[number as usize]
+    }
+
+    pub fn lines(&self) -> String {
+        let mut lines = format!("accepted {}\n", self.accepted);
+        for number in 1..=refusal::LAST {
+            lines += &format!("refused {number} {}\n", self.refused[number as usize]);
+        }
+        if self.bad_case {
+            lines += "bad case 1\n";
+        }
+        lines
+    }
+}
+
+/// Answers each case of the input in turn. The first bad case is answered too, and ends the run.
+pub fn run(input: &[u8], output: &mut impl Write) -> io::Result<Tally> {
+    let mut tally = Tally::default();
+    let mut rest = Input { bytes: input };
+    while !rest.bytes.is_empty() {
+        match answer_case(&mut rest, &mut tally) {
+            Some(answer) => output.write_all(&answer)?,
+            None => {
+                output.write_all(b"bad case\n")?;
+                tally.bad_case = true;
+                break;
+            }
+        }
+    }
+    Ok(tally)
+}
+
+/// Reads one case and answers it. None is a bad case, here and in all that follows.
+fn answer_case(input: &mut Input, tally: &mut Tally) -> Option<Vec<u8>> {
+    let line = input.line()?;
+    let words: Vec<&[u8]> = line.split(|byte| *byte == b' ').collect();
+    match words[..] {
+        [b"check", length] => answer_check(input.file(length)?, tally),
+        [b"day", day, places, length] => {
+            let day = number(day, usize::MAX as u64)? as usize;
+            let places = number(places, LONGEST_LIST)? as usize;
+            answer_day(input.file(length)?, day, places, tally)
+        }
+        [b"total", channel, length] => {
+            let channel = number(channel, usize::MAX as u64)? as usize;
+            answer_total(input.file(length)?, channel, tally)
+        }
+        [b"write", ref numbers @ ..] => answer_write(input, numbers, tally),
+        _ => None,
+    }
+}
+
+fn answer_check(file: &[u8], tally: &mut Tally) -> Option<Vec<u8>> {
+    let answer = check(file);
+    tally.count(&answer);
+    Some(match answer {
+        Ok(summary) => format!("accepted {} {} {}\n", summary.version, summary.channels, summary.days).into_bytes(),
+        Err(refusal) => refusal_line(refusal, false),
+    })
+}
+
+fn answer_day(file: &[u8], day: usize, places: usize, tally: &mut Tally) -> Option<Vec<u8>> {
+    let mut lists = OwnLists::new(places);
+    let answer = read_day(file, day, lists.lend());
+    tally.count(&answer);
+    Some(match answer {
+        Ok(read) => day_line(read, &lists),
+        Err(refusal) => refusal_line(refusal, lists.changed_from(0)),
+    })
+}
+
+fn answer_total(file: &[u8], channel: usize, tally: &mut Tally) -> Option<Vec<u8>> {
+    let answer = total(file, channel);
+    tally.count(&answer);
+    Some(match answer {
+        Ok(total) => format!("accepted {total}\n").into_bytes(),
+        Err(refusal) => refusal_line(refusal, false),
+    })
+}
+
+fn answer_write(input: &mut Input, words: &[&[u8]], tally: &mut Tally) -> Option<Vec<u8>> {
+    let [date, length, update, load, room, list_lengths @ .., text_length] = words else {
+        return None;
+    };
+    let [values, flags, methods, reasons, starts, lengths] = list_lengths else {
+        return None;
+    };
+    let head = DayHead {
+        date: number(date, u64::from(u32::MAX))? as u32,
+        length: number(length, u64::from(u32::MAX))? as u32,
+        update: number(update, u64::MAX)?,
+        load: number(load, u64::MAX)?,
+    };
+    let room_length = number(room, LARGEST_ROOM)? as usize;
+    let text_length = number(text_length, LONGEST_TEXT)? as usize;
+    let values = input.list(values, u64::MAX)?;
+    let flags: Vec<u8> = narrow(input.list(flags, u64::from(u8::MAX))?, |number| number as u8);
+    let methods: Vec<u8> = narrow(input.list(methods, u64::from(u8::MAX))?, |number| number as u8);
+    let reasons: Vec<u16> = narrow(input.list(reasons, u64::from(u16::MAX))?, |number| number as u16);
+    let starts: Vec<usize> = narrow(input.list(starts, usize::MAX as u64)?, |number| number as usize);
+    let lengths: Vec<usize> = narrow(input.list(lengths, usize::MAX as u64)?, |number| number as usize);
+    let text = input.announced(text_length)?;
+    let lists = DayLists {
+        values: &values,
+        flags: &flags,
+        methods: &methods,
+        reasons: &reasons,
+        starts: &starts,
+        lengths: &lengths,
+        text,
+    };
+    let mut room = vec![LENT_BYTE; room_length];
+    let answer = write_day(head, lists, &mut room);
+    tally.count(&answer);
+    Some(match answer {
+        Ok(block) => {
+            let changed = room[block.bytes..].iter().any(|byte| *byte != LENT_BYTE);
+            let mut answer = format!("accepted {} {}", block.bytes, block.records).into_bytes();
+            end_line(&mut answer, changed);
+            answer.extend(&room[..block.bytes]);
+            answer
+        }
+        Err(refusal) => refusal_line(refusal, room.iter().any(|byte| *byte != LENT_BYTE)),
+    })
+}
+
+fn narrow<T>(numbers: Vec<u64>, narrow: impl Fn(u64) -> T) -> Vec<T> {
+    numbers.into_iter().map(narrow).collect()
+}
+
+// --- Lists that are lent ---
+
+/// What stands in lent lists and in lent room before a call. No call writes it: it is no letter of a quality,
+/// no method, and no byte of a block.
+const LENT_BYTE: u8 = 0xA5;
+
+struct OwnLists {
+    values: Vec<u64>,
+    flags: Vec<u8>,
+    methods: Vec<u8>,
+    reasons: Vec<u16>,
+    starts: Vec<usize>,
+    lengths: Vec<usize>,
+}
+
+impl OwnLists {
+    const LENT_NUMBER: u64 = u64::MAX;
+    const LENT_REASON: u16 = 0xA5A5;
+    const LENT_PLACE: usize = usize::MAX;
+
+    fn new(places: usize) -> OwnLists {
+        OwnLists {
+            values: vec![Self::LENT_NUMBER; places],
+            flags: vec![LENT_BYTE; places],
+            methods: vec![LENT_BYTE; places],
+            reasons: vec![Self::LENT_REASON; places],
+            starts: vec![Self::LENT_PLACE; places],
+            lengths: vec![Self::LENT_PLACE; places],
+        }
+    }
+
+    fn lend(&mut self) -> LentLists<'_> {
+        LentLists {
+            values: &mut self.values,
+            flags: &mut self.flags,
+            methods: &mut self.methods,
+            reasons: &mut self.reasons,
+            starts: &mut self.starts,
+            lengths: &mut self.lengths,
+        }
+    }
+
+    /// Whether any place from this one on no longer holds what it held before the call.
+    fn changed_from(&self, place: usize) -> bool {
+        self.values[place..].iter().any(|number| *number != Self::LENT_NUMBER)
+            || self.flags[place..].iter().any(|byte| *byte != LENT_BYTE)
+            || self.methods[place..].iter().any(|byte| *byte != LENT_BYTE)
+            || self.reasons[place..].iter().any(|number| *number != Self::LENT_REASON)
+            || self.starts[place..].iter().any(|number| *number != Self::LENT_PLACE)
+            || self.lengths[place..].iter().any(|number| *number != Self::LENT_PLACE)
+    }
+}
+
+// --- Answers ---
+
+fn refusal_line(refusal: Refusal, changed: bool) -> Vec<u8> {
+    let Refusal { number, place, record, field } = refusal;
+    let mut line = format!("refused {number} {place} {record} {field}").into_bytes();
+    end_line(&mut line, changed);
+    line
+}
+
+fn day_line(read: DayRead, lists: &OwnLists) -> Vec<u8> {
+    let DayRead { date, n, update, load } = read;
+    let mut line = format!("accepted {date} {n} {update} {load}").into_bytes();
+    for index in 0..n {
+        let interval = format!(
+            " {}/{}/{}/{}/{}/{}",
+            lists.values[index],
+            lists.flags[index],
+            lists.methods[index],
+            lists.reasons[index],
+            lists.starts[index],
+            lists.lengths[index]
+        );
+        line.extend(interval.bytes());
+    }
+    end_line(&mut line, lists.changed_from(n));
+    line
+}
+
+fn end_line(line: &mut Vec<u8>, changed: bool) {
+    if changed {
+        line.extend(b" changed");
+    }
+    line.push(b'\n');
+}
+
+// --- Input ---
+
+/// What is left of the input.
+struct Input<'a> {
+    bytes: &'a [u8],
+}
+
+impl<'a> Input<'a> {
+    fn take(&mut self, length: usize) -> Option<&'a [u8]> {
+        if length > self.bytes.len() {
+            return None;
+        }
+        let (taken, rest) = self.bytes.split_at(length);
+        self.bytes = rest;
+        Some(taken)
+    }
+
+    /// The bytes up to the next LF, which is taken too.
+    fn line(&mut self) -> Option<&'a [u8]> {
+        let length = self.bytes.iter().position(|byte| *byte == b'\n')?;
+        let line = self.take(length)?;
+        self.take(1)?;
+        Some(line)
+    }
+
+    /// Bytes that a case announces last, and the LF that ends the case.
+    fn announced(&mut self, length: usize) -> Option<&'a [u8]> {
+        let bytes = self.take(length)?;
+        (self.take(1)? == b"\n").then_some(bytes)
+    }
+
+    fn file(&mut self, length: &[u8]) -> Option<&'a [u8]> {
+        let length = number(length, LONGEST_LENT_FILE)?;
+        self.announced(length as usize)
+    }
+
+    /// A line with as many numbers as the word says, a space behind each.
+    fn list(&mut self, length: &[u8], largest: u64) -> Option<Vec<u64>> {
+        let length = number(length, LONGEST_LIST)? as usize;
+        let mut words: Vec<&[u8]> = self.line()?.split(|byte| *byte == b' ').collect();
+        // Behind the last space stands nothing.
+        let behind = words.pop()?;
+        if !behind.is_empty() || words.len() != length {
+            return None;
+        }
+        words.into_iter().map(|word| number(word, largest)).collect()
+    }
+}
+
+/// A decimal number without sign, no larger than the largest.
+fn number(word: &[u8], largest: u64) -> Option<u64> {
+    if word.is_empty() {
+        return None;
+    }
+    let mut number: u64 = 0;
+    for byte in word {
+        if !byte.is_ascii_digit() {
+            return None;
+        }
+        number = number.checked_mul(10)?.checked_add(u64::from(byte - b'0'))?;
+    }
+    (number <= largest).then_some(number)
+}
+
+#[cfg(test)]
+mod tests {
+    use super::*;
+
+    fn answers(input: &str) -> String {
+        let mut output = Vec::new();
+        run(input.as_bytes(), &mut output).unwrap();
+        String::from_utf8(output).unwrap()
+    }
+
+    fn write_case(head: &str, places: usize, values: &str) -> String {
+        let flags = "65 ".repeat(places);
+        let methods = "255 ".repeat(places);
+        let reasons = "65535 ".repeat(places);
+        let zeros = "0 ".repeat(places);
+        format!("write {head}\n{values}\n{flags}\n{methods}\n{reasons}\n{zeros}\n{zeros}\n\n")
+    }
+
+    #[test]
+    fn no_input_has_no_answer() {
+        assert_eq!(answers(""), "");
+    }
+
+    #[test]
+    fn empty_file_is_two_at_place_zero() {
+        assert_eq!(answers("check 0\n\ntotal 7 0\n\nday 0 48 0\n\n"), "refused 2 0 0 0\n".repeat(3));
+    }
+
+    #[test]
+    fn a_bad_case_ends_the_run() {
+        for bad in [
+            "\n",
+            "check\n\n",
+            "check  0\n\n",
+            "check 0 \n\n",
+            "check -1\n\n",
+            "check +1\nx\n",
+            "check 1100001\n\n",
+            "check 1\n",
+            "check 1\nx",
+            "check 0\nx",
+            "check 0",
+            "Check 0\n\n",
+            "day 0 301 0\n\n",
+            "day 18446744073709551616 48 0\n\n",
+            "total 0\n\n",
+            "write 20030922 30 20030922092231 0 10 0 0 0 0 0 0\n\n\n\n\n\n\n\n",
+            "write 4294967296 30 20030922092231 0 10 0 0 0 0 0 0 0\n\n\n\n\n\n\n\n",
+            "write 20030922 30 20030922092231 0 131073 0 0 0 0 0 0 0\n\n\n\n\n\n\n\n",
+            "write 20030922 30 20030922092231 0 10 0 0 0 0 0 0 4097\n\n\n\n\n\n\n\n",
+            "write 20030922 30 20030922092231 0 10 301 0 0 0 0 0 0\n\n\n\n\n\n\n\n",
+            "write 20030922 30 20030922092231 0 10 1 0 0 0 0 0 0\n1\n\n\n\n\n\n\n",
+            "write 20030922 30 20030922092231 0 10 1 0 0 0 0 0 0\n1 2 \n\n\n\n\n\n\n",
+            "write 20030922 30 20030922092231 0 10 0 1 0 0 0 0 0\n\n256 \n\n\n\n\n\n",
+            "write 20030922 30 20030922092231 0 10 0 0 0 1 0 0 0\n\n\n\n65536 \n\n\n\n",
+            "write 20030922 30 20030922092231 0 10 0 0 0 0 0 0 0\n\n\n\n\n\n\n",
+        ] {
+            let input = format!("check 0\n\n{bad}");
+            assert_eq!(answers(&input), "refused 2 0 0 0\nbad case\n", "{bad:?}");
+        }
+    }
+
+    #[test]
+    fn a_written_block_follows_its_line() {
+        let case = write_case("20030922 30 20030922092231 0 200 48 48 48 48 48 48 0", 48, &"3000000 ".repeat(48));
+        let block = format!("300,20030922,{}A,,,20030922092231,\r\n", "3,".repeat(48));
+        let expected = format!("accepted {} 1\n{block}accepted {} 1\n{block}", block.len(), block.len());
+        assert_eq!(answers(&case.repeat(2)), expected);
+    }
+
+    #[test]
+    fn lists_without_places_are_too_short() {
+        let case = write_case("0 30 0 0 0 0 0 0 0 0 0 0", 0, "");
+        assert_eq!(answers(&case), "refused 15 0 0 0\n");
+        let case = write_case("0 31 0 0 0 0 0 0 0 0 0 0", 0, "");
+        assert_eq!(answers(&case), "refused 16 0 0 0\n");
+    }
+
+    #[test]
+    fn a_day_is_answered_on_one_line() {
+        let values = "1.5,".repeat(48);
+        let file = format!(
+            "100,NEM12,200301011534,MDP1,Ret1\r\n200,VABD000163,E1Q1,1,E1,N1,MET,kWh,30,\r\n\
+             300,20030501,{values}S14,79,Power out,20030501153445,20030502023012\r\n900\r\n"
+        );
+        let start = file.find("Power").unwrap();
+        let interval = format!(" 1500000/83/14/79/{start}/9");
+        let expected = format!("accepted 20030501 48 20030501153445 20030502023012{}\n", interval.repeat(48));
+        let length = file.len();
+        assert_eq!(answers(&format!("day 0 300 {length}\n{file}\n")), expected);
+        assert_eq!(answers(&format!("day 0 47 {length}\n{file}\n")), "refused 15 0 0 0\n");
+        assert_eq!(answers(&format!("day 1 47 {length}\n{file}\n")), "refused 14 0 0 0\n");
+        assert_eq!(answers(&format!("total 0 {length}\n{file}\n")), "accepted 72000000\n");
+        assert_eq!(answers(&format!("total 1 {length}\n{file}\n")), "refused 14 0 0 0\n");
+        assert_eq!(answers(&format!("check {length}\n{file}\n")), "accepted 12 1 1\n");
+    }
+}

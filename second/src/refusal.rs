@@ -1,0 +1,40 @@
+//! A refusal: its number, and where in the file it is given.
+
+#[derive(Clone, Copy, Debug, PartialEq, Eq)]
+pub struct Refusal {
+    pub number: u64,
+    /// Place of a byte in the file.
+    pub place: usize,
+    /// Number of complete records before the one that is meant.
+    pub record: usize,
+    /// Number of the field, from 1; 0 if no field is meant.
+    pub field: usize,
+}
+
+pub const FILE_TOO_LONG: u64 = 1;
+pub const NO_RECORD_END: u64 = 2;
+pub const BYTE_OUTSIDE: u64 = 3;
+pub const RECORD_OUT_OF_PLACE: u64 = 4;
+pub const WRONG_FIELD_COUNT: u64 = 5;
+pub const FIELD_BREAKS_RULE: u64 = 6;
+pub const RULE_ACROSS_BROKEN: u64 = 7;
+pub const DATE_NOT_LATER: u64 = 8;
+pub const COVER_BROKEN: u64 = 9;
+pub const COVER_INCOMPLETE: u64 = 10;
+pub const DAY_ALL_ALIKE: u64 = 11;
+pub const READ_DATE_DIFFERS: u64 = 12;
+pub const BYTES_AFTER_END: u64 = 13;
+pub const NO_SUCH_NUMBER: u64 = 14;
+pub const LENT_TOO_SHORT: u64 = 15;
+pub const DAY_UNFIT: u64 = 16;
+pub const TOTAL_TOO_LARGE: u64 = 17;
+
+/// The highest refusal number.
+pub const LAST: u64 = 17;
+
+impl Refusal {
+    /// A refusal that means no place in the file: place, record and field are 0.
+    pub fn without_place(number: u64) -> Refusal {
+        Refusal { number, place: 0, record: 0, field: 0 }
+    }
+}

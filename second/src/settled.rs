@@ -1,0 +1,498 @@
+//! The settled cases of the rules, and the order of refusals, each with the answer that the rules' own words give.
+
+use crate::check::{check, Summary};
+use crate::day::{read_day, LentLists};
+use crate::fields::{is_date, quality, value, Quality, Rule, NO_METHOD};
+use crate::notes::NO_REASON;
+use crate::refusal::Refusal;
+use crate::total::total;
+use crate::write::{write_day, Block, DayHead, DayLists};
+
+const HEADER_12: &str = "100,NEM12,200301011534,MDP1,Ret1\r\n";
+const HEADER_13: &str = "100,NEM13,200301011534,MDP1,Ret1\r\n";
+const CHANNEL_30: &str = "200,VABD000163,E1Q1,1,E1,N1,METSER123,kWh,30,20040120\r\n";
+const END: &str = "900\r\n";
+
+/// The sample 250 of the source's section 5.3, its stray space taken out.
+const SAMPLE_250: &str = "250,1234567890,1141,01,11,11,METSERG6,E,000021.2,20031001103230,A,,,000534.5,20040201100030,\
+                          E64,77,,343.5,kWh,20040509,20040202125010,20040203000130\r\n";
+
+/// A half-hour 300 with values of 1, and these fields for quality, reason and description.
+fn day_30(date: &str, note: &str) -> String {
+    format!("300,{date},{}{note},20030502153445,\r\n", "1,".repeat(48))
+}
+
+/// A NEM12 file of one half-hour V day, with these records under its 300.
+fn v_day_file(under: &str) -> String {
+    let day = day_30("20030501", "V,,");
+    format!("{HEADER_12}{CHANNEL_30}{day}{under}{END}")
+}
+
+/// A NEM12 file with these records under its 200.
+fn channel_file(under: &str) -> String {
+    format!("{HEADER_12}{CHANNEL_30}{under}{END}")
+}
+
+fn refused(file: &str) -> Refusal {
+    check(file.as_bytes()).expect_err("a file to be refused")
+}
+
+fn refused_number(file: &str) -> u64 {
+    refused(file).number
+}
+
+fn is_accepted(file: &str) -> bool {
+    check(file.as_bytes()).is_ok()
+}
+
+/// The refusal at the first byte of a part of the file.
+fn refusal_at(file: &str, part: &str, number: u64, record: usize, field: usize) -> Refusal {
+    Refusal { number, place: file.find(part).expect("a part of the file"), record, field }
+}
+
+// --- Single fields ---
+
+#[test]
+fn values_hold_millionths() {
+    assert_eq!(value(b"17.461"), Some(17_461_000));
+    assert_eq!(value(b"003.40"), Some(3_400_000));
+    assert_eq!(value(b"0"), Some(0));
+    assert_eq!(value(b"9999999.999999"), Some(9_999_999_999_999));
+    for refused in ["", ".5", "5.", "12345678", "00000000", "12345678.1", "1.1234567", "-1", "1.2.3", "1 "] {
+        assert_eq!(value(refused.as_bytes()), None, "{refused}");
+    }
+}
+
+#[test]
+fn dates_are_real_ones_of_1900_to_2199() {
+    for date in ["20000229", "20040229", "19000101", "21991231", "20030430"] {
+        assert!(is_date(date.as_bytes()), "{date}");
+    }
+    for date in ["21000229", "20030229", "19000229", "18991231", "22000101", "20030431", "20031301", "20030100", ""] {
+        assert!(!is_date(date.as_bytes()), "{date}");
+    }
+}
+
+#[test]
+fn qualities_are_enumerated() {
+    assert_eq!(quality(b"E52"), Some(Quality { flag: b'E', method: 52 }));
+    assert_eq!(quality(b"A"), Some(Quality { flag: b'A', method: NO_METHOD }));
+    for refused in ["v", "A14", "a", "E5", "E", "e52", "V14", "E521", ""] {
+        assert_eq!(quality(refused.as_bytes()), None, "{refused}");
+    }
+    assert!(Rule::DayQuality.allows(b"V"));
+    assert!(!Rule::Quality.allows(b"V"));
+}
+
+#[test]
+fn numbers_have_no_leading_zeros_but_zero_stands() {
+    for (rule, kept, broken) in [
+        (Rule::Reason, vec!["", "0", "7", "79", "999"], vec!["00", "01", "079", "1000", " 1"]),
+        (Rule::IntervalNumber, vec!["0", "1", "9999"], vec!["", "01", "00", "10000"]),
+        (Rule::IntervalLength, vec!["5", "15", "30"], vec!["", "05", "030", "0", "10", "60"]),
+    ] {
+        for field in kept {
+            assert!(rule.allows(field.as_bytes()), "{rule:?} {field}");
+        }
+        for field in broken {
+            assert!(!rule.allows(field.as_bytes()), "{rule:?} {field}");
+        }
+    }
+}
+
+#[test]
+fn lengths_stand_at_their_limits() {
+    for (rule, shortest, longest) in [
+        (Rule::Participant, 1, 10),
+        (Rule::Nmi, 10, 10),
+        (Rule::Configuration, 1, 240),
+        (Rule::Register, 0, 10),
+        (Rule::Suffix, 2, 2),
+        (Rule::Serial, 0, 12),
+        (Rule::Unit, 1, 5),
+        (Rule::ServiceOrder, 0, 15),
+        (Rule::Description, 0, 240),
+    ] {
+        let allows = |length: usize| rule.allows(&vec![b'k'; length]);
+        assert!(allows(shortest) && allows(longest) && !allows(longest + 1), "{rule:?}");
+        assert!(shortest == 0 || !allows(shortest - 1), "{rule:?}");
+    }
+    assert!(Rule::DataStream.allows(b"") && Rule::DataStream.allows(b"N1") && !Rule::DataStream.allows(b"N"));
+    assert!(!Rule::Participant.allows(b"a#b"));
+    assert!(Rule::Read.allows(b"123456789012345") && !Rule::Read.allows(b"1234567890123456"));
+    assert!(!Rule::Read.allows(b".5") && !Rule::Read.allows(b"5.") && !Rule::Read.allows(b""));
+}
+
+// --- Cover ---
+
+#[test]
+fn half_hour_v_days() {
+    assert!(is_accepted(&v_day_file("400,1,31,A,,\r\n400,32,48,E52,,\r\n")));
+
+    let gap = v_day_file("400,1,31,A,,\r\n400,33,48,E52,,\r\n");
+    assert_eq!(refused(&gap), refusal_at(&gap, "33,48", 9, 4, 2));
+
+    let past_end = v_day_file("400,1,49,A,,\r\n");
+    assert_eq!(refused(&past_end), refusal_at(&past_end, "1,49", 9, 3, 2));
+
+    let order_too_early = v_day_file("400,1,31,A,,\r\n500,S,,,\r\n");
+    assert_eq!(refused(&order_too_early), refusal_at(&order_too_early, "500,S", 10, 4, 0));
+}
+
+#[test]
+fn a_v_day_all_alike_should_not_have_been_v() {
+    let once = v_day_file("400,1,48,A,,\r\n");
+    assert_eq!(refused(&once), refusal_at(&once, "400,1", 11, 3, 0));
+    let twice = v_day_file("400,1,20,A,79,x\r\n400,21,48,A,79,x\r\n");
+    assert_eq!(refused(&twice), refusal_at(&twice, "400,21", 11, 4, 0));
+    assert!(is_accepted(&v_day_file("400,1,20,A,79,x\r\n400,21,48,A,79,y\r\n")));
+    assert!(is_accepted(&v_day_file("400,1,20,A,79,x\r\n400,21,30,A,79,x\r\n400,31,48,A,,x\r\n")));
+}
+
+#[test]
+fn interval_numbers_are_held_against_this_channels_n() {
+    assert_eq!(refused_number(&v_day_file("400,1,20,A,,\r\n400,21,288,E52,,\r\n")), 9);
+    assert_eq!(refused_number(&v_day_file("400,0,20,A,,\r\n")), 9);
+    assert_eq!(refused_number(&v_day_file("400,1,20,A,,\r\n400,21,20,E52,,\r\n")), 9);
+    assert_eq!(refused_number(&v_day_file("400,1,20,A,,\r\n400,20,48,E52,,\r\n")), 9);
+}
+
+#[test]
+fn a_further_400_is_looked_at_like_any_other() {
+    let complete = "400,1,31,A,,\r\n400,32,48,E52,,\r\n";
+    for (further, number) in [
+        ("400,49,49,A,,", 9),
+        ("400,1,48,A,,", 9),
+        ("400,49,49,S14,,", 7),
+        ("400,49,49,V,,", 6),
+        ("400,49,49,A,", 5),
+        ("400,49,49,A,,\x7f", 3),
+    ] {
+        assert_eq!(refused_number(&v_day_file(&format!("{complete}{further}\r\n"))), number, "{further:?}");
+    }
+    assert_eq!(refused_number(&v_day_file(&format!("{complete}500,S,,,\r\n400,49,49,A,\r\n"))), 4);
+}
+
+#[test]
+fn an_open_cover_is_asked_before_all_but_bytes() {
+    for (next, number) in [("", 10), ("900,", 10), ("300", 10), (" 400,1", 10), ("400", 5), ("no\x01", 3)] {
+        assert_eq!(refused_number(&v_day_file(&format!("{next}\r\n"))), number, "{next:?}");
+    }
+    let cut = v_day_file("").replace(END, "");
+    assert_eq!(refused(&cut), Refusal { number: 2, place: cut.len(), record: 3, field: 0 });
+}
+
+// --- Rules across fields ---
+
+#[test]
+fn s14_without_reason_is_7() {
+    let file = v_day_file("400,1,24,A,,\r\n400,25,48,S14,,\r\n");
+    assert_eq!(refused(&file), refusal_at(&file, "S14", 7, 4, 4));
+}
+
+#[test]
+fn rules_across_hold_in_a_300() {
+    for note in ["A,,", "A,,why", "A,79,", "A,0,why", "E52,,", "E52,,why", "S14,79,", "F14,0,why"] {
+        assert!(is_accepted(&channel_file(&day_30("20030501", note))), "{note}");
+    }
+    for note in ["S14,,", "F14,,why", "A,0,", "E52,0,", "S14,0,", "V,79,", "V,,why", "V,0,why"] {
+        let file = channel_file(&day_30("20030501", note));
+        assert_eq!(refused(&file), refusal_at(&file, note, 7, 2, 51), "{note}");
+    }
+}
+
+#[test]
+fn rules_across_hold_for_both_reads_of_a_250() {
+    let both = SAMPLE_250.replace(",A,,,", ",A,0,,").replace("E64,77,", "S64,,");
+    let file = format!("{HEADER_13}{both}{END}");
+    assert_eq!(refused(&file), refusal_at(&file, "A,0,", 7, 1, 11));
+    let current = SAMPLE_250.replace("E64,77,", "S64,,");
+    let file = format!("{HEADER_13}{current}{END}");
+    assert_eq!(refused(&file), refusal_at(&file, "S64", 7, 1, 16));
+    let v = SAMPLE_250.replace("E64,77,", "V,,");
+    let file = format!("{HEADER_13}{v}{END}");
+    assert_eq!(refused(&file), refusal_at(&file, "V,,", 6, 1, 16));
+}
+
+// --- Whole files ---
+
+#[test]
+fn empty_file_and_files_without_record_ends() {
+    assert_eq!(refused(""), Refusal { number: 2, place: 0, record: 0, field: 0 });
+    assert_eq!(refused("100\n900\n"), Refusal { number: 2, place: 0, record: 0, field: 0 });
+    assert_eq!(refused("100\r\r\n"), Refusal { number: 3, place: 3, record: 0, field: 0 });
+    assert_eq!(refused("10\n0\r\n"), Refusal { number: 3, place: 2, record: 0, field: 0 });
+}
+
+#[test]
+fn a_900_has_one_field() {
+    let day = day_30("20030501", "A,,");
+    let file = format!("{HEADER_12}{CHANNEL_30}{day}900,\r\n");
+    assert_eq!(refused(&file), refusal_at(&file, "900,", 5, 3, 0));
+    let too_early = format!("{HEADER_12}900,\r\n");
+    assert_eq!(refused_number(&too_early), 4);
+}
+
+#[test]
+fn nothing_stands_behind_the_900() {
+    let file = channel_file(&day_30("20030501", "A,,"));
+    for tail in ["\r\n", "\n", "x", "900\r\n", "\x00"] {
+        let longer = format!("{file}{tail}");
+        assert_eq!(refused(&longer), Refusal { number: 13, place: file.len(), record: 4, field: 0 });
+    }
+}
+
+#[test]
+fn a_file_over_the_limit_is_1_before_all_else() {
+    assert_eq!(check(&vec![b'x'; 1_048_577]), Err(Refusal { number: 1, place: 0, record: 0, field: 0 }));
+    assert_eq!(check(&vec![b'x'; 1_048_576]), Err(Refusal { number: 2, place: 0, record: 0, field: 0 }));
+}
+
+#[test]
+fn dates_rise_within_one_200() {
+    let (first, second) = (day_30("20030501", "A,,"), day_30("20030502", "A,,"));
+    assert!(is_accepted(&channel_file(&format!("{first}{second}"))));
+    assert!(is_accepted(&channel_file(&format!("{second}{CHANNEL_30}{first}"))));
+    let equal = channel_file(&format!("{first}{first}"));
+    let place = HEADER_12.len() + CHANNEL_30.len() + first.len() + 4;
+    assert_eq!(refused(&equal), Refusal { number: 8, place, record: 3, field: 2 });
+    assert_eq!(refused_number(&channel_file(&format!("{second}{first}"))), 8);
+}
+
+#[test]
+fn a_read_time_has_the_date_of_its_day() {
+    let day = day_30("20030501", "A,,");
+    assert!(is_accepted(&channel_file(&format!("{day}500,S,,20030501235959,12.5\r\n500,N,,,\r\n"))));
+    let file = channel_file(&format!("{day}500,S,,20030430235959,\r\n"));
+    assert_eq!(refused(&file), refusal_at(&file, "20030430235959", 12, 3, 4));
+}
+
+#[test]
+fn records_stand_in_their_order() {
+    let day = day_30("20030501", "A,,");
+    let order_550 = "550,N,,A,\r\n";
+    for file in [
+        format!("{CHANNEL_30}{day}{END}"),
+        format!("{HEADER_12}{END}"),
+        format!("{HEADER_12}{CHANNEL_30}{END}"),
+        format!("{HEADER_12}{CHANNEL_30}{CHANNEL_30}{day}{END}"),
+        format!("{HEADER_12}{SAMPLE_250}{END}"),
+        format!("{HEADER_13}{CHANNEL_30}{day}{END}"),
+        format!("{HEADER_13}{order_550}{END}"),
+        format!("{HEADER_13}{SAMPLE_250}{order_550}{order_550}{END}"),
+        format!("{HEADER_12}{HEADER_12}{END}"),
+        channel_file(&format!("{day}400,1,48,A,,\r\n")),
+        channel_file(&format!("{day}\r\n")),
+        channel_file(&format!("{day} 900\r\n")),
+    ] {
+        assert_eq!(refused_number(&file), 4, "{file:?}");
+    }
+    assert!(is_accepted(&format!("{HEADER_13}{SAMPLE_250}{order_550}{SAMPLE_250}{END}")));
+}
+
+#[test]
+fn end_spaces_and_the_leftmost_field() {
+    for (from, to, field) in [("MDP1", " MDP1", 4), ("MDP1", "MDP1 ", 4), ("MDP1", " ", 4), ("Ret1", "", 5)] {
+        let file = channel_file(&day_30("20030501", "A,,")).replace(from, to);
+        let refusal = refused(&file);
+        assert_eq!((refusal.number, refusal.record, refusal.field), (6, 0, field), "{to:?}");
+    }
+    let two = channel_file(&day_30("20030229", "v,,"));
+    assert_eq!(refused(&two), refusal_at(&two, "20030229", 6, 2, 2));
+}
+
+#[test]
+fn the_sample_250_passes_with_its_own_quantity() {
+    let file = format!("{HEADER_13}{SAMPLE_250}{END}");
+    assert_eq!(check(file.as_bytes()), Ok(Summary { version: 13, channels: 1, days: 0 }));
+    assert_eq!(total(file.as_bytes(), 0), Ok(343_500_000));
+    assert_eq!(total(file.as_bytes(), 1), Err(Refusal::without_place(14)));
+}
+
+// --- Reading a day ---
+
+#[test]
+fn a_v_day_is_read_from_its_400s() {
+    let file = v_day_file("400,1,31,A,,\r\n400,32,48,S52,79,Power out\r\n");
+    let (mut values, mut flags, mut methods) = (vec![7; 50], vec![7; 48], vec![7; 48]);
+    let (mut reasons, mut starts, mut lengths) = (vec![7; 48], vec![7; 48], vec![7; 48]);
+    let lists = LentLists {
+        values: &mut values,
+        flags: &mut flags,
+        methods: &mut methods,
+        reasons: &mut reasons,
+        starts: &mut starts,
+        lengths: &mut lengths,
+    };
+    let read = read_day(file.as_bytes(), 0, lists).expect("a day");
+    assert_eq!((read.date, read.n, read.update, read.load), (20030501, 48, 20030502153445, 0));
+    assert_eq!((values[0], values[47], values[48], values[49]), (1_000_000, 1_000_000, 7, 7));
+    let interval = |index: usize| (flags[index], methods[index], reasons[index], starts[index], lengths[index]);
+    assert_eq!(interval(30), (b'A', 255, 65535, 0, 0));
+    assert_eq!(interval(31), (b'S', 52, 79, file.find("Power").unwrap(), 9));
+}
+
+// --- Writing ---
+
+/// A half-hour day of actual values of 3, to be changed by a test.
+struct WriteTest {
+    head: DayHead,
+    values: Vec<u64>,
+    flags: Vec<u8>,
+    methods: Vec<u8>,
+    reasons: Vec<u16>,
+    starts: Vec<usize>,
+    lengths: Vec<usize>,
+    text: Vec<u8>,
+}
+
+impl WriteTest {
+    fn new() -> WriteTest {
+        WriteTest {
+            head: DayHead { date: 20030922, length: 30, update: 20030922092231, load: 0 },
+            values: vec![3_000_000; 48],
+            flags: vec![b'A'; 48],
+            methods: vec![NO_METHOD; 48],
+            reasons: vec![NO_REASON; 48],
+            starts: vec![0; 48],
+            lengths: vec![0; 48],
+            text: Vec::new(),
+        }
+    }
+
+    fn write(&self, room: &mut [u8]) -> Result<Block, Refusal> {
+        let lists = DayLists {
+            values: &self.values,
+            flags: &self.flags,
+            methods: &self.methods,
+            reasons: &self.reasons,
+            starts: &self.starts,
+            lengths: &self.lengths,
+            text: &self.text,
+        };
+        write_day(self.head, lists, room)
+    }
+
+    /// The refusal's number, room being plenty.
+    fn refused(&self) -> u64 {
+        let mut room = vec![b'?'; 10_000];
+        let refusal = self.write(&mut room).expect_err("a day to be refused");
+        assert_eq!(refusal, Refusal::without_place(refusal.number));
+        assert!(room.iter().all(|byte| *byte == b'?'));
+        refusal.number
+    }
+
+    /// The block as text, room being plenty.
+    fn block(&self) -> String {
+        let mut room = vec![b'?'; 10_000];
+        let block = self.write(&mut room).expect("a day to be written");
+        assert!(room[block.bytes..].iter().all(|byte| *byte == b'?'));
+        assert_eq!(block.records, room[..block.bytes].iter().filter(|byte| **byte == b'\n').count());
+        String::from_utf8(room[..block.bytes].to_vec()).expect("bytes of a file")
+    }
+}
+
+#[test]
+fn the_settled_day_is_written_whole() {
+    let mut day = WriteTest::new();
+    day.values[20..].fill(4_000_000);
+    day.flags[20..].fill(b'E');
+    day.methods[20..].fill(52);
+    let expected = format!(
+        "300,20030922,{}{}V,,,20030922092231,\r\n400,1,20,A,,\r\n400,21,48,E52,,\r\n",
+        "3,".repeat(20),
+        "4,".repeat(28)
+    );
+    assert_eq!(expected.len(), 161);
+    assert_eq!(day.block(), expected);
+
+    let mut just_enough = vec![0; 161];
+    assert_eq!(day.write(&mut just_enough), Ok(Block { bytes: 161, records: 3 }));
+    assert_eq!(just_enough, expected.as_bytes());
+    let mut too_small = vec![b'?'; 160];
+    assert_eq!(day.write(&mut too_small), Err(Refusal::without_place(15)));
+    assert_eq!(too_small, vec![b'?'; 160]);
+}
+
+#[test]
+fn values_are_written_without_needless_zeros() {
+    let mut day = WriteTest::new();
+    day.values[..8].copy_from_slice(&[0, 1, 10, 500_000, 1_000_000, 10_100_000, 9_999_999_999_999, 120_000_000]);
+    assert!(day.block().starts_with("300,20030922,0,0.000001,0.00001,0.5,1,10.1,9999999.999999,120,3,"));
+}
+
+#[test]
+fn equal_descriptions_are_one_stretch_wherever_they_lie() {
+    let mut day = WriteTest::new();
+    day.text = b"ab,ab".to_vec();
+    day.lengths.fill(2);
+    day.starts[10..].fill(3);
+    let all_alike = day.block();
+    assert_eq!(all_alike, format!("300,20030922,{}A,,ab,20030922092231,\r\n", "3,".repeat(48)));
+    day.lengths[47] = 1;
+    assert!(day.block().ends_with(",V,,,20030922092231,\r\n400,1,47,A,,ab\r\n400,48,48,A,,a\r\n"));
+}
+
+#[test]
+fn writing_asks_in_its_order() {
+    let mut day = WriteTest::new();
+    day.values[0] = 10_000_000_000_000;
+    assert_eq!(day.refused(), 16);
+    day.flags.pop();
+    assert_eq!(day.refused(), 15);
+    day.head.length = 31;
+    assert_eq!(day.refused(), 16);
+
+    let mut unfit_without_room = WriteTest::new();
+    unfit_without_room.head.update = 0;
+    assert_eq!(unfit_without_room.write(&mut []), Err(Refusal::without_place(16)));
+    assert_eq!(WriteTest::new().write(&mut []), Err(Refusal::without_place(15)));
+}
+
+#[test]
+fn unfit_days() {
+    let faults: [fn(&mut WriteTest); 19] = [
+        |day| day.head.date = 20030229,
+        |day| day.head.date = 22000101,
+        |day| day.head.update = 20030922240000,
+        |day| day.head.load = 1,
+        |day| day.flags[5] = b'V',
+        |day| day.methods[5] = 14,
+        |day| day.flags[5] = b'E',
+        |day| (day.flags[5], day.methods[5]) = (b'E', 100),
+        |day| (day.flags[5], day.methods[5]) = (b'S', 14),
+        |day| (day.flags[5], day.methods[5]) = (b'F', 14),
+        |day| day.reasons[5] = 0,
+        |day| day.reasons[5] = 1000,
+        |day| day.lengths[5] = 1,
+        |day| (day.starts[5], day.lengths[5]) = (usize::MAX, 2),
+        |day| (day.text, day.lengths[5]) = (b"a,b".to_vec(), 3),
+        |day| (day.text, day.lengths[5]) = (b"a ".to_vec(), 2),
+        |day| (day.text, day.lengths[5]) = (b" a".to_vec(), 2),
+        |day| (day.text, day.lengths[5]) = (b"a\x7f".to_vec(), 2),
+        |day| (day.text, day.lengths[5]) = (vec![b'a'; 241], 241),
+    ];
+    for (number, fault) in faults.iter().enumerate() {
+        let mut day = WriteTest::new();
+        fault(&mut day);
+        assert_eq!(day.refused(), 16, "fault {number}");
+    }
+}
+
+#[test]
+fn fit_days_at_the_limits() {
+    let limits: [fn(&mut WriteTest); 7] = [
+        |day| day.starts[5] = usize::MAX,
+        |day| (day.flags[5], day.methods[5], day.reasons[5]) = (b'S', 0, 999),
+        |day| (day.flags[5], day.methods[5]) = (b'E', 99),
+        |day| (day.text, day.lengths[5], day.reasons[5]) = (b"x".to_vec(), 1, 0),
+        |day| (day.text, day.lengths[5]) = (vec![b'a'; 240], 240),
+        |day| day.values.push(u64::MAX),
+        |day| day.flags.extend([0, 0]),
+    ];
+    for limit in limits {
+        let mut day = WriteTest::new();
+        limit(&mut day);
+        assert!(day.block().starts_with("300,20030922,3,"));
+    }
+}
