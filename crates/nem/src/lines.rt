@@ -1,6 +1,6 @@
 // A line is put together on a page and written out whole.
-use crate::records::part;
 use page::texts::number;
+use page::texts::part;
 use page::texts::put;
 use text::digits::digits_len;
 

@@ -3,18 +3,18 @@ mod lines;
 mod records;
 mod names;
 mod refusals;
-mod files;
 mod checks;
 mod days;
 mod totals;
 
 use days::Wanted;
-use files::Loaded;
+use disk::Loaded;
 use format::Number;
 use leaf::bytes::same_bytes;
 use leaf::digits::digits;
 use lines::complain;
 use lines::quoted;
+use page::texts::part;
 use page::texts::put;
 
 // What the first word asks for.
@@ -99,6 +99,13 @@ fn no_number(page: &mut [u8], word: &[u8]) {
     complain(page, q);
 }
 
+// errno's words of the file.
+fn cannot_read(page: &mut [u8], path: &[u8]) {
+    let p = put(page, 0, b"nem: ");
+    let q = put(page, p, path);
+    os::fail(part(page, 0, q));
+}
+
 // ---- the tasks
 
 fn day(page: &mut [u8], file: &[u8], wanted: Wanted) {
@@ -124,10 +131,11 @@ fn done(page: &mut [u8], file: &[u8], task: Task) {
 fn with_file(page: &mut [u8], room: &mut [u8], task: Task) {
     let mut path = io::buffer();
     let n = os::arg(2, &mut path);
-    let Loaded::Bytes(k) = files::load(page, &path[..n], room) else {
+    let Loaded::Bytes(k) = disk::load(&path[..n], room) else {
+        cannot_read(page, &path[..n]);
         return;
     };
-    done(page, records::part(room, 0, k), task);
+    done(page, part(room, 0, k), task);
 }
 
 fn go(room: &mut [u8]) {

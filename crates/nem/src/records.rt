@@ -2,6 +2,7 @@
 use field::numbers::indicator;
 use format::Number;
 use leaf::bytes::first_at;
+use page::texts::part;
 
 fn is_crlf(a: u8, b: u8) -> bool {
     a == 13 && b == 10
@@ -35,16 +36,6 @@ pub fn end_of(file: &[u8], start: usize) -> usize {
         i += 1;
     }
     n
-}
-
-// The bytes from one place up to another, none where the file has no such part.
-pub fn part(file: &[u8], from: usize, to: usize) -> &[u8] {
-    if from <= to {
-        if to <= file.len() {
-            return &file[from..to];
-        }
-    }
-    &file[..0]
 }
 
 // The n bytes from a place on, none where the file has no such part.

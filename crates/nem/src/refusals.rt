@@ -6,6 +6,7 @@ use crate::names::name;
 use crate::records;
 use format::Refusal;
 use page::texts::number;
+use page::texts::part;
 use page::texts::put;
 
 // What each number means.
@@ -169,7 +170,7 @@ fn excerpt(page: &mut [u8], rec: &[u8], column: usize) {
     let from = first_shown(column);
     let to = last_shown(from, rec.len());
     let p = dots(page, 0, 0 < from);
-    let q = put_shown(page, p, records::part(rec, from, to));
+    let q = put_shown(page, p, part(rec, from, to));
     let r = dots(page, q, to < rec.len());
     say(page, r);
     mark(page, p, column, from);

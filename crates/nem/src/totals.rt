@@ -6,6 +6,7 @@ use crate::records;
 use crate::refusals::explain;
 use format::Checked;
 use format::Totalled;
+use page::texts::part;
 use page::texts::put;
 use page::texts::value;
 use reading::check::check;
@@ -62,7 +63,7 @@ fn days_from(file: &[u8], start: usize) -> usize {
     let mut days: usize = 0;
     while at < file.len() {
         let end = records::end_of(file, at);
-        let kind = records::kind(records::part(file, at, end));
+        let kind = records::kind(part(file, at, end));
         if is_channel(kind) {
             return days;
         }
@@ -118,7 +119,7 @@ fn rows(page: &mut [u8], file: &[u8]) {
     let mut k: usize = 0;
     while at < file.len() {
         let end = records::end_of(file, at);
-        let rec = records::part(file, at, end);
+        let rec = part(file, at, end);
         let next = behind(file, end);
         if next <= at {
             return;

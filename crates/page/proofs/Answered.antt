@@ -3,9 +3,10 @@ use Prim.Native.Nat.{ℕ}
 use mathlib.Core.Path.{_≡_, ap, sym}
 use mathlib.Core.List.{List, [], _∷_}
 use Rattle.ground.specs.Text.{bytes}
-use Rattle.format.specs.Answers.{Answer, accepted, refused}
+use Rattle.format.specs.Answers.{Answer, accepted, refused, dayReadAs}
+use Rattle.format.specs.declared.DayRead.{DayRead}
 use Rattle.page.specs.Filled.{Filled}
-use Rattle.page.specs.Lines.{numbersText, lineOf}
+use Rattle.page.specs.Lines.{numbersText, lineOf, texts, intervalsRead, dayLine}
 use Rattle.page.proofs.Filling.{filled-then, filled-as}
 
 module _ {l m n : List ℕ} {at i j : ℕ} where
@@ -17,3 +18,8 @@ module _ {l m n : List ℕ} {at i j : ℕ} where
 
 pub line-is : {X : Type 0} (f : X → Answer) {x y : X} {l m : List ℕ} {at i : ℕ} → x ≡ y → Filled l at (lineOf (f y)) i m → Filled l at (lineOf (f x)) i m
 line-is f e p = filled-as p (ap (λ z. lineOf (f z)) (sym e))
+
+-- the line of a day, from its answer and its n intervals
+pub line-day : (x : DayRead) (f : ℕ → List ℕ) (n : ℕ) {l m k : List ℕ} {at i j : ℕ} → n ≡ intervalsRead x
+    → Filled l at (lineOf (dayReadAs x)) i m → Filled m i (texts f n) j k → Filled l at (dayLine x f) j k
+line-day x f n e p q = filled-then p (filled-as q (ap (texts f) e))

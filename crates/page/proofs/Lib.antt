@@ -1,3 +1,5 @@
+pub mod Parts
 pub mod Filling
 pub mod Listed
 pub mod Answered
+pub mod Long

@@ -4,7 +4,9 @@ use mathlib.Core.List.{List, [], _∷_, _++_}
 use lib.ListN.{getD}
 use Rattle.ground.specs.Digits.{dec}
 use Rattle.ground.specs.Text.{bytes}
-use Rattle.format.specs.Answers.{Answer, accepted, refused}
+use Rattle.format.specs.Answers.{Answer, accepted, refused, dayReadAs}
+use Rattle.format.specs.declared.DayRead.{DayRead}
+use Rattle.format.specs.declared.DayRead.the-variants as dayRead
 
 -- numbers, each behind the sign
 unfoldable pub numbersText : ℕ → List ℕ → List ℕ
@@ -28,3 +30,12 @@ intervalIn vs fs ms rs ss ls i = intervalText (getD vs i 0) (getD fs i 0) (getD 
 unfoldable pub texts : (ℕ → List ℕ) → ℕ → List ℕ
 texts f zero = []
 texts f (suc n) = texts f n ++ f n
+
+-- how many intervals were read
+abbrev pub intervalsRead : DayRead → ℕ
+intervalsRead (dayRead.Read t n u l) = n
+intervalsRead (dayRead.Refused x) = 0
+
+-- the line of a day, the text of each of whose intervals f gives: the answer, and behind it the intervals
+abbrev pub dayLine : DayRead → (ℕ → List ℕ) → List ℕ
+dayLine x f = lineOf (dayReadAs x) ++ texts f (intervalsRead x)

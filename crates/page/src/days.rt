@@ -1,11 +1,13 @@
-// The intervals of a day that was read, behind its line.
+// The line of a day that was read: its answer, and behind it its intervals.
+use super::answers::day_read;
 use super::texts::number_behind;
 use super::texts::numbers_behind;
+use format::DayRead;
 
 ghost use mathlib.Core.Path.{_≡_};
 ghost use lib.ListN.{getD};
 ghost use Rattle.page.specs.Filled.{Filled};
-ghost use Rattle.page.specs.Lines.{intervalIn, texts};
+ghost use Rattle.page.specs.Lines.{intervalIn, texts, intervalsRead, dayLine};
 
 // The element at a place, 0 past the end.
 pub fn u64_at(list: &[u64], i: usize) -> u64
@@ -69,7 +71,7 @@ fn interval(
 }
 
 // The first n intervals.
-pub fn intervals(
+fn intervals(
     page: &mut [u8],
     at: usize,
     n: usize,
@@ -89,4 +91,37 @@ pub fn intervals(
         i += 1;
     }
     p
+}
+
+// How many intervals were read.
+pub fn intervals_read(x: DayRead) -> usize
+    ensures { λ r. ⌜ r ≡ intervalsRead x ⌝ }
+{
+    match x {
+        DayRead::Read {
+            date: _,
+            n,
+            update: _,
+            load: _,
+        } => n,
+        DayRead::Refused(_) => 0,
+    }
+}
+
+pub fn day_line(
+    page: &mut [u8],
+    at: usize,
+    x: DayRead,
+    values: &[u64],
+    flags: &[u8],
+    methods: &[u8],
+    reasons: &[u16],
+    starts: &[usize],
+    lengths: &[usize],
+) -> usize
+    ensures { λ r. ⌜ Filled (now (page .entry)) at (dayLine x (intervalIn (now (values .entry)) (now (flags .entry)) (now (methods .entry)) (now (reasons .entry)) (now (starts .entry)) (now (lengths .entry)))) r (now (page .exit)) ⌝ }
+{
+    let n = intervals_read(x);
+    let p = day_read(page, at, x);
+    intervals(page, p, n, values, flags, methods, reasons, starts, lengths)
 }

@@ -1,6 +1,5 @@
 // The case that hands in a day: write.
 use crate::files::end_line;
-use crate::files::first;
 use crate::input::fill_line;
 use crate::input::least;
 use crate::input::Cursor;
@@ -18,6 +17,7 @@ use crate::out;
 use format::DayHead;
 use format::Written;
 use page::answers;
+use page::texts::part;
 use writing::write_day;
 
 // Six lists, one behind the other.
@@ -160,11 +160,8 @@ fn block_out(page: &[u8], at: usize, room: &[u8], n: usize) -> usize {
     if n == 0 {
         return at;
     }
-    if room.len() < n {
-        return at;
-    }
     out::write(page, at);
-    io::write_all(libc::STDOUT_FILENO, &room[..n]);
+    io::write_all(libc::STDOUT_FILENO, part(room, 0, n));
     0
 }
 
@@ -244,7 +241,7 @@ fn day_in(buf: &mut [u8], c: Cursor, s: Sheet, page: &mut [u8], at: usize) -> Go
     let Passed::To(b) = fill_line(buf, a, s.text, &mut text) else {
         return Going::Bad;
     };
-    Going::On(b, write_answer(s, &lists, first(&text, s.text), page, at))
+    Going::On(b, write_answer(s, &lists, part(&text, 0, s.text), page, at))
 }
 
 pub fn write_case(buf: &mut [u8], c: Cursor, page: &mut [u8], at: usize) -> Going {

@@ -8,7 +8,9 @@ use crate::numbers::head;
 use crate::numbers::PLACES;
 use format::DayRead;
 use page::answers;
-use page::days::intervals;
+use page::days::day_line;
+use page::days::intervals_read;
+use page::texts::part;
 use page::texts::put;
 use reading::check::check;
 use reading::read_day::read_day;
@@ -23,18 +25,10 @@ const HALF_MARK: u16 = 42405;
 
 const BYTE_MARK: u8 = 165;
 
-// The first n bytes.
-pub fn first(file: &[u8], n: usize) -> &[u8] {
-    if file.len() < n {
-        return file;
-    }
-    &file[..n]
-}
-
 // ---- check
 
 fn check_answer(file: &[u8], n: usize, page: &mut [u8], at: usize) -> usize {
-    let p = answers::checked(page, at, check(first(file, n)));
+    let p = answers::checked(page, at, check(part(file, 0, n)));
     put(page, p, b"\n")
 }
 
@@ -53,7 +47,7 @@ pub fn check_case(buf: &mut [u8], c: Cursor, file: &mut [u8], page: &mut [u8], a
 // ---- total
 
 fn total_answer(file: &[u8], n: usize, k: usize, page: &mut [u8], at: usize) -> usize {
-    let p = answers::totalled(page, at, total(first(file, n), k));
+    let p = answers::totalled(page, at, total(part(file, 0, n), k));
     put(page, p, b"\n")
 }
 
@@ -71,19 +65,6 @@ pub fn total_case(buf: &mut [u8], c: Cursor, file: &mut [u8], page: &mut [u8], a
 }
 
 // ---- day
-
-// How many intervals were read.
-fn n_of(x: DayRead) -> usize {
-    match x {
-        DayRead::Read {
-            date: _,
-            n,
-            update: _,
-            load: _,
-        } => n,
-        DayRead::Refused(_) => 0,
-    }
-}
 
 // The line's end, behind a word where something that was lent has changed.
 pub fn end_line(page: &mut [u8], at: usize, kept: bool) -> usize {
@@ -113,8 +94,8 @@ fn are_kept(n: usize, values: &[u64], flags: &[u8], methods: &[u8], reasons: &[u
     kept::sizes(lengths, n, SIZE_MARK)
 }
 
-// The line of a day that was read into the six lists.
-fn day_line(
+// The day's line, and whether the six lists are kept behind its intervals.
+fn day_shown(
     page: &mut [u8],
     at: usize,
     x: DayRead,
@@ -125,10 +106,9 @@ fn day_line(
     starts: &[usize],
     lengths: &[usize],
 ) -> usize {
-    let n = n_of(x);
-    let p = answers::day_read(page, at, x);
-    let q = intervals(page, p, n, values, flags, methods, reasons, starts, lengths);
-    end_line(page, q, are_kept(n, values, flags, methods, reasons, starts, lengths))
+    let p = day_line(page, at, x, values, flags, methods, reasons, starts, lengths);
+    let n = intervals_read(x);
+    end_line(page, p, are_kept(n, values, flags, methods, reasons, starts, lengths))
 }
 
 fn day_in(
@@ -144,7 +124,7 @@ fn day_in(
     lengths: &mut [usize],
 ) -> usize {
     let x = read_day(file, k, values, flags, methods, reasons, starts, lengths);
-    day_line(page, at, x, values, flags, methods, reasons, starts, lengths)
+    day_shown(page, at, x, values, flags, methods, reasons, starts, lengths)
 }
 
 fn day_answer(file: &[u8], n: usize, k: usize, w: usize, page: &mut [u8], at: usize) -> usize {
@@ -158,7 +138,7 @@ fn day_answer(file: &[u8], n: usize, k: usize, w: usize, page: &mut [u8], at: us
     let mut starts = [SIZE_MARK; PLACES];
     let mut lengths = [SIZE_MARK; PLACES];
     day_in(
-        first(file, n),
+        part(file, 0, n),
         k,
         page,
         at,

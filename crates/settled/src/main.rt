@@ -2,26 +2,20 @@
 use format::DayHead;
 use format::Written;
 use page::answers;
+use page::texts::part;
 use page::texts::put;
-use reading::check;
-use reading::total;
+use reading::check::check;
+use reading::total::total;
 use writing::write_day;
+
+ghost use mathlib.Core.Path.{_≡_};
+ghost use lib.ListN.{length};
 
 // ---- lines
 
 fn say(page: &mut [u8], at: usize) {
     let p = put(page, at, b"\n");
-    if p <= page.len() {
-        io::write_all(libc::STDOUT_FILENO, &page[..p]);
-    }
-}
-
-// The first n bytes.
-fn first(file: &[u8], n: usize) -> &[u8] {
-    if file.len() < n {
-        return file;
-    }
-    &file[..n]
+    io::write_all(libc::STDOUT_FILENO, part(page, 0, p));
 }
 
 // What a case is called, and what the check answers of its file.
@@ -57,7 +51,7 @@ fn file_of(file: &mut [u8], date: &[u8], quality: &[u8], records: &[u8]) -> usiz
 fn day_case(page: &mut [u8], name: &[u8], date: &[u8], quality: &[u8], records: &[u8]) {
     let mut file = io::buffer();
     let n = file_of(&mut file, date, quality, records);
-    checked(page, name, first(&file, n));
+    checked(page, name, part(&file, 0, n));
 }
 
 // ---- the sample 250
@@ -78,7 +72,7 @@ fn block(page: &mut [u8], x: Written, room: &[u8]) {
     say(page, q);
     match x {
         Written::Block { bytes, records: _ } => {
-            io::write_all(libc::STDOUT_FILENO, first(room, bytes));
+            io::write_all(libc::STDOUT_FILENO, part(room, 0, bytes));
         }
         Written::Refused(_) => {}
     }
@@ -130,18 +124,26 @@ fn written(page: &mut [u8]) {
     written_in(page, &values, &flags, &methods, &mut room);
 }
 
-fn cases(page: &mut [u8]) {
+fn dates(page: &mut [u8]) {
     day_case(page, b"20040229", b"20040229", b"A", b"900\r\n");
     day_case(page, b"20030229", b"20030229", b"A", b"900\r\n");
+}
+
+fn covers(page: &mut [u8]) {
     day_case(page, b"1 to 31 and then a 500", b"20040101", b"V", b"400,1,31,A,,\r\n500,O,,,\r\n900\r\n");
     day_case(page, b"400,1,48,A,,", b"20040101", b"V", b"400,1,48,A,,\r\n900\r\n");
+}
+
+fn ends(page: &mut [u8]) {
     checked(page, b"the empty file", b"");
     day_case(page, b"900,", b"20040101", b"A", b"900,\r\n");
 }
 
 fn main() {
     let mut page = io::buffer();
-    cases(&mut page);
+    dates(&mut page);
+    covers(&mut page);
+    ends(&mut page);
     sample(
         &mut page,
         b"100,NEM13,200301011534,MDP1,Retailer1\r\n250,1234567890,1141,01,11,11,METSERG6,E,000021.2,20031001103230,A,,,000534.5,20040201100030,E64,77,,343.5,kWh,20040509,20040202125010,20040203000130\r\n900\r\n",

@@ -1,6 +1,6 @@
 -- `nem::main` meets its contract. Assumes nothing.
 use borrow.Author.Needs.{needs}
-use Rattle.nem.proofs.Long.{long}
+use Rattle.page.proofs.Long.{long}
 use Rattle.nem.proofs.main.Statement.{statement}
 use Rattle.nem.proofs.main.Tie as tie
 

@@ -1,6 +1,6 @@
 -- `probe::main` meets its contract. Assumes nothing.
 use borrow.Author.Needs.{needs}
-use Rattle.probe.proofs.Long.{long}
+use Rattle.page.proofs.Long.{long}
 use Rattle.probe.proofs.main.Statement.{statement}
 use Rattle.probe.proofs.main.Tie as tie
 
