@@ -1,0 +1,51 @@
+-- An answer is known from the paper's number and values: no two cases of an enum stand for the same. Assumes nothing.
+use mathlib.Core.Path.{_≡_, refl, ap}
+use Prim.Native.Nat.{ℕ}
+use native.Mathlib.Omega.{arith}
+use Rattle.format.specs.Answers.{Answer, accepted, refused, refusedAs, checkedAs, dayReadAs, totalledAs, writtenAs}
+use Rattle.format.specs.declared.Refusal.{Refusal}
+use Rattle.format.specs.declared.Checked.{Checked}
+use Rattle.format.specs.declared.Checked.the-variants as checked
+use Rattle.format.specs.declared.DayRead.{DayRead}
+use Rattle.format.specs.declared.DayRead.the-variants as dayRead
+use Rattle.format.specs.declared.Totalled.{Totalled}
+use Rattle.format.specs.declared.Totalled.the-variants as totalled
+use Rattle.format.specs.declared.Written.{Written}
+use Rattle.format.specs.declared.Written.the-variants as written
+
+refusal-is : (n p r f : ℕ) → Refusal
+refusal-is n p r f = record { number = n; place = p; «record» = r; field = f }
+
+refusal-one : (x y : Refusal) → refusedAs x ≡ refusedAs y → x ≡ y
+unfolding refusal-is
+refusal-one x y e =
+    let a : x .number ≡ y .number = cc in
+    let b : x .place ≡ y .place = cc in
+    let c : x .«record» ≡ y .«record» = cc in
+    let d : x .field ≡ y .field = cc in
+    let g : refusal-is (x .number) (x .place) (x .«record») (x .field) ≡ refusal-is (y .number) (y .place) (y .«record») (y .field) = rw (a, b, c, d) in
+    g
+
+pub checked-one : (x y : Checked) → checkedAs x ≡ checkedAs y → x ≡ y
+checked-one (checked.Accepted v c d) (checked.Accepted w k l) e = cc
+checked-one (checked.Accepted v c d) (checked.Refused y) e = cc
+checked-one (checked.Refused x) (checked.Accepted w k l) e = cc
+checked-one (checked.Refused x) (checked.Refused y) e = ap checked.Refused (refusal-one x y e)
+
+pub day-read-one : (x y : DayRead) → dayReadAs x ≡ dayReadAs y → x ≡ y
+day-read-one (dayRead.Read a b c d) (dayRead.Read w k l m) e = cc
+day-read-one (dayRead.Read a b c d) (dayRead.Refused y) e = cc
+day-read-one (dayRead.Refused x) (dayRead.Read w k l m) e = cc
+day-read-one (dayRead.Refused x) (dayRead.Refused y) e = ap dayRead.Refused (refusal-one x y e)
+
+pub totalled-one : (x y : Totalled) → totalledAs x ≡ totalledAs y → x ≡ y
+totalled-one (totalled.Total v) (totalled.Total w) e = cc
+totalled-one (totalled.Total v) (totalled.Refused y) e = cc
+totalled-one (totalled.Refused x) (totalled.Total w) e = cc
+totalled-one (totalled.Refused x) (totalled.Refused y) e = ap totalled.Refused (refusal-one x y e)
+
+pub written-one : (x y : Written) → writtenAs x ≡ writtenAs y → x ≡ y
+written-one (written.Block a b) (written.Block c d) e = cc
+written-one (written.Block a b) (written.Refused y) e = cc
+written-one (written.Refused x) (written.Block c d) e = cc
+written-one (written.Refused x) (written.Refused y) e = ap written.Refused (refusal-one x y e)

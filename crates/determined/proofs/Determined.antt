@@ -1,0 +1,56 @@
+-- For each public entry: two results that its contract allows are equal, and so is what is left in everything lent. Said of what a caller learns of the
+-- function, which the tool makes of the clauses in its source, so that a loosened contract is refused here. Assumes nothing.
+use mathlib.Core.Path.{_≡_, sym, ap, _∙_}
+use mathlib.Core.Logic.{_↔_}
+use mathlib.Core.List.{List, [], _∷_}
+use Prim.Native.Nat.{ℕ}
+use contract.Lifetimes.{Lfts}
+use borrow.Fn.Kinds.{Dens, resT, endedOf}
+use denote.Triple.Clauses.{AtExit}
+use denote.Ref.{now}
+use Rattle.format.specs.Answers.{Answer, accepted, checkedAs}
+use Rattle.format.specs.Day.{Outcome}
+use Rattle.format.specs.File.{checkOf}
+use Rattle.theorems.specs.Grammar.{InFormat}
+use Rattle.theorems.proofs.Format.{format}
+use Rattle.reading.proofs.check.check.Kinds as check-kinds
+use Rattle.reading.proofs.check.check.Reads as check-reads
+use Rattle.reading.proofs.read_day.read_day.Kinds as read-kinds
+use Rattle.reading.proofs.read_day.read_day.Reads as read-reads
+use Rattle.reading.proofs.total.total.Kinds as total-kinds
+use Rattle.reading.proofs.total.total.Reads as total-reads
+use Rattle.writing.proofs.write_day.Kinds as write-kinds
+use Rattle.writing.proofs.write_day.Reads as write-reads
+use Rattle.determined.proofs.Answers.{checked-one, day-read-one, totalled-one, written-one}
+
+-- `check` is lent nothing that it may change
+pub one-check : (κs : Lfts 1) (a : Dens κs check-kinds.ps) (x y : resT check-kinds.r κs .Denot) (e f : AtExit (endedOf 1 check-kinds.ps check-kinds.r) κs)
+    → check-reads.Learnt κs a x e → check-reads.Learnt κs a y f → x ≡ y
+one-check κs a x y e f p q = checked-one x y (p ∙ sym q)
+
+-- and what it answers says whether the file is in the format
+pub check-format : (κs : Lfts 1) (a : Dens κs check-kinds.ps) (x : resT check-kinds.r κs .Denot) (e : AtExit (endedOf 1 check-kinds.ps check-kinds.r) κs)
+    → check-reads.Learnt κs a x e → (v c d : ℕ) → (checkedAs x ≡ accepted (v ∷ c ∷ d ∷ [])) ↔ InFormat (now (a .0)) v c d
+check-format κs a x e p v c d = (λ q. format (now (a .0)) v c d .0 (sym p ∙ q), λ h. p ∙ format (now (a .0)) v c d .1 h)
+
+-- `total` likewise
+pub one-total : (κs : Lfts 1) (a : Dens κs total-kinds.ps) (x y : resT total-kinds.r κs .Denot) (e f : AtExit (endedOf 1 total-kinds.ps total-kinds.r) κs)
+    → total-reads.Learnt κs a x e → total-reads.Learnt κs a y f → x ≡ y
+one-total κs a x y e f p q = totalled-one x y (p ∙ sym q)
+
+-- `read_day`: the answer, the values, and the five lists of marks
+pub one-read : (κs : Lfts 7) (a : Dens κs read-kinds.ps) (x y : resT read-kinds.r κs .Denot) (e f : AtExit (endedOf 7 read-kinds.ps read-kinds.r) κs)
+    → read-reads.Learnt κs a x e → read-reads.Learnt κs a y f
+    → (x ≡ y) × (now (e .1 .1 .0) ≡ now (f .1 .1 .0)) × (now (e .1 .1 .1 .0) ≡ now (f .1 .1 .1 .0)) × (now (e .1 .1 .1 .1 .0) ≡ now (f .1 .1 .1 .1 .0))
+    × (now (e .1 .1 .1 .1 .1 .0) ≡ now (f .1 .1 .1 .1 .1 .0)) × (now (e .1 .1 .1 .1 .1 .1 .0) ≡ now (f .1 .1 .1 .1 .1 .1 .0))
+    × (now (e .1 .1 .1 .1 .1 .1 .1 .0) ≡ now (f .1 .1 .1 .1 .1 .1 .1 .0))
+one-read κs a x y e f p q =
+    let o = p ∙ sym q in
+    (day-read-one x y (ap (λ (u : Outcome). u .answer) o), ap (λ (u : Outcome). u .values) o, ap (λ (u : Outcome). u .marks .flags) o,
+    ap (λ (u : Outcome). u .marks .methods) o, ap (λ (u : Outcome). u .marks .reasons) o, ap (λ (u : Outcome). u .marks .starts) o,
+    ap (λ (u : Outcome). u .marks .lengths) o)
+
+-- `write_day`: the answer, and every byte of the room
+pub one-write : (κs : Lfts 8) (a : Dens κs write-kinds.ps) (x y : resT write-kinds.r κs .Denot) (e f : AtExit (endedOf 8 write-kinds.ps write-kinds.r) κs)
+    → write-reads.Learnt κs a x e → write-reads.Learnt κs a y f → (x ≡ y) × (now (e .1 .1 .1 .1 .1 .1 .1 .1 .0) ≡ now (f .1 .1 .1 .1 .1 .1 .1 .1 .0))
+one-write κs a x y e f p q = (written-one x y (p .0 ∙ sym (q .0)), p .1 ∙ sym (q .1))

@@ -1,0 +1,1 @@
+// No code: any two results and any two final contents that the contract of a public entry allows are equal.
