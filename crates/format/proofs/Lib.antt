@@ -2,3 +2,4 @@ pub mod Numbers
 pub mod Dates
 pub mod Quality
 pub mod Cut
+pub mod Refusals
