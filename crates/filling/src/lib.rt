@@ -68,7 +68,17 @@ fn fill_day(
 {
     let t = fill_top(file, a, e, n, values);
     let tag = t.tag;
-    put_marks(file, tag, e + 2, n, flags, methods, reasons, starts, lengths);
+    put_marks(
+        file,
+        tag,
+        e + 2,
+        n,
+        flags,
+        methods,
+        reasons,
+        starts,
+        lengths,
+    );
     DayRead::Read {
         date: t.date,
         n,

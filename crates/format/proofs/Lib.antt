@@ -3,3 +3,4 @@ pub mod Dates
 pub mod Quality
 pub mod Cut
 pub mod Refusals
+pub mod Faults
