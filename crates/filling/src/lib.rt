@@ -68,17 +68,8 @@ fn fill_day(
 {
     let t = fill_top(file, a, e, n, values);
     let tag = t.tag;
-    put_marks(
-        file,
-        tag,
-        e + 2,
-        n,
-        flags,
-        methods,
-        reasons,
-        starts,
-        lengths,
-    );
+    let next = e + 2;
+    put_marks(file, tag, next, n, flags, methods, reasons, starts, lengths);
     DayRead::Read {
         date: t.date,
         n,
