@@ -13,13 +13,14 @@ use Rattle.ground.proofs.Tests.{and-true}
 use Rattle.format.specs.Cut.{Lines, line, rest, lines, fields}
 use Rattle.format.specs.Records.{kindIn, rowOf, countOf, versionIn, intervalsIn, firstIn, lastIn}
 use Rattle.format.specs.Order.{Due, begun, between, inDay, mayCome, isVaried, on300, on400, afterOf}
-use Rattle.format.specs.Faults.{_▹_, stop, f3, f10, f4, f5, f6, f7, f8, f9, size, isOpen, covers, isOff, faultAt, faultOf}
+use Rattle.format.specs.Faults.{f3, f10, f4, f5, f6, f7, f8, f9, size, isOpen, covers, isOff, faultAt, faultOf}
 use Rattle.format.specs.Answers.{Answer, accepted, refused}
 use Rattle.format.specs.File.{after, orGoOn, walkOf, most, checkOf}
 use Rattle.format.specs.Day.{rowAt, DayRows, runsFrom, daysFrom, daysOf}
 use Rattle.format.specs.declared.Rule.the-variants.{Quality, Value, Reason, Description, Time, Load}
 use Rattle.format.specs.declared.Fault.{Fault}
 use Rattle.format.specs.declared.Fault.the-variants.{Fine, Stop}
+use Rattle.format.proofs.Faults.{both-fine, stop-fine}
 use Rattle.bridge.specs.Sound.{coversFrom, isSound}
 
 -- ---- one step of an accepted walk
@@ -27,14 +28,6 @@ use Rattle.bridge.specs.Sound.{coversFrom, isSound}
 go-on : (p k : ℕ) (f : Fault) (a : Answer) (xs : List ℕ) → orGoOn p k f a ≡ accepted xs → (f ≡ Fine) × (a ≡ accepted xs)
 go-on p k Fine a xs e = (refl, e)
 go-on p k (Stop x o i) a xs e = let z : _≡_ {A = ℕ} 0 1 = cc in absurd (omega arith)
-
-both-fine : (f g : Fault) → (f ▹ g) ≡ Fine → (f ≡ Fine) × (g ≡ Fine)
-both-fine Fine g e = (refl, e)
-both-fine (Stop x o i) g e = let z : _≡_ {A = ℕ} 0 1 = cc in absurd (omega arith)
-
-stop-fine : (b : Bool) (x o i : ℕ) → stop b x o i ≡ Fine → b ≡ false
-stop-fine true x o i e = let z : _≡_ {A = ℕ} 0 1 = cc in absurd (omega arith)
-stop-fine false x o i e = refl
 
 -- not at the end, and a record without a fault
 goes-on : (b : Bool) (x p k : ℕ) (a : Answer) (xs : List ℕ) → cond b (refused x p k 0) a ≡ accepted xs → a ≡ accepted xs

@@ -1,4 +1,4 @@
-// What a 300 says, from left to right in one pass: date, values, mark, times.
+// What a 300 says, from left to right: date, values, mark, times.
 use super::fields::fill_values;
 use super::fields::skip;
 use format::Tag;

@@ -6,12 +6,12 @@ use day::walk::find_day;
 use format::DayRead;
 use format::Refusal;
 ghost use mathlib.Core.Path.{_≡_};
-ghost use mathlib.Core.Bool.{true, cond};
-ghost use Prim.Native.Nat.{_+_, _≤_};
-ghost use lib.ListN.{length, drop};
+ghost use mathlib.Core.Bool.{true};
+ghost use Prim.Native.Nat.{_+_};
+ghost use lib.ListN.{drop};
 ghost use Rattle.ground.specs.Lists.{all};
 ghost use Rattle.format.specs.Answers.{refusal, dayReadAs};
-ghost use Rattle.format.specs.Day.{daysOf, five, outcome, enoughFor, roomFor, readInto, readFirst};
+ghost use Rattle.format.specs.Day.{daysOf, five, outcome, enoughFor, readInto, readFirst};
 ghost use Rattle.bridge.specs.Sound.{isSound};
 ghost use Rattle.day.specs.Places.{dayAt};
 ghost use Rattle.filling.specs.Ready.{Here, Ready, dayInto};
@@ -67,17 +67,9 @@ fn fill_day(
     ensures { λ r. ⌜ outcome (dayReadAs r) (now (values .exit)) (five (now (flags .exit)) (now (methods .exit)) (now (reasons .exit)) (now (starts .exit)) (now (lengths .exit))) ≡ readInto (dayAt (now (file .entry)) a e n) (now (values .entry)) (five (now (flags .entry)) (now (methods .entry)) (now (reasons .entry)) (now (starts .entry)) (now (lengths .entry))) ⌝ }
 {
     let t = fill_top(file, a, e, n, values);
-    put_marks(
-        file,
-        t.tag,
-        e + 2,
-        n,
-        flags,
-        methods,
-        reasons,
-        starts,
-        lengths,
-    );
+    let tag = t.tag;
+    let next = e + 2;
+    put_marks(file, tag, next, n, flags, methods, reasons, starts, lengths);
     DayRead::Read {
         date: t.date,
         n,

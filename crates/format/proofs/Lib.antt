@@ -8,3 +8,4 @@ pub mod ValueText
 pub mod MarkText
 pub mod CoverText
 pub mod Refusals
+pub mod Faults

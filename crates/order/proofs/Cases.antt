@@ -1,13 +1,12 @@
 -- The cases of the tests, as a return of the code has them. Assumes nothing.
-use Prim.Native.Nat.{ℕ, _+_, _-_, _≤_, _<_}
-use mathlib.Core.Path.{_≡_, refl, sym, _∙_, ap}
+use Prim.Native.Nat.{ℕ, _+_, _-_}
+use mathlib.Core.Path.{_≡_}
 use mathlib.Core.List.{List}
-use mathlib.Core.Bool.{Bool, true, false, cond, not, _&&_, _||_}
+use mathlib.Core.Bool.{Bool, true, false, not}
 use lib.ListN.{length, take, drop}
-use lib.Dec.{leb, eqb}
-use borrow.Author.Tests.{eq-eqb, ne-eqb, le-leb, lt-leb, not-true, not-false}
+use borrow.Author.Tests.{eq-eqb, ne-eqb, not-true, not-false}
 use Rattle.ground.specs.Lists.{same}
-use Rattle.ground.proofs.Tests.{tests, and-false}
+use Rattle.ground.proofs.Tests.{tests}
 use Rattle.format.specs.Quality.{Mark, sameMark}
 use Rattle.format.specs.Order.{Due, between, inDay, mayCome}
 use Rattle.format.specs.declared.Tag.{Tag}

@@ -1,21 +1,21 @@
 -- The step over one record: the chain of refusals from 3 to 6, and the record's own method by its kind. Assumes nothing.
-use Prim.Native.Nat.{ℕ, suc, _+_, _-_, _≤_, _<_}
-use mathlib.Core.Path.{_≡_, refl, sym, _∙_, ap}
-use mathlib.Core.List.{List, [], _∷_}
+use Prim.Native.Nat.{ℕ, _+_, _-_, _≤_, _<_}
+use mathlib.Core.Path.{_≡_, sym, _∙_}
+use mathlib.Core.List.{List}
 use mathlib.Core.Bool.{Bool, true, false, cond, not, _&&_, false≢true}
 use native.Mathlib.Omega.{arith}
 use lib.ListN.{length}
-use lib.Dec.{eqb, leb, ltb}
+use lib.Dec.{eqb, leb}
 use borrow.Author.Tests.{eq-eqb, ne-eqb, le-ltb, lt-ltb, not-true, not-false}
 use Rattle.ground.specs.Lists.{spanOf, part}
 use Rattle.ground.proofs.Spans.{part-length}
 use Rattle.format.specs.Bytes.{plain}
-use Rattle.format.specs.Cut.{fields, field, startOf}
+use Rattle.format.specs.Cut.{fields}
 use Rattle.format.specs.Records.{kindIn, rowOf, countOf, qualitiesOf, firstBroken}
 use Rattle.format.specs.Order.{Due, mayCome, on100, on200, afterOf}
 use Rattle.format.specs.Faults.{size, isOpen, brokenIn, isLate, isOff, isAlike, isElsewhere, faultIn, faultAt, faultOf}
 use Rattle.format.specs.declared.Fault.the-variants.{Fine, Stop}
-use Rattle.record.specs.Places.{Starts, LineEnd, Looked}
+use Rattle.record.specs.Places.{Looked}
 use Rattle.record.specs.Walk.{firstAsked, secondAsked, Typed, Sound, Broken, Walks}
 use Rattle.record.specs.declared.Walked.{Walked}
 use Rattle.record.specs.declared.Walked.the-variants as walked
@@ -23,7 +23,7 @@ use Rattle.record.proofs.Turns.{second-field}
 use Rattle.record.proofs.Rows.{count-300}
 use Rattle.order.specs.declared.State.{State}
 use Rattle.order.specs.State.{seen, closed, Kept, cells, Here, After, Ready, Next, goes, stops, orStop, nextOf, lateOf, lastOf}
-use Rattle.order.proofs.Late.{late-none, kept-closed}
+use Rattle.order.proofs.Late.{late-none}
 
 -- ---- the places that a record's method asks for
 

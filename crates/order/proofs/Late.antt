@@ -1,11 +1,11 @@
 -- The refusals that stand behind 6, and the state behind a record that has none: what each return of a record's method answers. Assumes nothing.
 use Prim.Native.Nat.{ℕ, _+_, _-_, _/_, _≤_, _<_}
 use mathlib.Core.Path.{_≡_, refl, sym, _∙_, ap}
-use mathlib.Core.List.{List, [], _∷_}
+use mathlib.Core.List.{List}
 use mathlib.Core.Bool.{Bool, true, false, cond, not, _&&_, _||_}
 use native.Mathlib.Omega.{arith}
 use lib.ListN.{length}
-use lib.Dec.{eqb, leb}
+use lib.Dec.{eqb}
 use borrow.Author.Tests.{eqb-true, eq-eqb, ne-eqb, le-leb, lt-leb, not-true, not-false}
 use Rattle.ground.specs.Lists.{part}
 use Rattle.format.specs.Numbers.{numberIn, intervalOf, isLength, lengthOf, intervalsOf}
@@ -13,12 +13,11 @@ use Rattle.format.specs.Texts.{versionOf}
 use Rattle.format.specs.Dates.{dateOf, readTimeOf}
 use Rattle.format.specs.Quality.{across}
 use Rattle.format.specs.Cut.{fields, field, startOf}
-use Rattle.format.specs.Records.{versionIn, intervalsIn, dateIn, firstIn, lastIn, readTimeIn, qualitiesOf, markAt, agrees, firstBroken}
-use Rattle.format.specs.Order.{Due, isVaried, alikeWith, on100, on200, on300, on400, afterOf}
+use Rattle.format.specs.Records.{versionIn, intervalsIn, dateIn, firstIn, lastIn, readTimeIn, qualitiesOf, firstBroken}
+use Rattle.format.specs.Order.{Due, isVaried, alikeWith, on100, on200, afterOf}
 use Rattle.format.specs.Faults.{size, brokenIn, isLate, covers, isOff, isAlike, onDay, isElsewhere}
 use Rattle.format.specs.Day.{rowAt, tagAt}
 use Rattle.format.specs.declared.Tag.{Tag}
-use Rattle.record.specs.Places.{Starts}
 use Rattle.record.proofs.Fields.{says-of}
 use Rattle.order.specs.declared.State.{State}
 use Rattle.order.specs.State.{markOf, seen, noTag, closed, Kept, cells, Here, After, goes, stops, lateOf, lastOf, goesOn, alikeTo}
@@ -199,21 +198,6 @@ module _ (file : List ℕ) (at e p q : ℕ) (st : State) (s : Tag) {b : Bool} (h
         → goes (seen file s) ≡ lastOf (seen file st) 250 (cells file at e)
     unfolding isLate isOff isAlike isElsewhere afterOf
     on250-on s n es = rw es (late-none (seen file st) 250 (cells file at e) (rw (not-false c n) at broken-250) refl refl refl refl)
-
-pub ruleset late = (
-  on300-7,
-  on300-8,
-  on300-on,
-  on400-7,
-  on400-9,
-  on400-11,
-  on400-on,
-  on500-12,
-  on500-on,
-  on250-7,
-  on250-7-current,
-  on250-on,
-)
 
 -- ---- the state is kept
 

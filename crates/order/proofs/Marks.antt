@@ -1,21 +1,20 @@
 -- A mark that was read at a place of the file is the mark of the record's field there. Assumes nothing.
-use Prim.Native.Nat.{ℕ, _+_, _-_, _≤_, _<_}
+use Prim.Native.Nat.{ℕ, _+_, _≤_, _<_}
 use mathlib.Core.Path.{_≡_, refl, sym, _∙_, ap}
 use mathlib.Core.List.{List, [], _∷_}
-use mathlib.Core.Bool.{Bool, true, false, cond}
+use mathlib.Core.Bool.{Bool, cond}
 use native.Mathlib.Omega.{arith}
 use native.Mathlib.Decide.{decLt}
-use lib.ListN.{length, take, drop}
+use lib.ListN.{length}
 use lib.Dec.{eqb}
 use borrow.Author.Tests.{eq-eqb, ne-eqb}
 use Rattle.ground.specs.Lists.{part}
 use Rattle.format.specs.Numbers.{numberIn, reasonOf}
 use Rattle.format.specs.Quality.{flagIn, methodIn, qualityOf, across, Mark}
-use Rattle.format.specs.Cut.{fields, field, startOf}
+use Rattle.format.specs.Cut.{field, startOf}
 use Rattle.format.specs.Records.{markAt, agrees}
 use Rattle.format.specs.Day.{rowAt, tagAt}
 use Rattle.format.specs.declared.Tag.{Tag}
-use Rattle.record.specs.Places.{Starts}
 use Rattle.record.proofs.Cuts.{field-lies}
 use Rattle.record.proofs.Fields.{tag-moves}
 use Rattle.order.specs.State.{markOf, cells, Here}

@@ -1,19 +1,17 @@
 -- The walk over the file: what each way out of a turn answers, and the turn itself. Assumes nothing.
-use Prim.Native.Nat.{ℕ, _+_, _-_, _≤_, _<_}
-use mathlib.Core.Path.{_≡_, refl, sym, _∙_, ap}
+use Prim.Native.Nat.{ℕ, _+_, _≤_, _<_}
+use mathlib.Core.Path.{_≡_, refl, sym, _∙_}
 use mathlib.Core.List.{List, [], _∷_}
-use mathlib.Core.Bool.{true, false, cond}
 use native.Mathlib.Omega.{arith}
 use native.Mathlib.Decide.{decLt}
 use lib.ListN.{length, drop, length-drop}
 use lib.Seq.{drop-length}
 use borrow.Author.Tests.{eq-eqb, ne-eqb, lt-ltb, le-ltb}
 use Rattle.ground.specs.Lists.{part}
-use Rattle.format.specs.Cut.{line, rest, Lines, lines, fields}
-use Rattle.format.specs.Records.{kindIn}
-use Rattle.format.specs.Order.{Due, begun, afterOf}
+use Rattle.format.specs.Cut.{lines}
+use Rattle.format.specs.Order.{Due}
 use Rattle.format.specs.Faults.{faultOf}
-use Rattle.format.specs.Answers.{Answer, accepted, refused, refusal}
+use Rattle.format.specs.Answers.{Answer, accepted, refused}
 use Rattle.format.specs.File.{after, orGoOn, walkOf, checkOf}
 use Rattle.format.specs.declared.Fault.{Fault}
 use Rattle.format.specs.declared.Fault.the-variants.{Fine, Stop}

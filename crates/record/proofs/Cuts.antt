@@ -2,12 +2,11 @@
 use Prim.Native.Nat.{ℕ, zero, suc, _+_, _-_, _≤_, _<_}
 use mathlib.Core.Path.{_≡_, refl, sym, _∙_, ap}
 use mathlib.Core.List.{List, [], _∷_}
-use mathlib.Core.Bool.{true, false}
 use native.Mathlib.Nat.{add-zero, zero-add, sub-self}
 use native.Mathlib.Omega.{arith}
 use native.Mathlib.Decide.{decLt}
-use lib.ListN.{length, getD, take, drop, length-drop, List·getD-eq-default}
-use lib.Seq.{getD-drop, drop-drop}
+use lib.ListN.{length, take, drop, List·getD-eq-default}
+use lib.Seq.{getD-drop}
 use Rattle.ground.specs.Lists.{spanOf, other, part}
 use Rattle.ground.proofs.Spans.{span-le, part-length, part-drop, part-take}
 use Rattle.format.specs.Cut.{fields, field, startOf}

@@ -1,19 +1,19 @@
 -- Where a record ends: the loop that looks for it, the file's first record and the rest of them, and a record as a place of the file. Assumes nothing.
 use Prim.Native.Nat.{ℕ, zero, suc, _+_, _-_, _≤_, _<_}
-use mathlib.Core.Path.{_≡_, refl, sym, _∙_, ap}
+use mathlib.Core.Path.{_≡_, refl, _∙_, ap}
 use mathlib.Core.List.{List, [], _∷_}
 use mathlib.Core.Bool.{Bool, true, false, cond, false≢true}
 use native.Mathlib.Numerals.{add-one}
 use native.Mathlib.Omega.{arith}
 use lib.ListN.{length, getD, take, drop, length-drop, length-take}
-use lib.Seq.{drop-cons, drop-drop, length-take-le, take-all}
+use lib.Seq.{drop-cons, drop-drop}
 use lib.Dec.{eqb}
 use borrow.Author.Tests.{eqb-true}
 use Rattle.ground.specs.Lists.{spanOf, part}
 use Rattle.ground.proofs.Lists.{to-end}
 use Rattle.ground.proofs.Spans.{part-cut, part-length}
 use Rattle.format.specs.Bytes.{plain}
-use Rattle.format.specs.Cut.{isCrlf, Lines, line, rest, lines, fields}
+use Rattle.format.specs.Cut.{isCrlf, line, rest, lines}
 use Rattle.record.specs.Places.{lineLen, LineEnd, Scanned, Looked}
 
 -- ---- the loop, at byte i

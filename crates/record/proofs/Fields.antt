@@ -1,16 +1,15 @@
 -- What a field at a place of the file says of the record that it stands in: a number, a quality with reason and description. Assumes nothing.
-use Prim.Native.Nat.{ℕ, zero, suc, _+_, _-_, _*_, _^_, _≤_, _<_}
+use Prim.Native.Nat.{ℕ, _+_, _-_, _^_, _<_}
 use mathlib.Core.Path.{_≡_, refl, sym, _∙_, ap}
-use mathlib.Core.List.{List, [], _∷_}
+use mathlib.Core.List.{List}
 use mathlib.Core.Bool.{Bool, true, false, cond}
 use native.Mathlib.Nat.{add-zero}
 use native.Mathlib.Omega.{arith}
 use native.Mathlib.Decide.{decLt}
-use lib.ListN.{length, getD, take, drop}
+use lib.ListN.{length}
 use lib.Dec.{eqb}
 use mir.Val.{Fits}
 use mir.Syntax.{w16}
-use borrow.Author.Tests.{eq-eqb, ne-eqb}
 use Rattle.ground.specs.Lists.{part}
 use Rattle.ground.proofs.Spans.{part-length}
 use Rattle.format.specs.Numbers.{numberIn, that, numberOf, smallOf, intervalOf, lengthOf, intervalsOf, reasonOf, valueOf}

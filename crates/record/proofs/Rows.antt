@@ -1,9 +1,9 @@
 -- The rule of a field, found in the table by its number: in the front of a row, in a part of it, in the values of a 300 and behind them.
 -- Assumes nothing.
-use Prim.Native.Nat.{ℕ, zero, suc, _+_, _-_, _≤_, _<_}
+use Prim.Native.Nat.{ℕ, suc, _+_, _-_, _≤_, _<_}
 use mathlib.Core.Path.{_≡_, refl, sym, _∙_, ap}
-use mathlib.Core.List.{List, [], _∷_, _++_}
-use mathlib.Core.Bool.{Bool, true, false}
+use mathlib.Core.List.{List, [], _∷_}
+use mathlib.Core.Bool.{Bool}
 use native.Mathlib.Omega.{arith}
 use native.Mathlib.Decide.{decLt}
 use lib.ListN.{length, getD, take, drop, replicate, length-replicate, length-append, getD-replicate, List·getD-eq-default, List·getD-append}
@@ -15,7 +15,7 @@ use Rattle.format.specs.Records.{row300, rowOf, countOf, ruleOf, obeys}
 use Rattle.format.specs.declared.Number.{Number}
 use Rattle.format.specs.declared.Graded.{Graded}
 use Rattle.format.specs.declared.Rule.{Rule}
-use Rattle.format.specs.declared.Rule.the-variants.{Indicator, Date, Value, Quality, Reason, Description, Time, Load}
+use Rattle.format.specs.declared.Rule.the-variants.{Indicator, Value, Quality, Reason, Description, Time, Load}
 
 pub past-row : (row : List Rule) (i : ℕ) → length row ≤ i → Indicator ≡ getD row i Indicator
 past-row row i h = sym (List·getD-eq-default row Indicator {n = i} h)

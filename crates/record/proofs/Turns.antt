@@ -1,26 +1,25 @@
 -- The loop over the fields of a record: each field so far meets its rule, where the next one starts, and the places that later rules ask for.
 -- Assumes nothing.
-use Prim.Native.Nat.{ℕ, zero, suc, _+_, _-_, _≤_, _<_}
+use Prim.Native.Nat.{ℕ, _+_, _-_, _≤_, _<_}
 use mathlib.Core.Path.{_≡_, refl, sym, _∙_, ap}
-use mathlib.Core.List.{List, [], _∷_}
+use mathlib.Core.List.{List}
 use mathlib.Core.Bool.{Bool, true, false, cond, not, _&&_}
 use native.Mathlib.Omega.{arith}
 use native.Mathlib.Decide.{decLt}
 use lib.ListN.{length, getD, take, drop, drop-of-length-le, length-drop}
 use lib.Seq.{length-take-le, getD-take, getD-drop}
 use lib.Dec.{eqb, leb}
-use borrow.Author.Tests.{eq-eqb, ne-eqb, eqb-true, eqb-false, leb-true, not-true, not-false}
+use borrow.Author.Tests.{eqb-true, eqb-false, leb-true, not-true, not-false}
 use Rattle.ground.specs.Lists.{all, spanOf, other, part}
-use Rattle.ground.specs.Digits.{isDigit, decimal}
+use Rattle.ground.specs.Digits.{isDigit}
 use Rattle.ground.proofs.Tests.{and-true}
 use Rattle.ground.proofs.Spans.{span-le, span-block, part-length, part-cut, part-take}
 use Rattle.ground.proofs.Prefix.{prefix-most}
 use Rattle.format.specs.Bytes.{areAll}
 use Rattle.format.specs.Numbers.{numberIn, that, numberOf}
 use Rattle.format.specs.Cut.{fields, field, startOf}
-use Rattle.format.specs.Records.{isKind, indicatorOf, kindIn, rowOf, countOf, ruleOf, obeys}
+use Rattle.format.specs.Records.{indicatorOf, kindIn, rowOf, countOf, ruleOf, obeys}
 use Rattle.format.specs.Faults.{faultIn}
-use Rattle.format.specs.declared.Number.the-variants.{Is, Bad}
 use Rattle.format.specs.declared.Fault.the-variants.{Fine, Stop}
 use Rattle.format.specs.declared.Rule.{Rule}
 use Rattle.format.specs.declared.Rule.the-variants.{Indicator, Value}

@@ -1,6 +1,6 @@
 -- A record and its fields as places of the file, for the contracts of the inner functions: at, a place where a record starts; e, where it ends,
 -- which is where its CR LF stands or the file ends.
-use Prim.Native.Nat.{ℕ, suc, _+_, _-_, _≤_, _<_}
+use Prim.Native.Nat.{ℕ, suc, _+_, _≤_, _<_}
 use mathlib.Core.Path.{_≡_}
 use mathlib.Core.List.{List, [], _∷_}
 use mathlib.Core.Bool.{cond}

@@ -7,8 +7,8 @@ use Rattle.filling.proofs.fill_day.Tie as tie
 fill-top-requires : tie.Need-fill-top-requires
 fill-top-requires c κs = search needs
 
-add-put-marks : tie.Need-add-put-marks
-add-put-marks c = search needs
+add-next : tie.Need-add-next
+add-next c = search needs
 
 put-marks-requires : tie.Need-put-marks-requires
 put-marks-requires c κs = (search needs, search covered-is, search needs)
@@ -39,7 +39,7 @@ fill-day-spec =
     tie.close
     (tie.spec
     fill-top-requires
-    add-put-marks
+    add-next
     put-marks-requires
     same-length
     same-length-2
