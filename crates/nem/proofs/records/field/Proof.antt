@@ -9,7 +9,7 @@ use Rattle.nem.proofs.records.field.Reads as reads
 use Rattle.nem.proofs.records.field.Lts as lts
 use Rattle.nem.proofs.records.first.Reads as first-reads
 use Rattle.nem.proofs.records.next.Reads as next-reads
-use Rattle.nem.proofs.records.part.Reads as part-reads
+use Rattle.page.proofs.texts.part.Reads as part-reads
 
 abbrev Inv-loop : tie.InvT-loop
 Inv-loop rec number at₀ k₀ at k = Unit
@@ -17,35 +17,35 @@ Inv-loop rec number at₀ k₀ at k = Unit
 abbrev μ-loop : tie.MeasureT-loop
 μ-loop rec number at₀ k₀ at k = number - k
 
--- src/records.rt:86:5
+-- src/records.rt:77:5
 loop-holds : tie.Need-loop-holds Inv-loop μ-loop
 loop-holds c = search needs
 
--- src/records.rt:87:9
+-- src/records.rt:78:9
 next-requires : tie.Need-next-requires Inv-loop μ-loop
 next-requires c κs = search needs
 
--- src/records.rt:88:9
+-- src/records.rt:79:9
 add-k : tie.Need-add-k Inv-loop μ-loop
 add-k c = search needs
 
--- src/records.rt:86:5
+-- src/records.rt:77:5
 loop-less : tie.Need-loop-less Inv-loop μ-loop
 loop-less c = search needs
 
--- src/records.rt:86:5
+-- src/records.rt:77:5
 loop-again : tie.Need-loop-again Inv-loop μ-loop
 loop-again c = search needs
 
--- src/records.rt:90:11
+-- src/records.rt:81:11
 part-requires : tie.Need-part-requires Inv-loop μ-loop
 part-requires c κs = search needs
 
--- src/records.rt:90:5
+-- src/records.rt:81:5
 first-requires : tie.Need-first-requires Inv-loop μ-loop
 first-requires c κs = search needs
 
--- src/records.rt:83:1
+-- src/records.rt:74:1
 returns : tie.Need-returns Inv-loop μ-loop
 returns c = search needs
 
