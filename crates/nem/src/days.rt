@@ -32,11 +32,19 @@ pub enum Wanted {
 
 // ---- refused
 
+// How many days there are to ask for.
+fn days_there(page: &mut [u8], at: usize, days: usize) -> usize {
+    if days == 0 {
+        return put(page, at, b"none");
+    }
+    let p = counted(page, at, days as u64, b"day");
+    put(page, p, b", numbered from 0")
+}
+
 fn no_day(page: &mut [u8], days: usize) {
     let p = put(page, 0, b"refused: 14, no such day: the file has ");
-    let q = counted(page, p, days as u64, b"day");
-    let r = put(page, q, b", numbered from 0");
-    say(page, r);
+    let q = days_there(page, p, days);
+    say(page, q);
 }
 
 fn refuse(page: &mut [u8], file: &[u8], x: Refusal) {

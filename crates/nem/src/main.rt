@@ -63,7 +63,8 @@ fn help() {
         nem day FILE K     day K as a table, a line for each interval; days are numbered from 0\n  \
         nem totals FILE    what each channel adds up to\n  \
         nem block FILE K   day K as its shortest block of records\n  \
-        nem help           this text\n",
+        nem help           this text\n\n\
+        Bytes, records and channels are counted from 0, fields and intervals from 1.\n",
     );
 }
 
@@ -83,22 +84,31 @@ fn form(task: Task) -> usize {
 
 fn usage(page: &mut [u8], task: Task) {
     let forms = b"check FILE;day FILE K;totals FILE;block FILE K;help";
-    let p = put(page, 0, b"nem: the words are nem ");
+    let p = put(page, 0, b"nem: usage: nem ");
     let q = put(page, p, text_at(forms, form(task)));
     complain(page, q);
 }
 
-fn no_task(page: &mut [u8], word: &[u8]) {
+// The first word, which names no task.
+fn unknown(page: &mut [u8], word: &[u8]) -> usize {
+    if word.len() == 0 {
+        return put(page, 0, b"nem: no word was given");
+    }
     let p = put(page, 0, b"nem: no such word: ");
-    let q = quoted(page, p, word);
-    let r = put(page, q, b"; nem help says which there are");
-    complain(page, r);
+    quoted(page, p, word)
+}
+
+fn no_task(page: &mut [u8], word: &[u8]) {
+    let p = unknown(page, word);
+    let q = put(page, p, b"; nem help says which there are");
+    complain(page, q);
 }
 
 fn no_number(page: &mut [u8], word: &[u8]) {
-    let p = put(page, 0, b"nem: no number of a day: ");
+    let p = put(page, 0, b"nem: ");
     let q = quoted(page, p, word);
-    complain(page, q);
+    let r = put(page, q, b" is no day number; days are numbered from 0");
+    complain(page, r);
 }
 
 // errno's words of the file.

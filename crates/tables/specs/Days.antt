@@ -23,7 +23,7 @@ unfoldable pub titleText : DayHead → ℕ → List ℕ
 titleText d n = datedText (d .date) ++ intervalsText n (d .«length») ++ timeText (d .update) ++ loadedText (d .load)
 
 abbrev pub headings : List ℕ
-headings = bytes " no ends       value         quality  reason  description"
+headings = bytes " no ends     value         quality  reason  description"
 
 -- when interval k from 1 ends, of n in a day: in minutes
 unfoldable pub endOf : ℕ → ℕ → ℕ

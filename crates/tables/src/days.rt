@@ -75,7 +75,7 @@ pub fn headings(page: &mut [u8], at: usize) -> usize
     put(
         page,
         at,
-        b" no ends       value         quality  reason  description",
+        b" no ends     value         quality  reason  description",
     )
 }
 
