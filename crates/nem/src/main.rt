@@ -1,7 +1,5 @@
 // The tool for people. Words: check FILE, day FILE K, totals FILE, block FILE K, help.
-mod days;
-
-use days::Wanted;
+use daily::Wanted;
 use disk::Loaded;
 use format::Number;
 use leaf::bytes::same_bytes;
@@ -124,7 +122,7 @@ fn day(page: &mut [u8], file: &[u8], wanted: Wanted) {
     let mut word = io::buffer();
     let n = os::arg(3, &mut word);
     match digits(&word[..n], 1, 14) {
-        Number::Is(k) => days::show(page, file, k as usize, wanted),
+        Number::Is(k) => daily::show(page, file, k as usize, wanted),
         Number::Bad => no_number(page, &word[..n]),
     }
 }

@@ -1,9 +1,9 @@
 -- Texts put on a page, one behind the other: four of them, and one that goes by the place that the line has come to. Assumes nothing.
-use Prim.Native.Nat.{ℕ, _+_, _-_, _≤_, _<_}
+use Prim.Native.Nat.{ℕ, _+_, _-_, _≤_}
 use mathlib.Core.Path.{_≡_, sym, ap, _∙_}
 use mathlib.Core.List.{List, _++_}
 use native.Mathlib.Omega.{arith}
-use lib.ListN.{length, take}
+use lib.ListN.{length}
 use lib.Seq.{take-all, take-append-le}
 use Rattle.ground.proofs.Cases.{split}
 use Rattle.ground.proofs.Room.{put-as}

@@ -3,7 +3,7 @@ use page::texts::part;
 use page::texts::put;
 use phrase::columns::spaces;
 ghost use mathlib.Core.Path.{_≡_};
-ghost use lib.ListN.{length, getD};
+ghost use lib.ListN.{length};
 ghost use Rattle.page.specs.Filled.{Filled};
 ghost use Rattle.refusals.specs.Excerpts.{shown as Excerpts·shown, shownText, dots as Excerpts·dots, shownFrom, shownTo, excerpt as Excerpts·excerpt, lead as Excerpts·lead, mark as Excerpts·mark};
 

@@ -1,5 +1,4 @@
 -- `probe::main` meets its contract. Assumes nothing.
-use borrow.Author.Needs.{needs}
 use Rattle.page.proofs.Long.{long}
 use Rattle.probe.proofs.main.Statement.{statement}
 use Rattle.probe.proofs.main.Tie as tie

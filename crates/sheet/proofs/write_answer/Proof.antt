@@ -1,6 +1,5 @@
-use mathlib.Core.Path.{_≡_}
-use Prim.Native.Nat.{_-_}
-use lib.ListN.{length, length-take, length-set}
+-- `sheet::write_answer` meets its contract. Assumes nothing.
+use lib.ListN.{length-take}
 use native.Mathlib.Omega.{arith}
 use borrow.Author.Needs.{needs}
 use Rattle.sheet.proofs.write_answer.Statement.{statement}

@@ -1,7 +1,6 @@
+-- `sheet::write_places` meets its contract. Assumes nothing.
 use Rattle.sheet.proofs.Long.{long-front}
-use mathlib.Core.Path.{_≡_}
-use Prim.Native.Nat.{_-_}
-use lib.ListN.{length, length-take, length-set}
+use lib.ListN.{length-take}
 use native.Mathlib.Omega.{arith}
 use borrow.Author.Needs.{needs}
 use Rattle.sheet.proofs.write_places.Statement.{statement}

@@ -1,7 +1,6 @@
+-- `input::numbers::number_from` meets its contract. Assumes nothing.
 use mathlib.Core.Path.{_≡_}
-use Prim.Native.Nat.{_-_}
-use lib.ListN.{length, length-take, length-set}
-use native.Mathlib.Omega.{arith}
+use lib.ListN.{length}
 use borrow.Author.Needs.{needs}
 use Rattle.input.proofs.numbers.number_from.Statement.{statement}
 use Rattle.input.proofs.numbers.number_from.Tie as tie

@@ -1,6 +1,5 @@
 -- `phrase::columns::spaces` meets its contract. Assumes nothing.
 use Rattle.phrase.proofs.Phrased.{spaces-put}
-use Rattle.phrase.specs.Phrases.{blank}
 use borrow.Author.Needs.{needs}
 use Rattle.phrase.proofs.columns.spaces.Statement.{statement}
 use Rattle.phrase.proofs.columns.spaces.Tie as tie

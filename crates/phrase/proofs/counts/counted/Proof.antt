@@ -1,7 +1,6 @@
 -- `phrase::counts::counted` meets its contract. Assumes nothing.
 use Rattle.phrase.proofs.Chained.{filled-four}
 use Rattle.phrase.specs.Phrases.{countedText}
-use Rattle.page.proofs.Filling.{filled-then}
 use borrow.Author.Needs.{needs}
 use Rattle.phrase.proofs.counts.counted.Statement.{statement}
 use Rattle.phrase.proofs.counts.counted.Tie as tie

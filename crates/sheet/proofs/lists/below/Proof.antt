@@ -1,7 +1,6 @@
-use mathlib.Core.Path.{_≡_}
+-- `sheet::lists::below` meets its contract. Assumes nothing.
 use Prim.Native.Nat.{_-_}
-use lib.ListN.{length, length-take, length-set}
-use native.Mathlib.Omega.{arith}
+use lib.ListN.{length}
 use borrow.Author.Needs.{needs}
 use Rattle.sheet.proofs.lists.below.Statement.{statement}
 use Rattle.sheet.proofs.lists.below.Tie as tie

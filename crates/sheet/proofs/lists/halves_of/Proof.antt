@@ -1,7 +1,7 @@
+-- `sheet::lists::halves_of` meets its contract. Assumes nothing.
 use mathlib.Core.Path.{_≡_}
 use Prim.Native.Nat.{_-_}
-use lib.ListN.{length, length-take, length-set}
-use native.Mathlib.Omega.{arith}
+use lib.ListN.{length}
 use borrow.Author.Needs.{needs}
 use Rattle.sheet.proofs.lists.halves_of.Statement.{statement}
 use Rattle.sheet.proofs.lists.halves_of.Tie as tie

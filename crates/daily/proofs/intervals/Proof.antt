@@ -1,10 +1,10 @@
--- `nem::days::intervals` meets its contract. Assumes nothing.
+-- `daily::intervals` meets its contract. Assumes nothing.
 use Prim.Native.Nat.{_-_}
 use mathlib.Core.Path.{_≡_}
 use borrow.Author.Needs.{needs}
 use lib.ListN.{length}
-use Rattle.nem.proofs.days.intervals.Statement.{statement}
-use Rattle.nem.proofs.days.intervals.Tie as tie
+use Rattle.daily.proofs.intervals.Statement.{statement}
+use Rattle.daily.proofs.intervals.Tie as tie
 
 abbrev Inv-loop : tie.InvT-loop
 Inv-loop page₀ file n values flags methods reasons starts lengths i₀ page i = length page ≡ length page₀

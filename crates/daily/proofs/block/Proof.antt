@@ -1,8 +1,8 @@
--- `nem::days::block` meets its contract. Assumes nothing.
+-- `daily::block` meets its contract. Assumes nothing.
 use borrow.Author.Needs.{needs}
 use Rattle.page.proofs.Long.{long}
-use Rattle.nem.proofs.days.block.Statement.{statement}
-use Rattle.nem.proofs.days.block.Tie as tie
+use Rattle.daily.proofs.block.Statement.{statement}
+use Rattle.daily.proofs.block.Tie as tie
 
 slice-aggregate-block-in : tie.Need-slice-aggregate-block-in
 slice-aggregate-block-in c = long 131072

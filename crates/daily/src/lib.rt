@@ -1,4 +1,5 @@
-// nem day FILE K, and nem block FILE K
+// A day of a file on standard output, as a table or as its shortest block. No contract can say what is written, so these functions are proved safe, and
+// have none; what they write is put together by functions that have one.
 use format::Checked;
 use format::DayHead;
 use format::DayRead;
