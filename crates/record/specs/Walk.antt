@@ -1,16 +1,19 @@
 -- A walk over the fields of a record, for the contracts of the inner functions.
-use Prim.Native.Nat.{ℕ, _+_, _≤_, _<_}
+use Prim.Native.Nat.{ℕ, _+_, _-_, _≤_, _<_}
 use mathlib.Core.Path.{_≡_}
 use mathlib.Core.List.{List}
-use mathlib.Core.Bool.{cond}
+use mathlib.Core.Bool.{Bool, true, cond}
 use lib.ListN.{length, drop}
 use lib.Dec.{eqb}
-use Rattle.ground.specs.Lists.{part}
-use Rattle.format.specs.Cut.{fields, startOf}
-use Rattle.format.specs.Records.{kindIn, countOf}
+use Rattle.ground.specs.Lists.{spanOf, other, part}
+use Rattle.format.specs.Cut.{fields, field, startOf}
+use Rattle.format.specs.Records.{kindIn, countOf, obeys}
 use Rattle.format.specs.Faults.{faultIn}
 use Rattle.format.specs.declared.Fault.the-variants.{Fine, Stop}
+use Rattle.format.specs.declared.Rule.{Rule}
 use Rattle.record.specs.Places.{Starts}
+use Rattle.record.specs.declared.Held.{Held}
+use Rattle.record.specs.declared.Held.the-variants as held
 use Rattle.record.specs.declared.Spot.{Spot}
 use Rattle.record.specs.declared.Walked.{Walked}
 use Rattle.record.specs.declared.Walked.the-variants as walked
@@ -23,6 +26,24 @@ firstAsked k n =
 
 unfoldable pub secondAsked : ℕ → ℕ → ℕ
 secondAsked k n = cond (eqb k 400) 3 (cond (eqb k 250) 15 0)
+
+-- ---- a field held to its rule
+
+-- the field that starts at a, of which s is the rest of the record, in a record of the kind k
+unfoldable pub heldOf : ℕ → Rule → ℕ → List ℕ → Held
+heldOf k x a s = cond (obeys k x (field 0 (fields s))) (held.To (a + spanOf (other 44) s)) held.Broken
+
+-- where an end is answered, the field ends there and passes the test
+abbrev pub Ended : (List ℕ → Bool) → ℕ → List ℕ → Held → Type 0
+Ended p a s (held.To z) = (z ≡ a + spanOf (other 44) s) × (p (field 0 (fields s)) ≡ true)
+Ended p a s held.Broken = Unit {0}
+
+-- the record from a to e has m bytes, and no more of them before its first comma
+pub record Stops (file : List ℕ) (a e m : ℕ) : Type 0 where
+  pub room : m ≤ e - a
+  pub span : spanOf (other 44) (part file a e) ≤ m
+
+-- ---- a record
 
 -- a record of the kind k, with as many fields as its kind has
 pub record Typed (file : List ℕ) (at e k n : ℕ) : Type 0 where

@@ -1,4 +1,5 @@
 // The records of a file and their fields: where a record ends, and its fields from left to right, each a part of the file, held to its rule.
+pub mod tries;
 pub mod lines;
 pub mod pieces;
 pub mod rules;
@@ -10,6 +11,12 @@ pub mod walk;
 pub enum Walked {
     Sound(usize, usize),
     Broken(usize, usize),
+}
+
+// A field held to its rule: it meets it, and where it ends; or it breaks it.
+pub enum Held {
+    To(usize),
+    Broken,
 }
 
 // A loop over the fields: how many it has passed, and where the last of them ended.
