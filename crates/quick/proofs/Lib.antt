@@ -1,3 +1,2 @@
 pub mod Spans
 pub mod Shapes
-pub mod Plain

@@ -1,6 +1,4 @@
 // Fast answers to the rules that are asked most often. Each has the contract of the simple rule and needs no number, only whether there is one.
-use field::dates;
-use format::Number;
 use leaf::Class;
 use leaf::bytes::all_in;
 use leaf::bytes::is_digit;
@@ -11,7 +9,6 @@ ghost use lib.ListN.{length};
 ghost use Rattle.ground.specs.Lists.{spanOf};
 ghost use Rattle.ground.specs.Digits.{isDigit};
 ghost use Rattle.format.specs.Numbers.{isNumber, decimals, valueOf};
-ghost use Rattle.format.specs.Dates.{dateOf, timeOf};
 ghost use Rattle.quick.specs.Shapes.{isThousandths};
 
 // How many of the first bytes are digits.
@@ -82,25 +79,4 @@ pub fn thousandths(f: &[u8]) -> bool
         return false;
     }
     is_digit(f[4])
-}
-
-fn is_number(x: Number) -> bool
-    ensures { λ r. ⌜ r ≡ isNumber x ⌝ }
-{
-    match x {
-        Number::Is(_) => true,
-        Number::Bad => false,
-    }
-}
-
-pub fn is_date(f: &[u8]) -> bool
-    ensures { λ r. ⌜ r ≡ isNumber (dateOf (now (f .entry))) ⌝ }
-{
-    is_number(dates::date(f))
-}
-
-pub fn is_time(f: &[u8]) -> bool
-    ensures { λ r. ⌜ r ≡ isNumber (timeOf (now (f .entry))) ⌝ }
-{
-    is_number(dates::time(f))
 }
