@@ -50,7 +50,7 @@ point-none : isDigit 46 ≡ false
 unfolding isDigit
 point-none = refl
 
-digit-not : (x b : ℕ) → x < 48 → isDigit b ≡ true → other x b ≡ true
+pub digit-not : (x b : ℕ) → x < 48 → isDigit b ≡ true → other x b ≡ true
 unfolding isDigit
 digit-not x b l t =
     let h = leb-true 48 b (and-true (leb 48 b) (leb b 57) t .0) in
