@@ -2,7 +2,7 @@
 -- Assumes nothing.
 use Prim.Native.Nat.{ℕ, _+_, _-_, _≤_, _<_}
 use mathlib.Core.Path.{_≡_, refl, sym}
-use mathlib.Core.Bool.{Bool, true, false, _&&_}
+use mathlib.Core.Bool.{Bool, true, false}
 use mathlib.Core.List.{List}
 use native.Mathlib.Omega.{arith}
 use native.Mathlib.Numerals.{lt-of-le-of-ne}
@@ -18,7 +18,7 @@ use Rattle.ground.proofs.Spans.{span-le}
 use Rattle.ground.proofs.Prefix.{prefix-all, prefix-end, prefix-most, prefix-past, prefix-wider}
 use Rattle.format.specs.Numbers.{point, before, areDigits, isRead}
 use Rattle.format.proofs.Numbers.{read-whole, read-split, read-bad}
-use Rattle.quick.proofs.Shapes.{digit-not}
+use Rattle.quick.proofs.Bytes.{digit-not}
 
 module _ (s : List ℕ) (few : length s ≤ 15) {w : ℕ} (e : w ≡ spanOf isDigit s) where
   reach : w ≤ length s

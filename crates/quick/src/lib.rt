@@ -1,4 +1,6 @@
 // Fast answers to the rules that are asked most often. Each has the contract of the simple rule and needs no number, only whether there is one.
+pub mod dates;
+
 use leaf::Class;
 use leaf::bytes::all_in;
 use leaf::bytes::is_digit;
