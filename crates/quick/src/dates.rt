@@ -1,8 +1,8 @@
 // Dates and times. Most have a year from 2000 to 2099 and a day up to 28: such bytes are seen to be a date by the range of each, and no number is made.
 // All others go by the simple rule.
+use super::is_number;
 use field::dates::date;
 use field::dates::time;
-use format::Number;
 use leaf::bytes::is_digit;
 ghost use mathlib.Core.Path.{_≡_};
 ghost use Prim.Native.Nat.{_≤_};
@@ -134,15 +134,6 @@ fn common_time(f: &[u8]) -> bool
         return false;
     }
     ends_time(f)
-}
-
-fn is_number(x: Number) -> bool
-    ensures { λ r. ⌜ r ≡ isNumber x ⌝ }
-{
-    match x {
-        Number::Is(_) => true,
-        Number::Bad => false,
-    }
 }
 
 // A date of eight digits.

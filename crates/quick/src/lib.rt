@@ -1,6 +1,7 @@
 // Fast answers to the rules that are asked most often. Each has the contract of the simple rule and needs no number, only whether there is one.
 pub mod dates;
 
+use format::Number;
 use leaf::Class;
 use leaf::bytes::all_in;
 use leaf::bytes::is_digit;
@@ -11,6 +12,16 @@ ghost use Rattle.ground.specs.Lists.{spanOf};
 ghost use Rattle.ground.specs.Digits.{isDigit};
 ghost use Rattle.format.specs.Numbers.{isNumber, decimals, valueOf, isRead};
 ghost use Rattle.quick.specs.Shapes.{isThousandths};
+
+// There is a number.
+pub fn is_number(x: Number) -> bool
+    ensures { λ r. ⌜ r ≡ isNumber x ⌝ }
+{
+    match x {
+        Number::Is(_) => true,
+        Number::Bad => false,
+    }
+}
 
 // How many of the first bytes are digits.
 fn digit_span(f: &[u8]) -> usize

@@ -30,7 +30,8 @@ use Rattle.format.specs.declared.Number.the-variants.{Is}
 use Rattle.format.proofs.Cut.{field-here}
 use Rattle.quick.specs.Shapes.{isThousandths}
 use Rattle.quick.proofs.Shapes.{thousandths-value, thousandths-plain}
-use Rattle.quick.proofs.Plain.{holds-none, date-plain, time-plain}
+use Rattle.quick.proofs.Bytes.{holds-none}
+use Rattle.quick.proofs.CommonDates.{date-plain, time-plain}
 use Rattle.record.specs.Walk.{Stops, Ended, heldOf}
 use Rattle.record.specs.declared.Held.{Held}
 use Rattle.record.specs.declared.Held.the-variants.{To, Broken}

@@ -4,13 +4,13 @@ use field::numbers;
 use field::quality;
 use field::texts;
 use format::Graded;
-use format::Number;
 use format::Rule;
+use quick::is_number;
+use quick::is_read;
 use quick::is_value;
 ghost use mathlib.Core.Path.{_≡_};
 ghost use Prim.Native.Nat.{_≤_};
 ghost use lib.ListN.{getD};
-ghost use Rattle.format.specs.Numbers.{isNumber};
 ghost use Rattle.format.specs.Quality.{isGraded};
 ghost use Rattle.format.specs.Records.{row100, row200, row300, row400, row500, row250, row550, countOf, ruleOf, obeys};
 ghost use Rattle.format.specs.declared.Rule.the-variants.{Indicator};
@@ -169,15 +169,6 @@ pub fn count_of(kind: u64, n: usize) -> usize
     }
 }
 
-fn is_number(x: Number) -> bool
-    ensures { λ r. ⌜ r ≡ isNumber x ⌝ }
-{
-    match x {
-        Number::Is(_) => true,
-        Number::Bad => false,
-    }
-}
-
 fn is_graded(g: Graded) -> bool
     ensures { λ r. ⌜ r ≡ isGraded g ⌝ }
 {
@@ -218,6 +209,6 @@ pub fn obeys(kind: u64, rule: Rule, f: &[u8]) -> bool
         Rule::ReadTime => is_number(dates::read_time(f)),
         Rule::IndexRead => numbers::index_read(f),
         Rule::Direction => texts::direction(f),
-        Rule::RegisterRead => numbers::register_read(f),
+        Rule::RegisterRead => is_read(f),
     }
 }

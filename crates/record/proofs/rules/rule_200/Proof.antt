@@ -1,6 +1,6 @@
 use Rattle.format.specs.Records.{row200}
 use mathlib.Core.Path.{refl}
-use Rattle.record.proofs.Rows.{off-row}
+use Rattle.record.proofs.Rows.{off-row, past-arms}
 use native.Mathlib.Omega.{arith}
 use lib.ListN.{length-take}
 use borrow.Author.Needs.{needs}
@@ -47,7 +47,7 @@ returns-9 c = search needs
 
 -- src/rules.rt:30:1
 returns-10 : tie.Need-returns-10
-returns-10 c = off-row row200 (c .before .args .i) (λ h. omega arith) refl
+returns-10 c = off-row row200 (c .before .args .i) (λ h. past-arms 9 (c .before .args .i) (c .match .rest) h) refl
 
 pub rule-200-spec : {M : Type 1} → statement M
 rule-200-spec =

@@ -1,6 +1,6 @@
 use Rattle.format.specs.Records.{row250}
 use mathlib.Core.Path.{refl}
-use Rattle.record.proofs.Rows.{off-row}
+use Rattle.record.proofs.Rows.{off-row, past-arms}
 use native.Mathlib.Omega.{arith}
 use lib.ListN.{length-take}
 use borrow.Author.Needs.{needs}
@@ -99,7 +99,7 @@ returns-22 c = search needs
 
 -- src/rules.rt:96:1
 returns-23 : tie.Need-returns-23
-returns-23 c = off-row row250 (c .before .args .i) (λ h. omega arith) refl
+returns-23 c = off-row row250 (c .before .args .i) (λ h. past-arms 22 (c .before .args .i) (c .match .rest) h) refl
 
 pub rule-250-spec : {M : Type 1} → statement M
 rule-250-spec =

@@ -6,7 +6,6 @@ use Rattle.record.proofs.tries.date_to.Statement.{statement}
 use Rattle.record.proofs.tries.date_to.Tie as tie
 use Rattle.record.proofs.tries.date_to.Reads as reads
 use Rattle.record.proofs.tries.date_to.Lts as lts
-use Rattle.quick.proofs.is_date.Reads as is-date-reads
 use Rattle.record.proofs.tries.ends.Reads as ends-reads
 
 -- src/tries.rt:56:8

@@ -6,7 +6,6 @@ use Rattle.record.proofs.tries.time_to.Statement.{statement}
 use Rattle.record.proofs.tries.time_to.Tie as tie
 use Rattle.record.proofs.tries.time_to.Reads as reads
 use Rattle.record.proofs.tries.time_to.Lts as lts
-use Rattle.quick.proofs.is_time.Reads as is-time-reads
 use Rattle.record.proofs.tries.ends.Reads as ends-reads
 
 -- src/tries.rt:69:8
