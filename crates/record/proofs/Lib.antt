@@ -6,3 +6,4 @@ pub mod Fields
 pub mod Rows
 pub mod Tried
 pub mod Turns
+pub mod Ran

@@ -158,6 +158,14 @@ module _ (file : List ℕ) (at e k n i b : ℕ) (y : Typed file at e k n) (l : A
       by (yes p) = absurd (let w : ⊥ = omega (arith, l .here, fields-from i (part file at e) p .within, part-length file at e (y .within), y .order) in w)
       by (no p) = omega arith
 
+  -- a field is left, so more of the record is
+  pub left : i < length (fields (part file at e)) → b < e
+  left h = by (decLt b e)
+    where
+      by : Dec (b < e) → b < e
+      by (yes p) = p
+      by (no p) = absurd (let w : ⊥ = omega (arith, none (omega arith)) in w)
+
   -- a turn: what `held` answers of the field from `b + 1` on
   module _ (x : Rule) (r : Held) (h : b < e) (ex : x ≡ ruleOf k n i) (er : r ≡ heldOf k x (b + 1) (part file (b + 1) e)) where
     place : b + 1 ≡ at + startOf i (fields (part file at e))
@@ -268,14 +276,8 @@ along-end file at e k n i b v w p q y l h np nq ev ew =
 
 -- ---- the values of a 300
 
--- a value is left, so the record goes on
 pub value-left : (file : List ℕ) (at e n i t : ℕ) → Typed file at e 300 n → Along file at e 300 n i t → i < n + 2 → t < e
-value-left file at e n i t y l few = by (decLt t e)
-  where
-    by : Dec (t < e) → t < e
-    by (yes p) = p
-    by (no p) =
-        absurd (let w : ⊥ = omega (arith, none file at e 300 n i t y l (omega arith), y .count, count-300 300 n refl) in w)
+value-left file at e n i t y l few = left file at e 300 n i t y l (omega (arith, y .count, count-300 300 n refl))
 
 pub along-value : (file : List ℕ) (at e n i t : ℕ) {r : Held} {z : ℕ} → Typed file at e 300 n → Along file at e 300 n i t → 2 ≤ i → i < n + 2
     → r ≡ heldOf 300 Value (t + 1) (part file (t + 1) e) → r ≡ To z → Along file at e 300 n (i + 1) z

@@ -7,13 +7,19 @@ use lib.ListN.{length, drop}
 use lib.Dec.{eqb}
 use Rattle.ground.specs.Lists.{spanOf, other, part}
 use Rattle.format.specs.Cut.{fields, field, startOf}
-use Rattle.format.specs.Records.{kindIn, countOf, obeys}
+use Rattle.format.specs.Records.{kindIn, countOf, obeys, firstIn, lastIn}
+use Rattle.format.specs.Day.{rowAt, tagAt}
 use Rattle.format.specs.Faults.{faultIn}
 use Rattle.format.specs.declared.Fault.the-variants.{Fine, Stop}
 use Rattle.format.specs.declared.Rule.{Rule}
+use Rattle.format.specs.declared.Tag.{Tag}
+use Rattle.format.specs.declared.Graded.the-variants.{Of}
+use Rattle.format.specs.Quality.{qualityOf}
 use Rattle.record.specs.Places.{Starts}
 use Rattle.record.specs.declared.Held.{Held}
 use Rattle.record.specs.declared.Held.the-variants as held
+use Rattle.record.specs.declared.Run.{Run}
+use Rattle.record.specs.declared.Run.the-variants as run
 use Rattle.record.specs.declared.Spot.{Spot}
 use Rattle.record.specs.declared.Walked.{Walked}
 use Rattle.record.specs.declared.Walked.the-variants as walked
@@ -88,3 +94,26 @@ pub record Broken (file : List ℕ) (at e k n o i : ℕ) : Type 0 where
 abbrev pub Walks : List ℕ → ℕ → ℕ → ℕ → ℕ → Walked → Type 0
 Walks file at e k n (walked.Sound p q) = Sound file at e k n p q
 Walks file at e k n (walked.Broken o i) = Broken file at e k n o i
+
+-- ---- a 400
+
+-- its intervals
+pub record Spans (file : List ℕ) (at e from to : ℕ) : Type 0 where
+  pub first : from ≡ firstIn (fields (part file at e))
+  pub last : to ≡ lastIn (fields (part file at e))
+
+-- its quality, which stands at q
+pub record Grades (file : List ℕ) (at e q flag method : ℕ) : Type 0 where
+  pub place : Starts file (fields (part file at e)) at 3 q e
+  pub is : Of flag method ≡ qualityOf 400 (field 3 (fields (part file at e)))
+
+-- every field meets its rule; its intervals, where its quality stands, and its mark
+pub record Ran (file : List ℕ) (at e from to q : ℕ) (t : Tag) : Type 0 where
+  pub fault : faultIn 400 0 0 0 (fields (part file at e)) ≡ Fine
+  pub spans : Spans file at e from to
+  pub quality : Starts file (fields (part file at e)) at 3 q e
+  pub tag : t ≡ tagAt 400 (rowAt at (part file at e)) 3
+
+abbrev pub Runs : List ℕ → ℕ → ℕ → Run → Type 0
+Runs file at e (run.Of from to q t) = Ran file at e from to q t
+Runs file at e (run.Broken o i) = Broken file at e 400 0 o i

@@ -3,8 +3,11 @@ pub mod tries;
 pub mod lines;
 pub mod pieces;
 pub mod rules;
+pub mod runs;
 pub mod says;
 pub mod walk;
+
+use format::Tag;
 
 // What a walk over a record's fields found: each meets its rule, and where the two start that later rules ask for; or the leftmost that breaks its
 // rule, with its place from the record's start and its number from 1.
@@ -17,6 +20,12 @@ pub enum Walked {
 pub enum Held {
     To(usize),
     Broken,
+}
+
+// A 400: its intervals, where its quality stands, and its mark; or the leftmost field that breaks its rule, as in a walk.
+pub enum Run {
+    Of(usize, usize, usize, Tag),
+    Broken(usize, usize),
 }
 
 // A loop over the fields: how many it has passed, and where the last of them ended.

@@ -1,0 +1,92 @@
+use Rattle.record.proofs.Turns.{along-first}
+use Rattle.record.proofs.Ran.{behind, row-first, interval-on, interval-stops, first}
+use native.Mathlib.Omega.{arith}
+use lib.ListN.{length-take}
+use borrow.Author.Needs.{needs}
+use Rattle.record.proofs.runs.run_at.Statement.{statement}
+use Rattle.record.proofs.runs.run_at.Tie as tie
+use Rattle.record.proofs.runs.run_at.Reads as reads
+use Rattle.record.proofs.runs.run_at.Lts as lts
+use Rattle.field.proofs.numbers.interval.Reads as interval-reads
+use Rattle.record.proofs.pieces.field_end.Reads as field-end-reads
+use Rattle.record.proofs.runs.ended.Reads as ended-reads
+
+-- src/runs.rt:80:13
+add-a : tie.Need-add-a
+add-a c = search needs
+
+-- src/runs.rt:81:27
+sub-field-end : tie.Need-sub-field-end
+sub-field-end c = let h = behind _ _ _ (c .before .pre) 1 _ (along-first _ _ _ _ _ (c .before .pre)) (omega arith) in omega (arith, h)
+
+-- src/runs.rt:81:27
+part-field-end-start : tie.Need-part-field-end-start
+part-field-end-start c = let h = behind _ _ _ (c .before .pre) 1 _ (along-first _ _ _ _ _ (c .before .pre)) (omega arith) in search needs
+
+-- src/runs.rt:81:27
+part-field-end-end : tie.Need-part-field-end-end
+part-field-end-end c = search needs
+
+-- src/runs.rt:81:17
+field-end-requires : tie.Need-field-end-requires
+field-end-requires c κs = search needs
+
+-- src/runs.rt:81:13
+add-b : tie.Need-add-b
+add-b c = search needs
+
+-- src/runs.rt:82:31
+sub-interval : tie.Need-sub-interval
+sub-interval c = search needs
+
+-- src/runs.rt:82:31
+part-interval-start : tie.Need-part-interval-start
+part-interval-start c = search needs
+
+-- src/runs.rt:82:31
+part-interval-end : tie.Need-part-interval-end
+part-interval-end c = let h = behind _ _ _ (c .before .before .before .pre) 1 _ (along-first _ _ _ _ _ (c .before .before .before .pre)) (omega arith) in let w = (c .before .before .before .pre) .within in search needs
+
+-- src/runs.rt:82:9
+interval-requires : tie.Need-interval-requires
+interval-requires c κs = search needs
+
+-- src/runs.rt:83:20
+enum-known-x : tie.Need-enum-known-x
+enum-known-x c = search needs
+
+-- src/runs.rt:84:9
+enum-told : tie.Need-enum-told
+enum-told c = search needs
+
+-- src/runs.rt:84:9
+returns : tie.Need-returns
+returns c = interval-stops _ _ _ (c .before .before .before .before .before .before .before .pre) 1 _ (along-first _ _ _ _ _ (c .before .before .before .before .before .before .before .pre)) (omega arith) _ (c .before .before .before .before .field-end .ensures .0) row-first (c .before .before .interval .ensures) (c .enum-told .given .1)
+
+-- src/runs.rt:86:5
+ended-requires : tie.Need-ended-requires
+ended-requires c κs = ((c .before .before .before .before .before .before .before .before .pre), (interval-on _ _ _ (c .before .before .before .before .before .before .before .before .pre) 1 _ (along-first _ _ _ _ _ (c .before .before .before .before .before .before .before .before .pre)) (omega arith) _ (c .before .before .before .before .before .field-end .ensures .0) row-first (c .before .before .before .interval .ensures) (c .before .x .given .1)), first _ _ _ (c .before .before .before .before .before .before .before .before .pre) _ _ _ (along-first _ _ _ _ _ (c .before .before .before .before .before .before .before .before .pre)) (c .before .before .before .before .before .field-end .ensures .0) (c .before .before .before .interval .ensures) (c .before .x .given .1))
+
+-- src/runs.rt:76:1
+returns-2 : tie.Need-returns-2
+returns-2 c = search needs
+
+pub run-at-spec : {M : Type 1} → statement M
+run-at-spec =
+    tie.close
+    (tie.spec
+    add-a
+    sub-field-end
+    part-field-end-start
+    part-field-end-end
+    field-end-requires
+    add-b
+    sub-interval
+    part-interval-start
+    part-interval-end
+    interval-requires
+    enum-known-x
+    enum-told
+    returns
+    ended-requires
+    returns-2)
