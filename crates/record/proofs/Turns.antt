@@ -240,23 +240,20 @@ module _ (k n : ℕ) where
   abbrev fits : ℕ → Type 0
   fits x = x < countOf k n
 
-  asked-second : secondAsked k n < countOf k n
+  asked-second : secondAsked k < countOf k n
   unfolding secondAsked countOf rowOf
-  asked-second =
-      by-test fits (eqb k 400) (λ t. rw (eqb-true k 400 t) (omega arith))
-      (λ t. by-test fits (eqb k 250) (λ t. rw (eqb-true k 250 t) (omega arith)) (λ t. some-field))
+  asked-second = by-test fits (eqb k 250) (λ t. rw (eqb-true k 250 t) (omega arith)) (λ t. some-field)
 
   asked-first : firstAsked k n < countOf k n
   unfolding firstAsked countOf rowOf
   asked-first =
       by-test fits (eqb k 200) (λ t. rw (eqb-true k 200 t) (omega arith))
       (λ t. by-test fits (eqb k 300) (λ t. omega (arith, count-300 k n (eqb-true k 300 t)))
-      (λ t. by-test fits (eqb k 400) (λ t. rw (eqb-true k 400 t) (omega arith))
       (λ t. by-test fits (eqb k 500) (λ t. rw (eqb-true k 500 t) (omega arith))
-      (λ t. by-test fits (eqb k 250) (λ t. rw (eqb-true k 250 t) (omega arith)) (λ t. some-field)))))
+      (λ t. by-test fits (eqb k 250) (λ t. rw (eqb-true k 250 t) (omega arith)) (λ t. some-field))))
 
 pub along-end : (file : List ℕ) (at e k n i b v w p q : ℕ) → Typed file at e k n → Along file at e k n i b → e ≤ b
-    → Noted (fields (part file at e)) at i v p → Noted (fields (part file at e)) at i w q → v ≡ firstAsked k n → w ≡ secondAsked k n
+    → Noted (fields (part file at e)) at i v p → Noted (fields (part file at e)) at i w q → v ≡ firstAsked k n → w ≡ secondAsked k
     → Sound file at e k n p q
 along-end file at e k n i b v w p q y l h np nq ev ew =
     let z : length (fields (part file at e)) ≤ i = none file at e k n i b y l h in
@@ -308,7 +305,7 @@ module _ {file : List ℕ} {at e k n i t : ℕ} {s : Spot} (g : Goes file at e k
   pub noted-first : w ≡ firstAsked k n → Noted (fields (part file at e)) at (s .i) w r
   noted-first f = record { is = λ l. noted-on (fields (part file at e)) at i w p a r m h q .is (rw (← f) at (g .first) l) }
 
-  pub noted-second : w ≡ secondAsked k n → Noted (fields (part file at e)) at (s .i) w r
+  pub noted-second : w ≡ secondAsked k → Noted (fields (part file at e)) at (s .i) w r
   noted-second f = record { is = λ l. noted-on (fields (part file at e)) at i w p a r m h q .is (rw (← f) at (g .second) l) }
 
 -- at a 300

@@ -24,14 +24,14 @@ use Rattle.record.specs.declared.Spot.{Spot}
 use Rattle.record.specs.declared.Walked.{Walked}
 use Rattle.record.specs.declared.Walked.the-variants as walked
 
--- the fields that later rules ask for, by number from 0, where 0 is none: a 200's interval length, a 300's quality, a 400's end and quality,
--- a 500's read time, a 250's qualities
+-- the fields that later rules ask for, by number from 0, where 0 is none: a 200's interval length, a 300's quality, a 500's read time, a 250's
+-- qualities; a 400 is read by itself
 unfoldable pub firstAsked : ℕ → ℕ → ℕ
 firstAsked k n =
-    cond (eqb k 200) 8 (cond (eqb k 300) (n + 2) (cond (eqb k 400) 2 (cond (eqb k 500) 3 (cond (eqb k 250) 10 0))))
+    cond (eqb k 200) 8 (cond (eqb k 300) (n + 2) (cond (eqb k 500) 3 (cond (eqb k 250) 10 0)))
 
-unfoldable pub secondAsked : ℕ → ℕ → ℕ
-secondAsked k n = cond (eqb k 400) 3 (cond (eqb k 250) 15 0)
+unfoldable pub secondAsked : ℕ → ℕ
+secondAsked k = cond (eqb k 250) 15 0
 
 -- ---- a field held to its rule
 
@@ -78,13 +78,13 @@ pub record Goes (file : List ℕ) (at e k n i b : ℕ) (r : Spot) : Type 0 where
   pub on : b ≤ r .b
   pub more : i ≤ r .i
   pub first : firstAsked k n < r .i → firstAsked k n < i
-  pub second : secondAsked k n < r .i → secondAsked k n < i
+  pub second : secondAsked k < r .i → secondAsked k < i
 
 -- every field meets its rule, and those that are asked for start at p and q
 pub record Sound (file : List ℕ) (at e k n p q : ℕ) : Type 0 where
   pub fault : faultIn k n 0 0 (fields (part file at e)) ≡ Fine
   pub first : Starts file (fields (part file at e)) at (firstAsked k n) p e
-  pub second : Starts file (fields (part file at e)) at (secondAsked k n) q e
+  pub second : Starts file (fields (part file at e)) at (secondAsked k) q e
 
 -- the leftmost field that breaks its rule
 pub record Broken (file : List ℕ) (at e k n o i : ℕ) : Type 0 where

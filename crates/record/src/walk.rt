@@ -18,21 +18,19 @@ fn first_asked(kind: u64, n: usize) -> usize
     match kind {
         200 => 8,
         300 => n + 2,
-        400 => 2,
         500 => 3,
         250 => 10,
         _ => 0,
     }
 }
 
-fn second_asked(kind: u64, n: usize) -> usize
-    ensures { λ r. ⌜ r ≡ secondAsked kind n ⌝ }
+fn second_asked(kind: u64) -> usize
+    ensures { λ r. ⌜ r ≡ secondAsked kind ⌝ }
 {
-    match kind {
-        400 => 3,
-        250 => 15,
-        _ => 0,
+    if kind == 250 {
+        return 15;
     }
+    0
 }
 
 // Field i starts at a: that is where the field w starts, if it is this one.
@@ -87,7 +85,7 @@ pub fn check_fields(file: &[u8], at: usize, e: usize, kind: u64, n: usize) -> Wa
     ensures { λ r. ⌜ Walks (now (file .entry)) at e kind n r ⌝ }
 {
     let v = first_asked(kind, n);
-    let w = second_asked(kind, n);
+    let w = second_asked(kind);
     let mut p = at;
     let mut q = at;
     let mut b = at + 3;

@@ -19,7 +19,7 @@ use Rattle.record.proofs.walk.passed.Reads as passed-reads
 use Rattle.record.proofs.walk.second_asked.Reads as second-asked-reads
 
 abbrev Inv-loop : tie.InvT-loop
-Inv-loop file at e kind n v w p₀ q₀ b₀ i₀ p q b i = (v ≡ firstAsked kind n) × (w ≡ secondAsked kind n) × Along file at e kind n i b × Noted (fields (part file at e)) at i v p × Noted (fields (part file at e)) at i w q × (1 ≤ i)
+Inv-loop file at e kind n v w p₀ q₀ b₀ i₀ p q b i = (v ≡ firstAsked kind n) × (w ≡ secondAsked kind) × Along file at e kind n i b × Noted (fields (part file at e)) at i v p × Noted (fields (part file at e)) at i w q × (1 ≤ i)
 
 abbrev μ-loop : tie.MeasureT-loop
 μ-loop file at e kind n v w p₀ q₀ b₀ i₀ p q b i = e - b
