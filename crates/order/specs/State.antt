@@ -86,9 +86,9 @@ nextOf st r = orStop (faultOf st r) (after st r)
 unfoldable pub lateOf : Due → ℕ → List (List ℕ) → Fault
 lateOf st k fs = f7 k (size st k) fs ▹ f8 st k fs ▹ f9 st k fs ▹ f11 st k fs ▹ f12 st k fs
 
--- from 6 on
-unfoldable pub heldOf : Due → ℕ → List (List ℕ) → Next
-heldOf st k fs = orStop (faultIn k (size st k) 0 0 fs ▹ lateOf st k fs) (afterOf st k fs)
+-- from 6 on: what comes of a record whose kind may come and whose fields are as many as they have to be
+unfoldable pub furtherOf : Due → ℕ → List (List ℕ) → Next
+furtherOf st k fs = orStop (faultIn k (size st k) 0 0 fs ▹ lateOf st k fs) (afterOf st k fs)
 
 unfoldable pub lastOf : Due → ℕ → List (List ℕ) → Next
 lastOf st k fs = orStop (lateOf st k fs) (afterOf st k fs)

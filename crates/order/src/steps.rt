@@ -18,7 +18,7 @@ ghost use Rattle.ground.specs.Lists.{part};
 ghost use Rattle.format.specs.Faults.{size};
 ghost use Rattle.record.specs.Places.{Looked};
 ghost use Rattle.record.specs.Walk.{Typed};
-ghost use Rattle.order.specs.State.{seen, closed, Kept, cells, Ready, nextOf, heldOf, lastOf, stepAs, Holds};
+ghost use Rattle.order.specs.State.{seen, closed, Kept, cells, Ready, nextOf, furtherOf, lastOf, stepAs, Holds};
 
 impl State {
     // Before the first record.
@@ -41,7 +41,7 @@ impl State {
     // A 400 is read in one go, and hands its method what it says.
     fn run(self, file: &[u8], at: usize, e: usize) -> Step
         requires { ⌜ Kept (now file) at self × Typed (now file) at e 400 0 ⌝ }
-        ensures { λ r. ⌜ (stepAs (now (file .entry)) r ≡ heldOf (seen (now (file .entry)) self) 400 (cells (now (file .entry)) at e)) × Holds (now (file .entry)) at e r ⌝ }
+        ensures { λ r. ⌜ (stepAs (now (file .entry)) r ≡ furtherOf (seen (now (file .entry)) self) 400 (cells (now (file .entry)) at e)) × Holds (now (file .entry)) at e r ⌝ }
     {
         let r = run_at(file, at, e);
         match r {
@@ -67,9 +67,9 @@ impl State {
     }
 
     // From 6 on: its fields, each held to its rule, and its own method.
-    fn held(self, file: &[u8], at: usize, e: usize, kind: u64, n: usize) -> Step
+    fn further(self, file: &[u8], at: usize, e: usize, kind: u64, n: usize) -> Step
         requires { ⌜ Kept (now file) at self × Typed (now file) at e kind n × (n ≡ size (seen (now file) self) kind) ⌝ }
-        ensures { λ r. ⌜ (stepAs (now (file .entry)) r ≡ heldOf (seen (now (file .entry)) self) kind (cells (now (file .entry)) at e)) × Holds (now (file .entry)) at e r ⌝ }
+        ensures { λ r. ⌜ (stepAs (now (file .entry)) r ≡ furtherOf (seen (now (file .entry)) self) kind (cells (now (file .entry)) at e)) × Holds (now (file .entry)) at e r ⌝ }
     {
         if kind == 400 {
             return self.run(file, at, e);
@@ -101,6 +101,6 @@ impl State {
         if found.commas + 1 != count_of(kind, n) {
             return Step::Stop(5, 0, 0);
         }
-        self.held(file, at, e, kind, n)
+        self.further(file, at, e, kind, n)
     }
 }
