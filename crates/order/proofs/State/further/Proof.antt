@@ -1,44 +1,30 @@
+-- `order::State::further` meets its contract. Assumes nothing.
 use Rattle.order.proofs.Chain.{typed-400, further-400, ready, walk-stops, walk-on}
-use lib.ListN.{length-take}
-use native.Mathlib.Omega.{arith}
 use borrow.Author.Needs.{needs}
 use Rattle.order.proofs.State.further.Statement.{statement}
 use Rattle.order.proofs.State.further.Tie as tie
-use Rattle.order.proofs.State.further.Reads as reads
-use Rattle.order.proofs.State.further.Lts as lts
-use Rattle.order.proofs.State.on.Reads as on-reads
-use Rattle.order.proofs.State.run.Reads as run-reads
-use Rattle.record.proofs.walk.check_fields.Reads as check-fields-reads
 
--- src/steps.rt:75:13
 run-requires : tie.Need-run-requires
 run-requires c κs = (c .before .before .pre .0, search typed-400)
 
--- src/steps.rt:75:13
 returns : tie.Need-returns
 returns c = (search further-400, search needs)
 
--- src/steps.rt:77:13
 check-fields-requires : tie.Need-check-fields-requires
 check-fields-requires c κs = search needs
 
--- src/steps.rt:79:28
 enum-known-w : tie.Need-enum-known-w
 enum-known-w c = search needs
 
--- src/steps.rt:80:27
 enum-known-w-2 : tie.Need-enum-known-w-2
 enum-known-w-2 c = search needs
 
--- src/steps.rt:80:36
 on-requires : tie.Need-on-requires
 on-requires c κs = (search ready, c .before .before .before .before .if1 .left)
 
--- src/steps.rt:70:5
 returns-2 : tie.Need-returns-2
 returns-2 c = walk-stops _ _ _ _ _ (c .before .before .before .before .before .before .args .self) _ (c .before .before .before .before .before .before .pre .2) (c .before .before .before .check-fields .ensures) _ _ (c .before .w .given .1)
 
--- src/steps.rt:70:5
 returns-3 : tie.Need-returns-3
 returns-3 c = (search walk-on, search needs)
 

@@ -1,59 +1,41 @@
+-- `order::State::on_400` meets its contract. Assumes nothing.
 use Prim.Native.Nat.{_≤_}
 use Rattle.order.proofs.Late.{on400-7, on400-9, on400-11, on400-on, goes-small, ran-within, picked-within}
-use lib.ListN.{length-take}
-use native.Mathlib.Omega.{arith}
 use borrow.Author.Needs.{needs}
+use native.Mathlib.Omega.{arith}
 use Rattle.order.proofs.State.on_400.Statement.{statement}
 use Rattle.order.proofs.State.on_400.Tie as tie
-use Rattle.order.proofs.State.on_400.Reads as reads
-use Rattle.order.proofs.State.on_400.Lts as lts
-use Rattle.field.proofs.quality.across.Reads as across-reads
-use Rattle.order.proofs.State.alike_with.Reads as alike-with-reads
-use Rattle.order.proofs.State.first_mark.Reads as first-mark-reads
-use Rattle.order.proofs.records.whole.Reads as whole-reads
-use Rattle.order.proofs.tests.goes_on.Reads as goes-on-reads
 
--- src/records.rt:165:13
 across-requires : tie.Need-across-requires
 across-requires c κs = search needs
 
--- src/records.rt:166:34
 sub-t12 : tie.Need-sub-t12
 sub-t12 c = search needs
 
--- src/records.rt:166:13
 returns : tie.Need-returns
 returns c = (search on400-7, search needs)
 
--- src/records.rt:168:13
 goes-on-requires : tie.Need-goes-on-requires
 goes-on-requires c κs = search needs
 
--- src/records.rt:169:13
 returns-2 : tie.Need-returns-2
 returns-2 c = (search on400-9, search needs)
 
--- src/records.rt:171:13
 alike-with-requires : tie.Need-alike-with-requires
 alike-with-requires c κs = (search needs, search ran-within)
 
--- src/records.rt:172:12
 whole-requires : tie.Need-whole-requires
 whole-requires c κs = search needs
 
--- src/records.rt:173:13
 returns-3 : tie.Need-returns-3
 returns-3 c = (search on400-11, search needs)
 
--- src/records.rt:180:19
 add-t14 : tie.Need-add-t14
 add-t14 c = let k = c .before .before .before .before .before .before .before .before .pre .0 in let h : c .before .before .before .before .before .before .before .before .args .to ≤ c .before .before .before .before .before .before .before .before .args .self .n = search goes-small in omega (arith, k .small)
 
--- src/records.rt:181:19
 first-mark-requires : tie.Need-first-mark-requires
 first-mark-requires c κs = search needs
 
--- src/records.rt:152:5
 returns-4 : tie.Need-returns-4
 returns-4 c = let k = c .before .before .before .before .before .before .before .before .before .pre .0 in let h = c .before .before .before .before .before .before .before .before .before .pre .1 in (search on400-on, record { within = search (picked-within, ran-within); small = k .small; channels = omega arith; days = omega arith })
 

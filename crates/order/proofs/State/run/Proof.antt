@@ -1,35 +1,24 @@
+-- `order::State::run` meets its contract. Assumes nothing.
 use Rattle.order.proofs.Chain.{behind-400, ran, run-stops, run-on}
-use lib.ListN.{length-take}
-use native.Mathlib.Omega.{arith}
 use borrow.Author.Needs.{needs}
 use Rattle.order.proofs.State.run.Statement.{statement}
 use Rattle.order.proofs.State.run.Tie as tie
-use Rattle.order.proofs.State.run.Reads as reads
-use Rattle.order.proofs.State.run.Lts as lts
-use Rattle.order.proofs.State.on_400.Reads as on-400-reads
-use Rattle.record.proofs.runs.run_at.Reads as run-at-reads
 
--- src/steps.rt:46:13
 run-at-requires : tie.Need-run-at-requires
 run-at-requires c κs = search needs
 
--- src/steps.rt:48:25
 enum-known-r : tie.Need-enum-known-r
 enum-known-r c = search needs
 
--- src/steps.rt:49:21
 enum-known-r-2 : tie.Need-enum-known-r-2
 enum-known-r-2 c = search needs
 
--- src/steps.rt:49:40
 on-400-requires : tie.Need-on-400-requires
 on-400-requires c κs = (search needs, search behind-400, search ran)
 
--- src/steps.rt:42:5
 returns : tie.Need-returns
 returns c = run-stops _ _ _ _ (c .before .before .before .run-at .ensures) (c .before .before .before .before .before .args .self) _ _ (c .before .r .given .1)
 
--- src/steps.rt:42:5
 returns-2 : tie.Need-returns-2
 returns-2 c = (search run-on, search needs)
 

@@ -1,51 +1,38 @@
+-- `record::rules::rule_200` meets its contract. Assumes nothing.
 use Rattle.format.specs.Records.{row200}
-use mathlib.Core.Path.{refl}
 use Rattle.record.proofs.Rows.{off-row, past-arms}
-use native.Mathlib.Omega.{arith}
-use lib.ListN.{length-take}
 use borrow.Author.Needs.{needs}
+use mathlib.Core.Path.{refl}
 use Rattle.record.proofs.rules.rule_200.Statement.{statement}
 use Rattle.record.proofs.rules.rule_200.Tie as tie
-use Rattle.record.proofs.rules.rule_200.Reads as reads
-use Rattle.record.proofs.rules.rule_200.Lts as lts
 
--- src/rules.rt:30:1
 returns : tie.Need-returns
 returns c = search needs
 
--- src/rules.rt:30:1
 returns-2 : tie.Need-returns-2
 returns-2 c = search needs
 
--- src/rules.rt:30:1
 returns-3 : tie.Need-returns-3
 returns-3 c = search needs
 
--- src/rules.rt:30:1
 returns-4 : tie.Need-returns-4
 returns-4 c = search needs
 
--- src/rules.rt:30:1
 returns-5 : tie.Need-returns-5
 returns-5 c = search needs
 
--- src/rules.rt:30:1
 returns-6 : tie.Need-returns-6
 returns-6 c = search needs
 
--- src/rules.rt:30:1
 returns-7 : tie.Need-returns-7
 returns-7 c = search needs
 
--- src/rules.rt:30:1
 returns-8 : tie.Need-returns-8
 returns-8 c = search needs
 
--- src/rules.rt:30:1
 returns-9 : tie.Need-returns-9
 returns-9 c = search needs
 
--- src/rules.rt:30:1
 returns-10 : tie.Need-returns-10
 returns-10 c = off-row row200 (c .before .args .i) (λ h. past-arms 9 (c .before .args .i) (c .match .rest) h) refl
 

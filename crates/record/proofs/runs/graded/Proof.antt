@@ -1,76 +1,55 @@
+-- `record::runs::graded` meets its contract. Assumes nothing.
 use Rattle.record.proofs.Ran.{behind, row-quality, quality-on, quality-stops, grades}
-use native.Mathlib.Omega.{arith}
-use lib.ListN.{length-take}
 use borrow.Author.Needs.{needs}
+use native.Mathlib.Omega.{arith}
 use Rattle.record.proofs.runs.graded.Statement.{statement}
 use Rattle.record.proofs.runs.graded.Tie as tie
-use Rattle.record.proofs.runs.graded.Reads as reads
-use Rattle.record.proofs.runs.graded.Lts as lts
-use Rattle.field.proofs.quality.quality.Reads as quality-reads
-use Rattle.record.proofs.pieces.field_end.Reads as field-end-reads
-use Rattle.record.proofs.runs.reasoned.Reads as reasoned-reads
 
--- src/runs.rt:52:13
 add-q : tie.Need-add-q
 add-q c = search needs
 
--- src/runs.rt:53:27
 sub-field-end : tie.Need-sub-field-end
 sub-field-end c = let h = behind _ _ _ (c .before .pre .0) 3 _ (c .before .pre .1) (omega arith) in omega (arith, h)
 
--- src/runs.rt:53:27
 part-field-end-start : tie.Need-part-field-end-start
 part-field-end-start c = let h = behind _ _ _ (c .before .pre .0) 3 _ (c .before .pre .1) (omega arith) in search needs
 
--- src/runs.rt:53:27
 part-field-end-end : tie.Need-part-field-end-end
 part-field-end-end c = search needs
 
--- src/runs.rt:53:17
 field-end-requires : tie.Need-field-end-requires
 field-end-requires c κs = search needs
 
--- src/runs.rt:53:13
 add-c : tie.Need-add-c
 add-c c = search needs
 
--- src/runs.rt:54:30
 sub-quality : tie.Need-sub-quality
 sub-quality c = search needs
 
--- src/runs.rt:54:30
 part-quality-start : tie.Need-part-quality-start
 part-quality-start c = search needs
 
--- src/runs.rt:54:30
 part-quality-end : tie.Need-part-quality-end
 part-quality-end c = let h = behind _ _ _ (c .before .before .before .pre .0) 3 _ (c .before .before .before .pre .1) (omega arith) in let w = (c .before .before .before .pre .0) .within in search needs
 
--- src/runs.rt:54:9
 quality-requires : tie.Need-quality-requires
 quality-requires c κs = search needs
 
--- src/runs.rt:55:20
 enum-known-g : tie.Need-enum-known-g
 enum-known-g c = search needs
 
--- src/runs.rt:56:28
 enum-told : tie.Need-enum-told
 enum-told c = search needs
 
--- src/runs.rt:56:28
 sub-t20 : tie.Need-sub-t20
 sub-t20 c = search needs
 
--- src/runs.rt:56:9
 returns : tie.Need-returns
 returns c = quality-stops _ _ _ (c .before .before .before .before .before .before .before .pre .0) 3 _ (c .before .before .before .before .before .before .before .pre .1) (omega arith) _ (c .before .before .before .before .field-end .ensures .0) row-quality (c .before .before .quality .ensures) (c .enum-told .given .1)
 
--- src/runs.rt:58:5
 reasoned-requires : tie.Need-reasoned-requires
 reasoned-requires c κs = ((c .before .before .before .before .before .before .before .before .pre .0), (quality-on _ _ _ (c .before .before .before .before .before .before .before .before .pre .0) 3 _ (c .before .before .before .before .before .before .before .before .pre .1) (omega arith) _ (c .before .before .before .before .before .field-end .ensures .0) row-quality (c .before .before .before .quality .ensures) (c .before .g .given .1)), c .before .before .before .before .before .before .before .before .pre .2, grades _ _ _ (c .before .before .before .before .before .before .before .before .pre .0) _ _ (c .before .before .before .before .before .before .before .before .pre .1) (c .before .before .before .before .before .field-end .ensures .0) (c .before .before .before .quality .ensures) (c .before .g .given .1))
 
--- src/runs.rt:48:1
 returns-2 : tie.Need-returns-2
 returns-2 c = search needs
 

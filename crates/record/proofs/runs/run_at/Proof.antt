@@ -1,81 +1,59 @@
-use Rattle.record.proofs.Turns.{along-first}
+-- `record::runs::run_at` meets its contract. Assumes nothing.
 use Rattle.record.proofs.Ran.{behind, row-first, interval-on, interval-stops, first}
-use native.Mathlib.Omega.{arith}
-use lib.ListN.{length-take}
+use Rattle.record.proofs.Turns.{along-first}
 use borrow.Author.Needs.{needs}
+use native.Mathlib.Omega.{arith}
 use Rattle.record.proofs.runs.run_at.Statement.{statement}
 use Rattle.record.proofs.runs.run_at.Tie as tie
-use Rattle.record.proofs.runs.run_at.Reads as reads
-use Rattle.record.proofs.runs.run_at.Lts as lts
-use Rattle.field.proofs.numbers.interval.Reads as interval-reads
-use Rattle.record.proofs.pieces.field_end.Reads as field-end-reads
-use Rattle.record.proofs.runs.ended.Reads as ended-reads
 
--- src/runs.rt:80:13
 add-b : tie.Need-add-b
 add-b c = search needs
 
--- src/runs.rt:81:13
 add-a : tie.Need-add-a
 add-a c = search needs
 
--- src/runs.rt:82:27
 sub-field-end : tie.Need-sub-field-end
 sub-field-end c = let h = behind _ _ _ (c .before .pre) 1 _ (along-first _ _ _ _ _ (c .before .pre)) (omega arith) in omega (arith, h)
 
--- src/runs.rt:82:27
 part-field-end-start : tie.Need-part-field-end-start
 part-field-end-start c = let h = behind _ _ _ (c .before .pre) 1 _ (along-first _ _ _ _ _ (c .before .pre)) (omega arith) in search needs
 
--- src/runs.rt:82:27
 part-field-end-end : tie.Need-part-field-end-end
 part-field-end-end c = search needs
 
--- src/runs.rt:82:17
 field-end-requires : tie.Need-field-end-requires
 field-end-requires c κs = search needs
 
--- src/runs.rt:82:13
 add-c : tie.Need-add-c
 add-c c = search needs
 
--- src/runs.rt:83:31
 sub-interval : tie.Need-sub-interval
 sub-interval c = search needs
 
--- src/runs.rt:83:31
 part-interval-start : tie.Need-part-interval-start
 part-interval-start c = search needs
 
--- src/runs.rt:83:31
 part-interval-end : tie.Need-part-interval-end
 part-interval-end c = let h = behind _ _ _ (c .before .before .before .pre) 1 _ (along-first _ _ _ _ _ (c .before .before .before .pre)) (omega arith) in let w = (c .before .before .before .pre) .within in search needs
 
--- src/runs.rt:83:9
 interval-requires : tie.Need-interval-requires
 interval-requires c κs = search needs
 
--- src/runs.rt:84:20
 enum-known-x : tie.Need-enum-known-x
 enum-known-x c = search needs
 
--- src/runs.rt:85:28
 enum-told : tie.Need-enum-told
 enum-told c = search needs
 
--- src/runs.rt:85:28
 sub-t17 : tie.Need-sub-t17
 sub-t17 c = search needs
 
--- src/runs.rt:85:9
 returns : tie.Need-returns
 returns c = interval-stops _ _ _ (c .before .before .before .before .before .before .before .pre) 1 _ (along-first _ _ _ _ _ (c .before .before .before .before .before .before .before .pre)) (omega arith) _ (c .before .before .before .before .field-end .ensures .0) row-first (c .before .before .interval .ensures) (c .enum-told .given .1)
 
--- src/runs.rt:87:5
 ended-requires : tie.Need-ended-requires
 ended-requires c κs = ((c .before .before .before .before .before .before .before .before .pre), (interval-on _ _ _ (c .before .before .before .before .before .before .before .before .pre) 1 _ (along-first _ _ _ _ _ (c .before .before .before .before .before .before .before .before .pre)) (omega arith) _ (c .before .before .before .before .before .field-end .ensures .0) row-first (c .before .before .before .interval .ensures) (c .before .x .given .1)), first _ _ _ (c .before .before .before .before .before .before .before .before .pre) _ _ _ (along-first _ _ _ _ _ (c .before .before .before .before .before .before .before .before .pre)) (c .before .before .before .before .before .field-end .ensures .0) (c .before .before .before .interval .ensures) (c .before .x .given .1))
 
--- src/runs.rt:76:1
 returns-2 : tie.Need-returns-2
 returns-2 c = search needs
 

@@ -1,46 +1,34 @@
+-- `record::tries::date_to` meets its contract. Assumes nothing.
 use Rattle.record.proofs.Tried.{date-ended}
-use native.Mathlib.Omega.{arith}
-use lib.ListN.{length-take}
 use borrow.Author.Needs.{needs}
+use native.Mathlib.Omega.{arith}
 use Rattle.record.proofs.tries.date_to.Statement.{statement}
 use Rattle.record.proofs.tries.date_to.Tie as tie
-use Rattle.record.proofs.tries.date_to.Reads as reads
-use Rattle.record.proofs.tries.date_to.Lts as lts
-use Rattle.record.proofs.tries.ends.Reads as ends-reads
 
--- src/tries.rt:56:8
 ends-requires : tie.Need-ends-requires
 ends-requires c κs = search needs
 
--- src/tries.rt:57:17
 add-z : tie.Need-add-z
 add-z c = search needs
 
--- src/tries.rt:58:20
 sub-is-date : tie.Need-sub-is-date
 sub-is-date c = search needs
 
--- src/tries.rt:58:20
 part-is-date-start : tie.Need-part-is-date-start
 part-is-date-start c = search needs
 
--- src/tries.rt:58:20
 part-is-date-end : tie.Need-part-is-date-end
 part-is-date-end c = let s = c .before .ends .ensures (c .if1 .taken) in omega (arith, s .room)
 
--- src/tries.rt:58:12
 is-date-requires : tie.Need-is-date-requires
 is-date-requires c κs = search needs
 
--- src/tries.rt:59:13
 returns : tie.Need-returns
 returns c = let s = c .before .before .before .before .ends .ensures (c .before .before .before .if1 .taken) in search date-ended
 
--- src/tries.rt:52:1
 returns-2 : tie.Need-returns-2
 returns-2 c = search needs
 
--- src/tries.rt:52:1
 returns-3 : tie.Need-returns-3
 returns-3 c = search needs
 

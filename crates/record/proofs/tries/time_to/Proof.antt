@@ -1,46 +1,34 @@
+-- `record::tries::time_to` meets its contract. Assumes nothing.
 use Rattle.record.proofs.Tried.{time-ended}
-use native.Mathlib.Omega.{arith}
-use lib.ListN.{length-take}
 use borrow.Author.Needs.{needs}
+use native.Mathlib.Omega.{arith}
 use Rattle.record.proofs.tries.time_to.Statement.{statement}
 use Rattle.record.proofs.tries.time_to.Tie as tie
-use Rattle.record.proofs.tries.time_to.Reads as reads
-use Rattle.record.proofs.tries.time_to.Lts as lts
-use Rattle.record.proofs.tries.ends.Reads as ends-reads
 
--- src/tries.rt:69:8
 ends-requires : tie.Need-ends-requires
 ends-requires c κs = search needs
 
--- src/tries.rt:70:17
 add-z : tie.Need-add-z
 add-z c = search needs
 
--- src/tries.rt:71:20
 sub-is-time : tie.Need-sub-is-time
 sub-is-time c = search needs
 
--- src/tries.rt:71:20
 part-is-time-start : tie.Need-part-is-time-start
 part-is-time-start c = search needs
 
--- src/tries.rt:71:20
 part-is-time-end : tie.Need-part-is-time-end
 part-is-time-end c = let s = c .before .ends .ensures (c .if1 .taken) in omega (arith, s .room)
 
--- src/tries.rt:71:12
 is-time-requires : tie.Need-is-time-requires
 is-time-requires c κs = search needs
 
--- src/tries.rt:72:13
 returns : tie.Need-returns
 returns c = let s = c .before .before .before .before .ends .ensures (c .before .before .before .if1 .taken) in search time-ended
 
--- src/tries.rt:65:1
 returns-2 : tie.Need-returns-2
 returns-2 c = search needs
 
--- src/tries.rt:65:1
 returns-3 : tie.Need-returns-3
 returns-3 c = search needs
 

@@ -1,150 +1,108 @@
+-- `record::tries::tried` meets its contract. Assumes nothing.
 use Rattle.record.proofs.Tried.{ended-nmi, ended-suffix, ended-stream, ended-direction, ended-date, ended-next, ended-time, ended-load, ended-quality, ended-reason, ended-description}
-use native.Mathlib.Omega.{arith}
-use lib.ListN.{length-take}
 use borrow.Author.Needs.{needs}
 use Rattle.record.proofs.tries.tried.Statement.{statement}
 use Rattle.record.proofs.tries.tried.Tie as tie
-use Rattle.record.proofs.tries.tried.Reads as reads
-use Rattle.record.proofs.tries.tried.Lts as lts
-use Rattle.record.proofs.tries.alnum_to.Reads as alnum-to-reads
-use Rattle.record.proofs.tries.date_to.Reads as date-to-reads
-use Rattle.record.proofs.tries.none_to.Reads as none-to-reads
-use Rattle.record.proofs.tries.one_to.Reads as one-to-reads
-use Rattle.record.proofs.tries.time_to.Reads as time-to-reads
 
--- src/tries.rt:108:22
 enum-told : tie.Need-enum-told
 enum-told c = search needs
 
--- src/tries.rt:108:22
 alnum-to-requires : tie.Need-alnum-to-requires
 alnum-to-requires c κs = search needs
 
--- src/tries.rt:109:25
 enum-told-2 : tie.Need-enum-told-2
 enum-told-2 c = search needs
 
--- src/tries.rt:109:25
 alnum-to-requires-2 : tie.Need-alnum-to-requires-2
 alnum-to-requires-2 c κs = search needs
 
--- src/tries.rt:110:25
 enum-told-3 : tie.Need-enum-told-3
 enum-told-3 c = search needs
 
--- src/tries.rt:110:25
 alnum-to-requires-3 : tie.Need-alnum-to-requires-3
 alnum-to-requires-3 c κs = search needs
 
--- src/tries.rt:111:28
 enum-told-4 : tie.Need-enum-told-4
 enum-told-4 c = search needs
 
--- src/tries.rt:111:28
 one-to-requires : tie.Need-one-to-requires
 one-to-requires c κs = search needs
 
--- src/tries.rt:112:23
 enum-told-5 : tie.Need-enum-told-5
 enum-told-5 c = search needs
 
--- src/tries.rt:112:23
 date-to-requires : tie.Need-date-to-requires
 date-to-requires c κs = search needs
 
--- src/tries.rt:113:27
 enum-told-6 : tie.Need-enum-told-6
 enum-told-6 c = search needs
 
--- src/tries.rt:113:27
 date-to-requires-2 : tie.Need-date-to-requires-2
 date-to-requires-2 c κs = search needs
 
--- src/tries.rt:114:23
 enum-told-7 : tie.Need-enum-told-7
 enum-told-7 c = search needs
 
--- src/tries.rt:114:23
 time-to-requires : tie.Need-time-to-requires
 time-to-requires c κs = search needs
 
--- src/tries.rt:115:23
 enum-told-8 : tie.Need-enum-told-8
 enum-told-8 c = search needs
 
--- src/tries.rt:115:23
 time-to-requires-2 : tie.Need-time-to-requires-2
 time-to-requires-2 c κs = search needs
 
--- src/tries.rt:116:26
 enum-told-9 : tie.Need-enum-told-9
 enum-told-9 c = search needs
 
--- src/tries.rt:116:26
 one-to-requires-2 : tie.Need-one-to-requires-2
 one-to-requires-2 c κs = search needs
 
--- src/tries.rt:117:25
 enum-told-10 : tie.Need-enum-told-10
 enum-told-10 c = search needs
 
--- src/tries.rt:117:25
 none-to-requires : tie.Need-none-to-requires
 none-to-requires c κs = search needs
 
--- src/tries.rt:118:30
 enum-told-11 : tie.Need-enum-told-11
 enum-told-11 c = search needs
 
--- src/tries.rt:118:30
 none-to-requires-2 : tie.Need-none-to-requires-2
 none-to-requires-2 c κs = search needs
 
--- src/tries.rt:103:1
 returns : tie.Need-returns
 returns c = search ended-nmi
 
--- src/tries.rt:103:1
 returns-2 : tie.Need-returns-2
 returns-2 c = search ended-suffix
 
--- src/tries.rt:103:1
 returns-3 : tie.Need-returns-3
 returns-3 c = search ended-stream
 
--- src/tries.rt:103:1
 returns-4 : tie.Need-returns-4
 returns-4 c = search ended-direction
 
--- src/tries.rt:103:1
 returns-5 : tie.Need-returns-5
 returns-5 c = search ended-date
 
--- src/tries.rt:103:1
 returns-6 : tie.Need-returns-6
 returns-6 c = search ended-next
 
--- src/tries.rt:103:1
 returns-7 : tie.Need-returns-7
 returns-7 c = search ended-time
 
--- src/tries.rt:103:1
 returns-8 : tie.Need-returns-8
 returns-8 c = search ended-load
 
--- src/tries.rt:103:1
 returns-9 : tie.Need-returns-9
 returns-9 c = search ended-quality
 
--- src/tries.rt:103:1
 returns-10 : tie.Need-returns-10
 returns-10 c = search ended-reason
 
--- src/tries.rt:103:1
 returns-11 : tie.Need-returns-11
 returns-11 c = search ended-description
 
--- src/tries.rt:103:1
 returns-12 : tie.Need-returns-12
 returns-12 c = search needs
 

@@ -1,22 +1,14 @@
+-- `record::walk::check_fields` meets its contract. Assumes nothing.
 use Prim.Native.Nat.{_-_, _≤_}
 use Rattle.format.specs.Cut.{fields}
 use Rattle.ground.specs.Lists.{part}
 use Rattle.record.proofs.Turns.{Noted, held-past, along-first, along-stops, along-on, along-end, noted-none, noted-first, noted-second}
 use Rattle.record.specs.Walk.{firstAsked, secondAsked, Along}
-use mathlib.Core.Path.{_≡_}
-use lib.ListN.{length-take}
-use native.Mathlib.Omega.{arith}
 use borrow.Author.Needs.{needs}
+use mathlib.Core.Path.{_≡_}
+use native.Mathlib.Omega.{arith}
 use Rattle.record.proofs.walk.check_fields.Statement.{statement}
 use Rattle.record.proofs.walk.check_fields.Tie as tie
-use Rattle.record.proofs.walk.check_fields.Reads as reads
-use Rattle.record.proofs.walk.check_fields.Lts as lts
-use Rattle.record.proofs.rules.rule_at.Reads as rule-at-reads
-use Rattle.record.proofs.tries.held.Reads as held-reads
-use Rattle.record.proofs.walk.first_asked.Reads as first-asked-reads
-use Rattle.record.proofs.walk.noted.Reads as noted-reads
-use Rattle.record.proofs.walk.passed.Reads as passed-reads
-use Rattle.record.proofs.walk.second_asked.Reads as second-asked-reads
 
 abbrev Inv-loop : tie.InvT-loop
 Inv-loop file at e kind n v w p₀ q₀ b₀ i₀ p q b i = (v ≡ firstAsked kind n) × (w ≡ secondAsked kind) × Along file at e kind n i b × Noted (fields (part file at e)) at i v p × Noted (fields (part file at e)) at i w q × (1 ≤ i)
@@ -24,79 +16,60 @@ Inv-loop file at e kind n v w p₀ q₀ b₀ i₀ p q b i = (v ≡ firstAsked ki
 abbrev μ-loop : tie.MeasureT-loop
 μ-loop file at e kind n v w p₀ q₀ b₀ i₀ p q b i = e - b
 
--- src/walk.rt:89:9
 first-asked-requires : tie.Need-first-asked-requires Inv-loop μ-loop
 first-asked-requires c κs = search needs
 
--- src/walk.rt:90:9
 second-asked-requires : tie.Need-second-asked-requires Inv-loop μ-loop
 second-asked-requires c κs = search needs
 
--- src/walk.rt:93:17
 add-b : tie.Need-add-b Inv-loop μ-loop
 add-b c = search needs
 
--- src/walk.rt:95:5
 loop-holds : tie.Need-loop-holds Inv-loop μ-loop
 loop-holds c = (search needs, search needs, search along-first, search noted-none, search noted-none, omega arith)
 
--- src/walk.rt:96:17
 add-a : tie.Need-add-a Inv-loop μ-loop
 add-a c = search needs
 
--- src/walk.rt:97:40
 rule-at-requires : tie.Need-rule-at-requires Inv-loop μ-loop
 rule-at-requires c κs = search needs
 
--- src/walk.rt:97:13
 held-requires : tie.Need-held-requires Inv-loop μ-loop
 held-requires c κs = search needs
 
--- src/walk.rt:98:22
 enum-known-h : tie.Need-enum-known-h Inv-loop μ-loop
 enum-known-h c = search needs
 
--- src/walk.rt:99:35
 enum-told : tie.Need-enum-told Inv-loop μ-loop
 enum-told c = search needs
 
--- src/walk.rt:99:35
 sub-t18 : tie.Need-sub-t18 Inv-loop μ-loop
 sub-t18 c = search needs
 
--- src/walk.rt:99:43
 add-t19 : tie.Need-add-t19 Inv-loop μ-loop
 add-t19 c = search needs
 
--- src/walk.rt:99:13
 returns : tie.Need-returns Inv-loop μ-loop
 returns c = search along-stops
 
--- src/walk.rt:101:9
 noted-requires : tie.Need-noted-requires Inv-loop μ-loop
 noted-requires c κs = search needs
 
--- src/walk.rt:102:9
 noted-requires-2 : tie.Need-noted-requires-2 Inv-loop μ-loop
 noted-requires-2 c κs = search needs
 
--- src/walk.rt:103:46
 add-passed : tie.Need-add-passed Inv-loop μ-loop
 add-passed c = search needs
 
--- src/walk.rt:103:13
 passed-requires : tie.Need-passed-requires Inv-loop μ-loop
 passed-requires c κs = (c .before .before .before .before .before .before .before .before .before .before .before .before .pre, along-on _ _ _ _ _ _ _ (c .before .before .before .before .before .before .before .before .before .before .before .before .pre) (c .before .before .before .before .before .before .before .before .loop .inv .2) _ _ (c .before .before .before .before .before .before .before .loop-test .taken) (c .before .before .before .before .before .before .rule-at .ensures) (c .before .before .before .before .before .held .ensures) (c .before .before .before .h .given .1), omega arith)
 
--- src/walk.rt:95:5
 loop-less : tie.Need-loop-less Inv-loop μ-loop
 loop-less c = let p = held-past _ _ _ _ (c .before .before .before .before .before .before .held .ensures) (c .before .before .before .before .h .given .1) in omega (arith, p, c .passed .ensures .on)
 
--- src/walk.rt:95:5
 loop-again : tie.Need-loop-again Inv-loop μ-loop
 loop-again c = (search needs, search needs, c .passed .ensures .along, search noted-first, search noted-second, omega (arith, c .passed .ensures .more))
 
--- src/walk.rt:85:1
 returns-2 : tie.Need-returns-2 Inv-loop μ-loop
 returns-2 c = search along-end
 
