@@ -1,4 +1,5 @@
 // Reads the day of a number into six lent lists, where the file was accepted.
+use day::DayStart;
 use day::Place;
 use day::cover::put_marks;
 use day::head::fill_top;
@@ -13,7 +14,7 @@ ghost use Rattle.ground.specs.Lists.{all};
 ghost use Rattle.format.specs.Answers.{refusal, dayReadAs};
 ghost use Rattle.format.specs.Day.{daysOf, five, outcome, enoughFor, readInto, readFirst};
 ghost use Rattle.bridge.specs.Sound.{isSound};
-ghost use Rattle.day.specs.Places.{dayAt};
+ghost use Rattle.day.specs.Places.{DayAhead, dayAt};
 ghost use Rattle.filling.specs.Ready.{Here, Ready, dayInto};
 
 // A refusal without a place of its own.
@@ -123,6 +124,7 @@ fn read_at(
 pub fn read_checked(
     file: &[u8],
     day: usize,
+    from: DayStart,
     values: &mut [u64],
     flags: &mut [u8],
     methods: &mut [u8],
@@ -130,10 +132,10 @@ pub fn read_checked(
     starts: &mut [usize],
     lengths: &mut [usize],
 ) -> DayRead
-    requires { ⌜ all isSound (daysOf (now file)) ≡ true ⌝ }
+    requires { ⌜ (all isSound (daysOf (now file)) ≡ true) × DayAhead (now file) day from ⌝ }
     ensures { λ r. ⌜ outcome (dayReadAs r) (now (values .exit)) (five (now (flags .exit)) (now (methods .exit)) (now (reasons .exit)) (now (starts .exit)) (now (lengths .exit))) ≡ readFirst (drop day (daysOf (now (file .entry)))) (now (values .entry)) (five (now (flags .entry)) (now (methods .entry)) (now (reasons .entry)) (now (starts .entry)) (now (lengths .entry))) ⌝ }
 {
-    let p = find_day(file, day);
+    let p = find_day(file, day, from);
     match p {
         Place::Missing => no_day(14),
         Place::At(a, e, n) => read_at(
