@@ -48,7 +48,7 @@ loop-again c =
       refl,
       omega arith,
       line-on (q .before .args .s .now) (q .loop .i) (omega arith)
-      (⊎-elim (λ w. rw (ne-eqb _ _ (w .2 .left), and-false)) (λ w. rw (ne-eqb _ _ (w .left))) (c .if1 .came)) (q .loop .inv .2),
+          (⊎-elim (λ w. rw (ne-eqb _ _ (w .2 .left), and-false)) (λ w. rw (ne-eqb _ _ (w .left))) (c .if1 .came)) (q .loop .inv .2),
     )
 
 returns-2 : tie.Need-returns-2 Inv-loop μ-loop
