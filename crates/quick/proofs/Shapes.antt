@@ -1,24 +1,20 @@
--- A digit, a point and three digits are a value, and hold no comma. Assumes nothing.
-use Prim.Native.Nat.{ℕ}
-use mathlib.Core.Path.{_≡_, refl, sym}
-use mathlib.Core.Bool.{true, false}
-use mathlib.Core.List.{List, _∷_}
+-- A digit, a point and three digits: they are a value, its number, and they hold no comma. Assumes nothing.
+use Prim.Native.Nat.{ℕ, _+_, _-_, _*_, _≤_}
+use mathlib.Core.Path.{_≡_, ap}
+use mathlib.Core.Bool.{true}
+use mathlib.Core.List.{List, [], _∷_}
 use native.Mathlib.Omega.{arith}
-use lib.ListN.{length, getD, drop}
+use lib.ListN.{length, getD}
 use lib.Dec.{eqb}
 use borrow.Author.Tests.{ne-eqb, eqb-true}
 use Rattle.ground.specs.Lists.{all, spanOf, other, from}
 use Rattle.ground.specs.Digits.{isDigit}
 use Rattle.ground.proofs.Tests.{and-true}
-use Rattle.format.specs.Numbers.{isNumber, decimals, valueOf}
-use Rattle.format.proofs.Shapes.{value-fraction}
+use Rattle.format.specs.Bytes.{areAll}
+use Rattle.format.specs.Numbers.{isNumber, decimals, numberOf, fractionOf, valueOf}
+use Rattle.format.specs.declared.Number.the-variants.{Is}
 use Rattle.quick.specs.Shapes.{isThousandths}
-use Rattle.quick.proofs.Bytes.{digit-not, spelled}
-
--- a point is no digit
-point-none : isDigit 46 ≡ false
-unfolding isDigit
-point-none = refl
+use Rattle.quick.proofs.Bytes.{digit-range, digit-not, spelled}
 
 -- the four digits and the point
 record Five (s : List ℕ) : Type 0 where
@@ -46,18 +42,31 @@ five-is s t =
       fourth = t5 .1;
     }
 
--- one digit stands before the point
-digit-point : (a b : ℕ) (s : List ℕ) → isDigit a ≡ true → b ≡ 46 → 1 ≡ spanOf isDigit (a ∷ b ∷ s)
-unfolding spanOf
-digit-point a b s f e = rw (f, e, point-none)
+-- their length, and the ranges of the digits
+pub thousandths-bytes : (s : List ℕ) → isThousandths s ≡ true
+    → (length s ≡ 5) × (48 ≤ getD s 0 0) × (getD s 0 0 ≤ 57) × (48 ≤ getD s 2 0) × (getD s 2 0 ≤ 57) × (48 ≤ getD s 3 0) × (getD s 3 0 ≤ 57) × (48 ≤ getD s 4 0)
+    × (getD s 4 0 ≤ 57)
+thousandths-bytes s t =
+    let f = five-is s t in
+    omega (arith, f .size, digit-range _ (f .first), digit-range _ (f .second), digit-range _ (f .third), digit-range _ (f .fourth))
+
+-- the number of such a value: 53328 is that of four zeros, each a 48
+five-number : (a b c d : ℕ) → isDigit a ≡ true → isDigit b ≡ true → isDigit c ≡ true → isDigit d ≡ true
+    → valueOf decimals (a ∷ 46 ∷ b ∷ c ∷ d ∷ []) ≡ Is ((a * 1000 + b * 100 + c * 10 + d - 53328) * 1000)
+unfolding valueOf numberOf fractionOf areAll spanOf
+five-number a b c d ha hb hc hd =
+    rw (digit-not 46 a (omega arith) ha, ha, hb, hc, hd) (ap Is (omega (arith, digit-range a ha, digit-range b hb, digit-range c hc, digit-range d hd)))
+
+pub thousandths-number : (s : List ℕ) → isThousandths s ≡ true
+    → valueOf decimals s ≡ Is ((getD s 0 0 * 1000 + getD s 2 0 * 100 + getD s 3 0 * 10 + getD s 4 0 - 53328) * 1000)
+unfolding from
+thousandths-number s t =
+    let f = five-is s t in
+    spelled (λ l. valueOf decimals l ≡ Is ((getD s 0 0 * 1000 + getD s 2 0 * 100 + getD s 3 0 * 10 + getD s 4 0 - 53328) * 1000)) 5 s (f .size)
+    (rw (f .dot) (five-number _ _ _ _ (f .first) (f .second) (f .third) (f .fourth)))
 
 pub thousandths-value : (s : List ℕ) → isThousandths s ≡ true → isNumber (valueOf decimals s) ≡ true
-unfolding from
-thousandths-value s t =
-    let f = five-is s t in
-    let l = from (λ i. getD s i 0) 0 5 in
-    spelled (λ l. isNumber (valueOf decimals l) ≡ true) 5 s (f .size)
-    (sym (value-fraction l {w = 1} (digit-point (getD s 0 0) (getD s 1 0) (drop 2 l) (f .first) (f .dot)) (omega arith) (omega arith) (λ h. let z : ⊥ = omega arith in z) (f .dot) (λ h. let z : ⊥ = omega arith in z) (omega arith) (rw (f .second, f .third, f .fourth))))
+thousandths-value s t = rw (thousandths-number s t)
 
 pub thousandths-plain : (s : List ℕ) → isThousandths s ≡ true → all (other 44) s ≡ true
 unfolding from

@@ -60,7 +60,7 @@ module _ (file : List ℕ) (a e m : ℕ) (within : e ≤ length file) where
     long = omega (arith, part-length file a (a + m) (omega (arith, s .room)), s .room)
 
     module _ (plain : all (other 44) (part file a (a + m)) ≡ true) where
-      span-is : spanOf (other 44) (part file a e) ≡ m
+      pub span-is : spanOf (other 44) (part file a e) ≡ m
       span-is =
           let w : length (part file a e) ≡ e - a = part-length file a e within in
           let t : take m (part file a e) ≡ part file a (a + m) = part-take file a e m (s .room) in

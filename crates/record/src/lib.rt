@@ -5,6 +5,7 @@ pub mod pieces;
 pub mod rules;
 pub mod runs;
 pub mod says;
+pub mod values;
 pub mod walk;
 
 use format::Tag;
