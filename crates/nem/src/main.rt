@@ -1,21 +1,18 @@
 // The tool for people. Words: check FILE, day FILE K, totals FILE, block FILE K, help.
-mod lines;
-mod records;
-mod names;
-mod refusals;
-mod checks;
 mod days;
-mod totals;
 
 use days::Wanted;
 use disk::Loaded;
 use format::Number;
 use leaf::bytes::same_bytes;
 use leaf::digits::digits;
-use lines::complain;
-use lines::quoted;
 use page::texts::part;
 use page::texts::put;
+use phrase::counts::quoted;
+use report::checks;
+use report::lines::complain;
+use report::totals;
+use words::lists::text_at;
 
 // What the first word asks for.
 enum Task {
@@ -59,44 +56,59 @@ fn words(task: Task) -> usize {
 }
 
 fn help() {
-    io::write_all(libc::STDOUT_FILENO, b"nem reads NEM12 and NEM13 metering files\n\n");
-    io::write_all(libc::STDOUT_FILENO, b"  nem check FILE     whether the file is accepted, or its first fault and where it stands\n");
-    io::write_all(libc::STDOUT_FILENO, b"  nem day FILE K     day K as a table, a line for each interval; days are numbered from 0\n");
-    io::write_all(libc::STDOUT_FILENO, b"  nem totals FILE    what each channel adds up to\n");
-    io::write_all(libc::STDOUT_FILENO, b"  nem block FILE K   day K as its shortest block of records\n");
-    io::write_all(libc::STDOUT_FILENO, b"  nem help           this text\n");
+    io::write_all(
+        libc::STDOUT_FILENO,
+        b"nem reads NEM12 and NEM13 metering files\n\n  \
+        nem check FILE     whether the file is accepted, or its first fault and where it stands\n  \
+        nem day FILE K     day K as a table, a line for each interval; days are numbered from 0\n  \
+        nem totals FILE    what each channel adds up to\n  \
+        nem block FILE K   day K as its shortest block of records\n  \
+        nem help           this text\n\n\
+        Bytes, records and channels are counted from 0, fields and intervals from 1.\n",
+    );
 }
 
 // ---- what is wrong with the words
 
-fn form(page: &mut [u8], at: usize, task: Task) -> usize {
+// The number of the task's form among the forms.
+fn form(task: Task) -> usize {
     match task {
-        Task::Check => put(page, at, b"check FILE"),
-        Task::Day => put(page, at, b"day FILE K"),
-        Task::Totals => put(page, at, b"totals FILE"),
-        Task::Block => put(page, at, b"block FILE K"),
-        Task::Help => put(page, at, b"help"),
-        Task::Unknown => put(page, at, b"help"),
+        Task::Check => 1,
+        Task::Day => 2,
+        Task::Totals => 3,
+        Task::Block => 4,
+        Task::Help => 5,
+        Task::Unknown => 5,
     }
 }
 
 fn usage(page: &mut [u8], task: Task) {
-    let p = put(page, 0, b"nem: the words are nem ");
-    let q = form(page, p, task);
+    let forms = b"check FILE;day FILE K;totals FILE;block FILE K;help";
+    let p = put(page, 0, b"nem: usage: nem ");
+    let q = put(page, p, text_at(forms, form(task)));
     complain(page, q);
+}
+
+// The first word, which names no task.
+fn unknown(page: &mut [u8], word: &[u8]) -> usize {
+    if word.len() == 0 {
+        return put(page, 0, b"nem: no word was given");
+    }
+    let p = put(page, 0, b"nem: no such word: ");
+    quoted(page, p, word)
 }
 
 fn no_task(page: &mut [u8], word: &[u8]) {
-    let p = put(page, 0, b"nem: no such word: ");
-    let q = quoted(page, p, word);
-    let r = put(page, q, b"; nem help says which there are");
-    complain(page, r);
+    let p = unknown(page, word);
+    let q = put(page, p, b"; nem help says which there are");
+    complain(page, q);
 }
 
 fn no_number(page: &mut [u8], word: &[u8]) {
-    let p = put(page, 0, b"nem: no number of a day: ");
+    let p = put(page, 0, b"nem: ");
     let q = quoted(page, p, word);
-    complain(page, q);
+    let r = put(page, q, b" is no day number; days are numbered from 0");
+    complain(page, r);
 }
 
 // errno's words of the file.

@@ -1,15 +1,12 @@
 // Answers the cases on standard input, one after the other, so that each public entry can be driven with any bytes.
-mod input;
-mod numbers;
-mod out;
-mod kept;
 mod files;
-mod days;
+mod out;
 
-use input::next;
-use input::Cursor;
 use input::Going;
-use input::Taken;
+use input::bytes::Cursor;
+use input::bytes::Taken;
+use input::bytes::next;
+use sheet::write_case;
 
 // Nothing says that the input ends, so the loop over its cases has a count that falls.
 const TURNS: u64 = 18446744073709551615;
@@ -23,7 +20,7 @@ fn case(buf: &mut [u8], c: Cursor, file: &mut [u8], page: &mut [u8], at: usize) 
         b'c' => files::check_case(buf, after, file, page, at),
         b'd' => files::day_case(buf, after, file, page, at),
         b't' => files::total_case(buf, after, file, page, at),
-        b'w' => days::write_case(buf, after, page, at),
+        b'w' => write_case(buf, after, page, at),
         _ => Going::Bad,
     }
 }

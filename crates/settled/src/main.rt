@@ -7,7 +7,6 @@ use page::texts::put;
 use reading::check::check;
 use reading::total::total;
 use writing::write_day;
-
 ghost use mathlib.Core.Path.{_≡_};
 ghost use lib.ListN.{length};
 
@@ -29,14 +28,22 @@ fn checked(page: &mut [u8], name: &[u8], file: &[u8]) {
 // ---- files with one half-hour channel
 
 fn channel(file: &mut [u8]) -> usize {
-    put(file, 0, b"100,NEM12,200401011200,MDP1,RETAILER\r\n200,NEM1234567,E1,1,E1,N1,METER1,kWh,30,\r\n")
+    put(
+        file,
+        0,
+        b"100,NEM12,200401011200,MDP1,RETAILER\r\n200,NEM1234567,E1,1,E1,N1,METER1,kWh,30,\r\n",
+    )
 }
 
 // A day of a date and a quality, each of whose 48 values is 1.
 fn day(file: &mut [u8], at: usize, date: &[u8], quality: &[u8]) -> usize {
     let p = put(file, at, b"300,");
     let q = put(file, p, date);
-    let r = put(file, q, b",1,1,1,1,1,1,1,1,1,1,1,1,1,1,1,1,1,1,1,1,1,1,1,1,1,1,1,1,1,1,1,1,1,1,1,1,1,1,1,1,1,1,1,1,1,1,1,1,");
+    let r = put(
+        file,
+        q,
+        b",1,1,1,1,1,1,1,1,1,1,1,1,1,1,1,1,1,1,1,1,1,1,1,1,1,1,1,1,1,1,1,1,1,1,1,1,1,1,1,1,1,1,1,1,1,1,1,1,",
+    );
     let s = put(file, r, quality);
     put(file, s, b",,,20040102010203,\r\n")
 }
@@ -112,7 +119,17 @@ fn written_in(page: &mut [u8], values: &[u64], flags: &[u8], methods: &[u8], roo
     };
     let reasons = [65535u16; 48];
     let none = [0usize; 48];
-    let x = write_day(day, values, flags, methods, &reasons, &none, &none, b"", room);
+    let x = write_day(
+        day,
+        values,
+        flags,
+        methods,
+        &reasons,
+        &none,
+        &none,
+        b"",
+        room,
+    );
     block(page, x, room);
 }
 
@@ -130,8 +147,20 @@ fn dates(page: &mut [u8]) {
 }
 
 fn covers(page: &mut [u8]) {
-    day_case(page, b"1 to 31 and then a 500", b"20040101", b"V", b"400,1,31,A,,\r\n500,O,,,\r\n900\r\n");
-    day_case(page, b"400,1,48,A,,", b"20040101", b"V", b"400,1,48,A,,\r\n900\r\n");
+    day_case(
+        page,
+        b"1 to 31 and then a 500",
+        b"20040101",
+        b"V",
+        b"400,1,31,A,,\r\n500,O,,,\r\n900\r\n",
+    );
+    day_case(
+        page,
+        b"400,1,48,A,,",
+        b"20040101",
+        b"V",
+        b"400,1,48,A,,\r\n900\r\n",
+    );
 }
 
 fn ends(page: &mut [u8]) {

@@ -1,0 +1,44 @@
+-- `refusals::headline` meets its contract. Assumes nothing.
+use Rattle.refusals.specs.Places.{headline}
+use Rattle.phrase.proofs.Chained.{filled-four}
+use borrow.Author.Needs.{needs}
+use Rattle.refusals.proofs.headline.Statement.{statement}
+use Rattle.refusals.proofs.headline.Tie as tie
+
+slice-aggregate-put : tie.Need-slice-aggregate-put
+slice-aggregate-put c = search needs
+
+put-requires : tie.Need-put-requires
+put-requires c κs = search needs
+
+number-requires : tie.Need-number-requires
+number-requires c κs = search needs
+
+slice-aggregate-put-2 : tie.Need-slice-aggregate-put-2
+slice-aggregate-put-2 c = search needs
+
+put-requires-2 : tie.Need-put-requires-2
+put-requires-2 c κs = search needs
+
+meaning-requires : tie.Need-meaning-requires
+meaning-requires c κs = search needs
+
+same-length : tie.Need-same-length
+same-length c = search needs
+
+returns : tie.Need-returns
+unfolding headline
+returns c = search filled-four
+
+pub headline-spec : {M : Type 1} → statement M
+headline-spec =
+    tie.close
+    (tie.spec
+    slice-aggregate-put
+    put-requires
+    number-requires
+    slice-aggregate-put-2
+    put-requires-2
+    meaning-requires
+    same-length
+    returns)

@@ -1,0 +1,69 @@
+-- `report::totals::days_from` meets its contract. Assumes nothing.
+use Prim.Native.Nat.{_-_, _≤_}
+use borrow.Author.Needs.{needs}
+use lib.ListN.{length}
+use Rattle.record.proofs.Ends.{line-room}
+use Rattle.day.proofs.Find.{line-less}
+use Rattle.report.proofs.totals.days_from.Statement.{statement}
+use Rattle.report.proofs.totals.days_from.Tie as tie
+
+abbrev Inv-loop : tie.InvT-loop
+Inv-loop file start at₀ days₀ at days = at ≤ length file
+
+abbrev μ-loop : tie.MeasureT-loop
+μ-loop file start at₀ days₀ at days = length file - at
+
+loop-holds : tie.Need-loop-holds Inv-loop μ-loop
+loop-holds c = search needs
+
+scan-requires : tie.Need-scan-requires Inv-loop μ-loop
+scan-requires c κs = search needs
+
+returns : tie.Need-returns Inv-loop μ-loop
+returns c = search needs
+
+kind-at-requires : tie.Need-kind-at-requires Inv-loop μ-loop
+kind-at-requires c κs = search needs
+
+is-channel-requires : tie.Need-is-channel-requires Inv-loop μ-loop
+is-channel-requires c κs = search needs
+
+returns-2 : tie.Need-returns-2 Inv-loop μ-loop
+returns-2 c = search needs
+
+add-at : tie.Need-add-at Inv-loop μ-loop
+add-at c = search needs
+
+wrapping-add-usize-requires : tie.Need-wrapping-add-usize-requires Inv-loop μ-loop
+wrapping-add-usize-requires c κs = search needs
+
+loop-less : tie.Need-loop-less Inv-loop μ-loop
+loop-less c = search line-less
+
+loop-again : tie.Need-loop-again Inv-loop μ-loop
+loop-again c = search line-room
+
+loop-less-2 : tie.Need-loop-less-2 Inv-loop μ-loop
+loop-less-2 c = search line-less
+
+loop-again-2 : tie.Need-loop-again-2 Inv-loop μ-loop
+loop-again-2 c = search line-room
+
+pub days-from-spec : {M : Type 1} → statement M
+days-from-spec =
+    tie.close
+    (tie.spec
+    Inv-loop
+    μ-loop
+    loop-holds
+    scan-requires
+    returns
+    kind-at-requires
+    is-channel-requires
+    returns-2
+    add-at
+    wrapping-add-usize-requires
+    loop-less
+    loop-again
+    loop-less-2
+    loop-again-2)

@@ -1,0 +1,52 @@
+use mathlib.Core.Path.{_≡_}
+use Prim.Native.Nat.{_-_}
+use lib.ListN.{length, length-take, length-set}
+use native.Mathlib.Omega.{arith}
+use borrow.Author.Needs.{needs}
+use Rattle.sheet.proofs.lists.sizes_of.Statement.{statement}
+use Rattle.sheet.proofs.lists.sizes_of.Tie as tie
+
+abbrev Inv-loop : tie.InvT-loop
+Inv-loop list to₀ i₀ to i = 300 ≡ length to
+
+abbrev μ-loop : tie.MeasureT-loop
+μ-loop list to₀ i₀ to i = 300 - i
+
+loop-holds : tie.Need-loop-holds Inv-loop μ-loop
+loop-holds c = search needs
+
+u64-at-requires : tie.Need-u64-at-requires Inv-loop μ-loop
+u64-at-requires c κs = search needs
+
+mul-to : tie.Need-mul-to Inv-loop μ-loop
+mul-to c = search needs
+
+array-write-to : tie.Need-array-write-to Inv-loop μ-loop
+array-write-to c = search needs
+
+add-i : tie.Need-add-i Inv-loop μ-loop
+add-i c = search needs
+
+loop-less : tie.Need-loop-less Inv-loop μ-loop
+loop-less c = search needs
+
+loop-again : tie.Need-loop-again Inv-loop μ-loop
+loop-again c = search needs
+
+returns : tie.Need-returns Inv-loop μ-loop
+returns c = search needs
+
+pub sizes-of-spec : {M : Type 1} → statement M
+sizes-of-spec =
+    tie.close
+    (tie.spec
+    Inv-loop
+    μ-loop
+    loop-holds
+    u64-at-requires
+    mul-to
+    array-write-to
+    add-i
+    loop-less
+    loop-again
+    returns)

@@ -1,0 +1,29 @@
+-- What a refusal's number means: 01, Refusal numbers, in words for a person.
+use Prim.Native.Nat.{ℕ}
+use mathlib.Core.List.{List, _++_}
+use Rattle.ground.specs.Text.{bytes}
+use Rattle.words.specs.Lists.{numbered}
+
+-- from 1 on
+abbrev pub meanings : List ℕ
+meanings =
+    bytes "the file is longer than 1,048,576 bytes;"
+    ++ bytes "no CR LF ends this record, and no 900 came before it;"
+    ++ bytes "a byte outside 0x20 to 0x7E, or a CR or LF that stands alone;"
+    ++ bytes "the first field is no indicator, or this record may not come here;"
+    ++ bytes "the wrong number of fields;"
+    ++ bytes "the field breaks its rule, or begins or ends with a space;"
+    ++ bytes "quality, reason and description do not go together;"
+    ++ bytes "the date is not later than that of the day before;"
+    ++ bytes "the 400 does not go on where the last one ended, or ends too early or too late;"
+    ++ bytes "the 400s of a V day end before its last interval;"
+    ++ bytes "all intervals of the V day are alike, so it should not be V;"
+    ++ bytes "the read time has another date than its 300;"
+    ++ bytes "bytes behind the 900 record;"
+    ++ bytes "no such day or channel;"
+    ++ bytes "a lent list or the room is too short;"
+    ++ bytes "the day is not fit to be written;"
+    ++ bytes "the channel's total is 2^64 or more"
+
+unfoldable pub meaningOf : ℕ → List ℕ
+meaningOf x = numbered x meanings

@@ -1,0 +1,4 @@
+// What things of the format are called in words: the fields of each kind of record, and what a refusal's number means.
+pub mod fields;
+pub mod lists;
+pub mod refusals;

@@ -1,0 +1,28 @@
+// What the number of a refusal means.
+use super::lists::text_at;
+use page::texts::put;
+ghost use Rattle.page.specs.Filled.{Filled};
+ghost use Rattle.words.specs.Meanings.{meaningOf};
+
+pub fn meaning(page: &mut [u8], at: usize, number: u64) -> usize
+    ensures { λ r. ⌜ Filled (now (page .entry)) at (meaningOf number) r (now (page .exit)) ⌝ }
+{
+    let meanings = b"the file is longer than 1,048,576 bytes;\
+        no CR LF ends this record, and no 900 came before it;\
+        a byte outside 0x20 to 0x7E, or a CR or LF that stands alone;\
+        the first field is no indicator, or this record may not come here;\
+        the wrong number of fields;\
+        the field breaks its rule, or begins or ends with a space;\
+        quality, reason and description do not go together;\
+        the date is not later than that of the day before;\
+        the 400 does not go on where the last one ended, or ends too early or too late;\
+        the 400s of a V day end before its last interval;\
+        all intervals of the V day are alike, so it should not be V;\
+        the read time has another date than its 300;\
+        bytes behind the 900 record;\
+        no such day or channel;\
+        a lent list or the room is too short;\
+        the day is not fit to be written;\
+        the channel's total is 2^64 or more";
+    put(page, at, text_at(meanings, number as usize))
+}
