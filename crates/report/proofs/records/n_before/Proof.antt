@@ -1,11 +1,11 @@
--- `report::records::record_of` meets its contract. Assumes nothing.
+-- `report::records::n_before` meets its contract. Assumes nothing.
 use Prim.Native.Nat.{_-_, _≤_}
+use Rattle.day.proofs.Find.{line-less}
+use Rattle.record.proofs.Ends.{line-room}
 use borrow.Author.Needs.{needs}
 use lib.ListN.{length}
-use Rattle.record.proofs.Ends.{line-room}
-use Rattle.day.proofs.Find.{line-less}
-use Rattle.report.proofs.records.record_of.Statement.{statement}
-use Rattle.report.proofs.records.record_of.Tie as tie
+use Rattle.report.proofs.records.n_before.Statement.{statement}
+use Rattle.report.proofs.records.n_before.Tie as tie
 
 abbrev Inv-loop : tie.InvT-loop
 Inv-loop file place at₀ n₀ at n = at ≤ length file
@@ -19,17 +19,8 @@ loop-holds c = search needs
 scan-requires : tie.Need-scan-requires Inv-loop μ-loop
 scan-requires c κs = search needs
 
-record-at-requires : tie.Need-record-at-requires Inv-loop μ-loop
-record-at-requires c κs = search needs
-
 returns : tie.Need-returns Inv-loop μ-loop
 returns c = search needs
-
-record-at-requires-2 : tie.Need-record-at-requires-2 Inv-loop μ-loop
-record-at-requires-2 c κs = search needs
-
-returns-2 : tie.Need-returns-2 Inv-loop μ-loop
-returns-2 c = search needs
 
 n-behind-requires : tie.Need-n-behind-requires Inv-loop μ-loop
 n-behind-requires c κs = search needs
@@ -43,19 +34,20 @@ loop-less c = search line-less
 loop-again : tie.Need-loop-again Inv-loop μ-loop
 loop-again c = search line-room
 
-pub record-of-spec : {M : Type 1} → statement M
-record-of-spec =
+returns-2 : tie.Need-returns-2 Inv-loop μ-loop
+returns-2 c = search needs
+
+pub n-before-spec : {M : Type 1} → statement M
+n-before-spec =
     tie.close
     (tie.spec
     Inv-loop
     μ-loop
     loop-holds
     scan-requires
-    record-at-requires
     returns
-    record-at-requires-2
-    returns-2
     n-behind-requires
     add-at
     loop-less
-    loop-again)
+    loop-again
+    returns-2)
