@@ -30,6 +30,16 @@ pub fn read_day(
             version: _,
             channels: _,
             days: _,
-        } => read_checked(file, day, t.day, values, flags, methods, reasons, starts, lengths),
+        } => read_checked(
+            file,
+            day,
+            t.day,
+            values,
+            flags,
+            methods,
+            reasons,
+            starts,
+            lengths,
+        ),
     }
 }

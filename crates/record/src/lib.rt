@@ -1,10 +1,10 @@
 // The records of a file and their fields: where a record ends, and its fields from left to right, each a part of the file, held to its rule.
-pub mod tries;
 pub mod lines;
 pub mod pieces;
 pub mod rules;
 pub mod runs;
 pub mod says;
+pub mod tries;
 pub mod values;
 pub mod walk;
 

@@ -15,7 +15,17 @@ ghost use Rattle.format.specs.Records.{firstIn};
 ghost use Rattle.record.specs.Walk.{Typed, Along, Spans, Grades, Runs};
 
 // From its reason on, behind b. Its commas are counted, so its last field ends where it does.
-fn reasoned(file: &[u8], at: usize, e: usize, b: usize, from: usize, to: usize, q: usize, flag: u8, method: u8) -> Run
+fn reasoned(
+    file: &[u8],
+    at: usize,
+    e: usize,
+    b: usize,
+    from: usize,
+    to: usize,
+    q: usize,
+    flag: u8,
+    method: u8,
+) -> Run
     requires { ⌜ Typed (now file) at e 400 0 × Along (now file) at e 400 0 4 b × Spans (now file) at e from to × Grades (now file) at e q flag method ⌝ }
     ensures { λ r. ⌜ Runs (now (file .entry)) at e r ⌝ }
 {
