@@ -6,13 +6,14 @@ use day::head::fill_top;
 use day::walk::find_day;
 use format::DayRead;
 use format::Refusal;
+use lists::enough;
 ghost use mathlib.Core.Path.{_≡_};
 ghost use mathlib.Core.Bool.{true};
 ghost use Prim.Native.Nat.{_+_};
 ghost use lib.ListN.{drop};
 ghost use Rattle.ground.specs.Lists.{all};
 ghost use Rattle.format.specs.Answers.{refusal, dayReadAs};
-ghost use Rattle.format.specs.Day.{daysOf, five, outcome, enoughFor, readInto, readFirst};
+ghost use Rattle.format.specs.Day.{daysOf, five, outcome, readInto, readFirst};
 ghost use Rattle.bridge.specs.Sound.{isSound};
 ghost use Rattle.day.specs.Places.{DayAhead, dayAt};
 ghost use Rattle.filling.specs.Ready.{Here, Ready, dayInto};
@@ -27,28 +28,6 @@ fn no_day(number: u64) -> DayRead
         record: 0,
         field: 0,
     })
-}
-
-// None of six lists of these lengths is shorter than n. It takes the lengths and not the lists, so that no list is lent before all are known to be long enough.
-fn enough(n: usize, v: usize, f: usize, m: usize, r: usize, s: usize, l: usize) -> bool
-    ensures { λ x. ⌜ x ≡ enoughFor n v f m r s l ⌝ }
-{
-    if v < n {
-        return false;
-    }
-    if f < n {
-        return false;
-    }
-    if m < n {
-        return false;
-    }
-    if r < n {
-        return false;
-    }
-    if s < n {
-        return false;
-    }
-    n <= l
 }
 
 // Fills the lists with the day of n intervals whose 300 stands at a..e: nothing is left here that could fail.

@@ -1,8 +1,8 @@
--- `filling::enough` meets its contract. Assumes nothing.
+-- `lists::enough` meets its contract. Assumes nothing.
 use Rattle.format.specs.Day.{enoughFor}
 use Rattle.ground.proofs.Tests.{tests}
-use Rattle.filling.proofs.enough.Statement.{statement}
-use Rattle.filling.proofs.enough.Tie as tie
+use Rattle.lists.proofs.enough.Statement.{statement}
+use Rattle.lists.proofs.enough.Tie as tie
 
 returns : tie.Need-returns
 unfolding enoughFor
