@@ -229,3 +229,8 @@ sound-days st p k q n (line r ls) xs h a =
 pub checked-days : (file xs : List ℕ) → checkOf file ≡ accepted xs → all isSound (daysOf file) ≡ true
 unfolding checkOf daysOf
 checked-days file xs e = sound-days begun 0 0 0 0 (lines file) xs (λ b. nowhere b) (goes-on (ltb most (length file)) 1 0 0 _ xs e)
+
+-- a record that has no fault may come
+pub fine-may : (st : Due) (r : List ℕ) → faultOf st r ≡ Fine → mayCome (st .expect) (kindIn (fields r)) ≡ true
+unfolding faultOf
+fine-may st r e = step st (kindIn (fields r)) (fields r) (both-fine (f3 r) _ e .1) .may

@@ -19,9 +19,9 @@ use Rattle.format.specs.Answers.{Answer, accepted, refusal}
 use Rattle.format.specs.Total.{sumFrom, totalFirst}
 use Rattle.format.specs.declared.Number.{Number}
 use Rattle.format.specs.declared.Number.the-variants.{Is, Bad}
-use Rattle.record.specs.Places.{LineEnd, Cut, Rest}
+use Rattle.record.specs.Places.{LineEnd, Rest}
 use Rattle.record.proofs.Ends.{line-none, line-more}
-use Rattle.record.proofs.Cuts.{rest-here}
+use Rattle.record.proofs.Cuts.{rest-first}
 use Rattle.day.specs.Places.{valuesFrom}
 use Rattle.day.proofs.Values.{values-move}
 use Rattle.channel.specs.declared.Channel.{Channel}
@@ -63,13 +63,13 @@ got-bad v e = by (ltb v (2 ^ 64)) refl e
 -- ---- the values of one 300
 
 -- a turn, at field i: v is its value, and `whole` the sum to come to
-module _ (file : List ℕ) (fs : List (List ℕ)) (p n i a e b x v acc whole : ℕ) (h : i < n) (s : Rest file fs p i a e) (k : Cut file a e b x)
-    (ev : v ≡ millionths (part file a b)) (inv : acc + sum (valuesFrom (n - i) i fs) ≡ whole) where
+module _ (file : List ℕ) (fs : List (List ℕ)) (p n i a e v acc whole : ℕ) (h : i < n) (s : Rest file fs p i a e)
+    (ev : v ≡ millionths (field 0 (fields (part file a e)))) (inv : acc + sum (valuesFrom (n - i) i fs) ≡ whole) where
   pub sum-on : acc + v + sum (valuesFrom (n - (i + 1)) (i + 1) fs) ≡ whole
   unfolding valuesFrom
   sum-on =
       let m : n - i ≡ suc (n - (i + 1)) = omega arith in
-      let w : millionths (field i fs) ≡ v = sym (ev ∙ ap millionths (rest-here s k)) in
+      let w : millionths (field i fs) ≡ v = sym (ev ∙ ap millionths (rest-first s)) in
       let t : sum (valuesFrom (n - i) i fs) ≡ v + sum (valuesFrom (n - (i + 1)) (i + 1) fs) = rw (m, w, add-one) in
       omega arith
 

@@ -1,5 +1,6 @@
 -- A channel as places of the file, for the contracts of the inner functions.
 use Prim.Native.Nat.{ℕ, _^_, _≤_}
+use mathlib.Core.Path.{_≡_}
 use mathlib.Core.List.{List, [], _∷_}
 use mathlib.Core.Bool.{cond}
 use lib.ListN.{length, drop}
@@ -10,6 +11,7 @@ use Rattle.format.specs.Total.{sumFrom, totalsFrom, totalFirst}
 use Rattle.format.specs.declared.Number.{Number}
 use Rattle.format.specs.declared.Number.the-variants.{Is, Bad}
 use Rattle.channel.specs.declared.Channel.{Channel}
+use Rattle.channel.specs.declared.ChannelStart.{ChannelStart}
 use Rattle.channel.specs.declared.Channel.the-variants.{Days, Quantity, Missing}
 
 -- a sum, if 64 bits hold it
@@ -23,6 +25,11 @@ sumAt file p n = sumFrom n (lines (drop p file))
 -- the totals of the channels from place p on
 abbrev pub totalsAt : List ℕ → ℕ → List ℕ
 totalsAt file p = totalsFrom (lines (drop p file))
+
+-- the channel of a number is found from there
+pub record ChannelAhead (file : List ℕ) (channel : ℕ) (from : ChannelStart) : Type 0 where
+  pub within : from .at ≤ length file
+  pub is : totalFirst (drop channel (totalsFrom (lines file))) ≡ totalFirst (drop (from .left) (totalsAt file (from .at)))
 
 -- what is to be answered of a channel that was found
 abbrev pub channelAs : List ℕ → Channel → Answer

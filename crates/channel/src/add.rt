@@ -2,9 +2,8 @@
 use day::fields::skip;
 use format::Number;
 use record::lines::scan;
-use record::pieces::field_at;
 use record::says::kind_at;
-use record::says::value_of;
+use record::values::value_at;
 ghost use mathlib.Core.Path.{_≡_};
 ghost use Prim.Native.Nat.{_+_, _≤_};
 ghost use lib.ListN.{length};
@@ -22,9 +21,8 @@ fn add_values(file: &[u8], a: usize, e: usize, n: usize, before: u64) -> Number
     let mut x = a;
     let mut i: usize = 0;
     while i < n {
-        let f = field_at(file, x, e);
-        let b = f.to;
-        let v = value_of(&file[x..b]);
+        let f = value_at(file, x, e);
+        let v = f.v;
         if 18446744073709551615 - acc < v {
             return Number::Bad;
         }

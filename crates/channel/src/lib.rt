@@ -14,7 +14,13 @@ ghost use lib.ListN.{length, drop};
 ghost use Rattle.format.specs.Cut.{lines};
 ghost use Rattle.format.specs.Answers.{refusal, totalledAs};
 ghost use Rattle.format.specs.Total.{totalsFrom, totalFirst};
-ghost use Rattle.channel.specs.Places.{sumAt};
+ghost use Rattle.channel.specs.Places.{sumAt, ChannelAhead};
+
+// From where a channel is found: it stands behind `left` more channels from the record at `at` on.
+pub struct ChannelStart {
+    pub at: usize,
+    pub left: usize,
+}
 
 // A channel of a file: its days, which start at a place and have so many intervals each; or its quantity in millionths.
 pub enum Channel {
@@ -47,11 +53,12 @@ fn days_total(file: &[u8], start: usize, n: usize) -> Totalled
     }
 }
 
-// What the channel of a number from 0 adds up to.
-pub fn total_of(file: &[u8], channel: usize) -> Totalled
+// What the channel of a number from 0 adds up to. A walk that came by has noted from where it is found.
+pub fn total_of(file: &[u8], channel: usize, from: ChannelStart) -> Totalled
+    requires { ⌜ ChannelAhead (now file) channel from ⌝ }
     ensures { λ r. ⌜ totalledAs r ≡ totalFirst (drop channel (totalsFrom (lines (now (file .entry))))) ⌝ }
 {
-    let c = find_channel(file, channel);
+    let c = find_channel(file, channel, from);
     match c {
         Channel::Missing => no_total(14),
         Channel::Quantity(v) => Totalled::Total(v),

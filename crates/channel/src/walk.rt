@@ -1,5 +1,6 @@
 // The walk to a channel.
 use super::Channel;
+use super::ChannelStart;
 use day::fields::skip;
 use day::walk::intervals_of;
 use record::lines::scan;
@@ -13,7 +14,7 @@ ghost use Rattle.ground.specs.Lists.{part};
 ghost use Rattle.format.specs.Cut.{lines, fields};
 ghost use Rattle.format.specs.Records.{quantityIn};
 ghost use Rattle.format.specs.Total.{totalsFrom, totalFirst};
-ghost use Rattle.channel.specs.Places.{channelAs, within};
+ghost use Rattle.channel.specs.Places.{ChannelAhead, channelAs, within};
 
 // The quantity of a 250, as its text has it: multiplier and rollover of the two reads aren't in the file.
 fn quantity_of(file: &[u8], a: usize, e: usize) -> u64
@@ -28,12 +29,13 @@ fn quantity_of(file: &[u8], a: usize, e: usize) -> u64
 }
 
 // The channel of a number from 0.
-pub fn find_channel(file: &[u8], channel: usize) -> Channel
+pub fn find_channel(file: &[u8], channel: usize, from: ChannelStart) -> Channel
+    requires { ⌜ ChannelAhead (now file) channel from ⌝ }
     ensures is { λ r. ⌜ channelAs (now (file .entry)) r ≡ totalFirst (drop channel (totalsFrom (lines (now (file .entry))))) ⌝ }
     ensures within { λ r. ⌜ within (now (file .entry)) r ⌝ }
 {
-    let mut at: usize = 0;
-    let mut left = channel;
+    let mut at = from.at;
+    let mut left = from.left;
     loop {
         let s = scan(file, at);
         let e = s.end;

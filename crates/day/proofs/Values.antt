@@ -9,17 +9,17 @@ use lib.Seq.{sets, drop-cons}
 use Rattle.ground.specs.Lists.{part}
 use Rattle.format.specs.Cut.{fields, field}
 use Rattle.format.specs.Records.{millionths, valuesIn}
-use Rattle.record.specs.Places.{Cut, Rest}
-use Rattle.record.proofs.Cuts.{rest-here}
+use Rattle.record.specs.Places.{Rest}
+use Rattle.record.proofs.Cuts.{rest-first}
 use Rattle.day.specs.Places.{valuesFrom}
 
 -- a turn: the value of field i stored
-pub value-on : (file : List ℕ) (fs : List (List ℕ)) (l whole : List ℕ) (p n i a e b x v : ℕ) → i < n → Rest file fs p i a e → Cut file a e b x
-    → v ≡ millionths (part file a b) → sets l i (valuesFrom (n - i) i fs) ≡ whole → sets (set l i v) (i + 1) (valuesFrom (n - (i + 1)) (i + 1) fs) ≡ whole
+pub value-on : (file : List ℕ) (fs : List (List ℕ)) (l whole : List ℕ) (p n i a e v : ℕ) → i < n → Rest file fs p i a e
+    → v ≡ millionths (field 0 (fields (part file a e))) → sets l i (valuesFrom (n - i) i fs) ≡ whole → sets (set l i v) (i + 1) (valuesFrom (n - (i + 1)) (i + 1) fs) ≡ whole
 unfolding valuesFrom
-value-on file fs l whole p n i a e b x v h s k ev inv =
+value-on file fs l whole p n i a e v h s ev inv =
     let m : n - i ≡ suc (n - (i + 1)) = omega arith in
-    let w : millionths (field i fs) ≡ v = sym (ev ∙ ap millionths (rest-here s k)) in
+    let w : millionths (field i fs) ≡ v = sym (ev ∙ ap millionths (rest-first s)) in
     let t : sets l i (valuesFrom (n - i) i fs) ≡ sets (set l i v) (i + 1) (valuesFrom (n - (i + 1)) (i + 1) fs) = rw (m, w, add-one) in
     sym t ∙ inv
 

@@ -1,5 +1,6 @@
 -- A day as places of the file, for the contracts of the inner functions: its 300 stands from a to e, its values start at v, its quality at q.
 use Prim.Native.Nat.{ℕ, zero, suc, _+_, _≤_}
+use mathlib.Core.Path.{_≡_}
 use mathlib.Core.List.{List, [], _∷_}
 use mathlib.Core.Bool.{Bool, true, cond}
 use lib.ListN.{length, drop, replicate}
@@ -7,9 +8,10 @@ use lib.Dec.{eqb}
 use Rattle.ground.specs.Lists.{part}
 use Rattle.format.specs.Cut.{lines, field}
 use Rattle.format.specs.Records.{millionths}
-use Rattle.format.specs.Day.{Row, rowAt, DayRows, runsFrom, daysFrom, coverOf, tagAt}
+use Rattle.format.specs.Day.{Row, rowAt, DayRows, runsFrom, daysFrom, daysOf, coverOf, tagAt}
 use Rattle.format.specs.declared.Tag.{Tag}
 use Rattle.bridge.specs.Sound.{coversFrom}
+use Rattle.day.specs.declared.DayStart.{DayStart}
 use Rattle.day.specs.declared.Place.{Place}
 use Rattle.day.specs.declared.Place.the-variants.{At, Missing}
 
@@ -43,6 +45,11 @@ dayAt file a e n = record { n = n; top = rowAt a (part file a e); runs = runsAt 
 -- the days from place p on, where n is that of the 200 before
 abbrev pub daysAt : List ℕ → ℕ → ℕ → List DayRows
 daysAt file p n = daysFrom p n (lines (drop p file))
+
+-- the day of a number is found from there
+pub record DayAhead (file : List ℕ) (day : ℕ) (from : DayStart) : Type 0 where
+  pub within : from .at ≤ length file
+  pub is : drop day (daysOf file) ≡ drop (from .left) (daysAt file (from .at) (from .n))
 
 -- the days from the one that was found
 abbrev pub located : List ℕ → Place → List DayRows

@@ -1,6 +1,6 @@
 // The fields of a record one after the other, from a place of the file on: passed over, or stored as values.
 use record::pieces::field_at;
-use record::says::value_of;
+use record::values::value_at;
 ghost use mathlib.Core.Path.{_≡_};
 ghost use Prim.Native.Nat.{_≤_};
 ghost use lib.ListN.{length};
@@ -34,9 +34,8 @@ pub fn fill_values(file: &[u8], a: usize, e: usize, n: usize, values: &mut [u64]
     let mut x = a;
     let mut i: usize = 0;
     while i < n {
-        let f = field_at(file, x, e);
-        let b = f.to;
-        values[i] = value_of(&file[x..b]);
+        let f = value_at(file, x, e);
+        values[i] = f.v;
         x = f.next;
         i += 1;
     }

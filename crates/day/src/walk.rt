@@ -1,4 +1,5 @@
 // The walk to a day.
+use super::DayStart;
 use super::Place;
 use super::fields::skip;
 use record::lines::scan;
@@ -11,7 +12,7 @@ ghost use Rattle.ground.specs.Lists.{part};
 ghost use Rattle.format.specs.Cut.{fields};
 ghost use Rattle.format.specs.Records.{intervalsIn};
 ghost use Rattle.format.specs.Day.{daysOf};
-ghost use Rattle.day.specs.Places.{located, inside};
+ghost use Rattle.day.specs.Places.{DayAhead, located, inside};
 
 // How many intervals the days of a 200 have.
 pub fn intervals_of(file: &[u8], a: usize, e: usize) -> usize
@@ -22,14 +23,15 @@ pub fn intervals_of(file: &[u8], a: usize, e: usize) -> usize
     intervals_at(file, x, e)
 }
 
-// The day of a number from 0, with the n of the last 200 before it.
-pub fn find_day(file: &[u8], day: usize) -> Place
+// The day of a number from 0, with the n of the last 200 before it. A walk that came by has noted from where it is found.
+pub fn find_day(file: &[u8], day: usize, from: DayStart) -> Place
+    requires { ⌜ DayAhead (now file) day from ⌝ }
     ensures is { λ r. ⌜ located (now (file .entry)) r ≡ drop day (daysOf (now (file .entry))) ⌝ }
     ensures inside { λ r. ⌜ inside (now (file .entry)) r ⌝ }
 {
-    let mut at: usize = 0;
-    let mut left = day;
-    let mut n: usize = 0;
+    let mut at = from.at;
+    let mut left = from.left;
+    let mut n = from.n;
     loop {
         let s = scan(file, at);
         let e = s.end;

@@ -45,10 +45,15 @@ pub one-read : (κs : Lfts 7) (a : Dens κs read-kinds.ps) (x y : resT read-kind
     × (now (e .1 .1 .1 .1 .1 .0) ≡ now (f .1 .1 .1 .1 .1 .0)) × (now (e .1 .1 .1 .1 .1 .1 .0) ≡ now (f .1 .1 .1 .1 .1 .1 .0))
     × (now (e .1 .1 .1 .1 .1 .1 .1 .0) ≡ now (f .1 .1 .1 .1 .1 .1 .1 .0))
 one-read κs a x y e f p q =
-    let o = p ∙ sym q in
-    (day-read-one x y (ap (λ (u : Outcome). u .answer) o), ap (λ (u : Outcome). u .values) o, ap (λ (u : Outcome). u .marks .flags) o,
-    ap (λ (u : Outcome). u .marks .methods) o, ap (λ (u : Outcome). u .marks .reasons) o, ap (λ (u : Outcome). u .marks .starts) o,
-    ap (λ (u : Outcome). u .marks .lengths) o)
+    let o = p ∙ sym q in (
+      day-read-one x y (ap (λ (u : Outcome). u .answer) o),
+      ap (λ (u : Outcome). u .values) o,
+      ap (λ (u : Outcome). u .marks .flags) o,
+      ap (λ (u : Outcome). u .marks .methods) o,
+      ap (λ (u : Outcome). u .marks .reasons) o,
+      ap (λ (u : Outcome). u .marks .starts) o,
+      ap (λ (u : Outcome). u .marks .lengths) o,
+    )
 
 -- `write_day`: the answer, and every byte of the room
 pub one-write : (κs : Lfts 8) (a : Dens κs write-kinds.ps) (x y : resT write-kinds.r κs .Denot) (e f : AtExit (endedOf 8 write-kinds.ps write-kinds.r) κs)

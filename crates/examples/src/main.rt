@@ -43,7 +43,17 @@ fn day(page: &mut [u8], file: &[u8], k: usize) {
     let mut reasons = [0u16; MOST];
     let mut starts = [0usize; MOST];
     let mut lengths = [0usize; MOST];
-    day_in(page, file, k, &mut values, &mut flags, &mut methods, &mut reasons, &mut starts, &mut lengths);
+    day_in(
+        page,
+        file,
+        k,
+        &mut values,
+        &mut flags,
+        &mut methods,
+        &mut reasons,
+        &mut starts,
+        &mut lengths,
+    );
 }
 
 fn days(page: &mut [u8], file: &[u8], n: usize) {

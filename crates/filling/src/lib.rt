@@ -1,19 +1,21 @@
 // Reads the day of a number into six lent lists, where the file was accepted.
+use day::DayStart;
 use day::Place;
 use day::cover::put_marks;
 use day::head::fill_top;
 use day::walk::find_day;
 use format::DayRead;
 use format::Refusal;
+use lists::enough;
 ghost use mathlib.Core.Path.{_≡_};
 ghost use mathlib.Core.Bool.{true};
 ghost use Prim.Native.Nat.{_+_};
 ghost use lib.ListN.{drop};
 ghost use Rattle.ground.specs.Lists.{all};
 ghost use Rattle.format.specs.Answers.{refusal, dayReadAs};
-ghost use Rattle.format.specs.Day.{daysOf, five, outcome, enoughFor, readInto, readFirst};
+ghost use Rattle.format.specs.Day.{daysOf, five, outcome, readInto, readFirst};
 ghost use Rattle.bridge.specs.Sound.{isSound};
-ghost use Rattle.day.specs.Places.{dayAt};
+ghost use Rattle.day.specs.Places.{DayAhead, dayAt};
 ghost use Rattle.filling.specs.Ready.{Here, Ready, dayInto};
 
 // A refusal without a place of its own.
@@ -26,28 +28,6 @@ fn no_day(number: u64) -> DayRead
         record: 0,
         field: 0,
     })
-}
-
-// None of six lists of these lengths is shorter than n. It takes the lengths and not the lists, so that no list is lent before all are known to be long enough.
-fn enough(n: usize, v: usize, f: usize, m: usize, r: usize, s: usize, l: usize) -> bool
-    ensures { λ x. ⌜ x ≡ enoughFor n v f m r s l ⌝ }
-{
-    if v < n {
-        return false;
-    }
-    if f < n {
-        return false;
-    }
-    if m < n {
-        return false;
-    }
-    if r < n {
-        return false;
-    }
-    if s < n {
-        return false;
-    }
-    n <= l
 }
 
 // Fills the lists with the day of n intervals whose 300 stands at a..e: nothing is left here that could fail.
@@ -123,6 +103,7 @@ fn read_at(
 pub fn read_checked(
     file: &[u8],
     day: usize,
+    from: DayStart,
     values: &mut [u64],
     flags: &mut [u8],
     methods: &mut [u8],
@@ -130,10 +111,10 @@ pub fn read_checked(
     starts: &mut [usize],
     lengths: &mut [usize],
 ) -> DayRead
-    requires { ⌜ all isSound (daysOf (now file)) ≡ true ⌝ }
+    requires { ⌜ (all isSound (daysOf (now file)) ≡ true) × DayAhead (now file) day from ⌝ }
     ensures { λ r. ⌜ outcome (dayReadAs r) (now (values .exit)) (five (now (flags .exit)) (now (methods .exit)) (now (reasons .exit)) (now (starts .exit)) (now (lengths .exit))) ≡ readFirst (drop day (daysOf (now (file .entry)))) (now (values .entry)) (five (now (flags .entry)) (now (methods .entry)) (now (reasons .entry)) (now (starts .entry)) (now (lengths .entry))) ⌝ }
 {
-    let p = find_day(file, day);
+    let p = find_day(file, day, from);
     match p {
         Place::Missing => no_day(14),
         Place::At(a, e, n) => read_at(

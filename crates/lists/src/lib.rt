@@ -1,11 +1,33 @@
-// Five lent lists that together hold the marks of a day's intervals: one element of each for each interval.
+// The lists that a day is lent in: whether they are long enough, and five of them that together hold the marks of a day's intervals: one element of each for each interval.
 ghost use mathlib.Core.Path.{_≡_};
 ghost use Prim.Native.Nat.{_≤_, _-_};
 ghost use lib.ListN.{length, replicate};
 ghost use lib.Seq.{sets};
-ghost use Rattle.format.specs.Day.{five};
+ghost use Rattle.format.specs.Day.{five, enoughFor};
 ghost use Rattle.lists.specs.Lists.{stored, Roomy};
 use format::Tag;
+
+// None of six lists of these lengths is shorter than n. It takes the lengths and not the lists, so that no list is lent before all are known to be long enough.
+pub fn enough(n: usize, v: usize, f: usize, m: usize, r: usize, s: usize, l: usize) -> bool
+    ensures { λ x. ⌜ x ≡ enoughFor n v f m r s l ⌝ }
+{
+    if v < n {
+        return false;
+    }
+    if f < n {
+        return false;
+    }
+    if m < n {
+        return false;
+    }
+    if r < n {
+        return false;
+    }
+    if s < n {
+        return false;
+    }
+    n <= l
+}
 
 fn fill_u8(list: &mut [u8], from: usize, to: usize, x: u8)
     requires { ⌜ (from ≤ to) × (to ≤ length (now list)) ⌝ }

@@ -15,14 +15,17 @@ use Rattle.format.specs.Records.{kindIn, rowOf, countOf, qualitiesOf, firstBrok
 use Rattle.format.specs.Order.{Due, mayCome, on100, on200, afterOf}
 use Rattle.format.specs.Faults.{size, isOpen, brokenIn, isLate, isOff, isAlike, isElsewhere, faultIn, faultAt, faultOf}
 use Rattle.format.specs.declared.Fault.the-variants.{Fine, Stop}
+use Rattle.format.specs.declared.Tag.{Tag}
 use Rattle.record.specs.Places.{Looked}
-use Rattle.record.specs.Walk.{firstAsked, secondAsked, Typed, Sound, Broken, Walks}
+use Rattle.record.specs.Walk.{firstAsked, secondAsked, Typed, Sound, Broken, Walks, Ran, Runs}
+use Rattle.record.specs.declared.Run.{Run}
+use Rattle.record.specs.declared.Run.the-variants as run
 use Rattle.record.specs.declared.Walked.{Walked}
 use Rattle.record.specs.declared.Walked.the-variants as walked
 use Rattle.record.proofs.Turns.{second-field}
 use Rattle.record.proofs.Rows.{count-300}
 use Rattle.order.specs.declared.State.{State}
-use Rattle.order.specs.State.{seen, closed, Kept, cells, Here, After, Ready, Next, goes, stops, orStop, nextOf, lateOf, lastOf}
+use Rattle.order.specs.State.{seen, closed, Kept, cells, Here, After, Ready, Next, goes, stops, orStop, nextOf, lateOf, furtherOf, lastOf}
 use Rattle.order.proofs.Late.{late-none}
 
 -- ---- the places that a record's method asks for
@@ -35,10 +38,6 @@ module _ (file : List ℕ) (at e k p q : ℕ) (st : State) (r : Ready file at e 
   pub behind-300 : k ≡ 300 → Here file at e 1 (at + 4)
   behind-300 h = second-field file at e k _ (r .typed) (omega (arith, count-300 k (size (seen file st) k) h))
 
-  pub behind-400 : k ≡ 400 → Here file at e 1 (at + 4)
-  unfolding countOf rowOf
-  behind-400 h = second-field file at e k _ (r .typed) (rw h (omega arith))
-
   pub asked-200 : k ≡ 200 → Here file at e 8 p
   unfolding firstAsked
   asked-200 h = rw h at (r .sound .first)
@@ -46,14 +45,6 @@ module _ (file : List ℕ) (at e k p q : ℕ) (st : State) (r : Ready file at e 
   pub asked-300 : k ≡ 300 → Here file at e (st .n + 2) p
   unfolding firstAsked
   asked-300 h = rw h at (r .sound .first)
-
-  pub asked-400 : k ≡ 400 → Here file at e 2 p
-  unfolding firstAsked
-  asked-400 h = rw h at (r .sound .first)
-
-  pub asked-400-quality : k ≡ 400 → Here file at e 3 q
-  unfolding secondAsked
-  asked-400-quality h = rw h at (r .sound .second)
 
   pub asked-500 : k ≡ 500 → Here file at e 3 p
   unfolding firstAsked
@@ -67,7 +58,7 @@ module _ (file : List ℕ) (at e k p q : ℕ) (st : State) (r : Ready file at e 
   unfolding secondAsked
   asked-250-current h = rw h at (r .sound .second)
 
-pub ruleset asked = (behind-100, behind-300, behind-400, asked-200, asked-300, asked-400, asked-400-quality, asked-500, asked-250, asked-250-current)
+pub ruleset asked = (behind-100, behind-300, asked-200, asked-300, asked-500, asked-250, asked-250-current)
 
 -- ---- the record's own method
 
@@ -128,13 +119,65 @@ module _ (st : Due) (k : ℕ) (fs : List (List ℕ)) where
       chain-5 e = rw (e₁₀, e₄, ne-eqb _ _ e)
 
       module _ (e₅ : length fs ≡ countOf k (size st k)) where
-        chain-6 : (o i : ℕ) → faultIn k (size st k) 0 0 fs ≡ Stop 6 o i → stops 6 o i ≡ all
-        unfolding faultAt
-        chain-6 o i e = rw (e₁₀, e₄, eq-eqb _ _ e₅, e)
+        chain-on : furtherOf st k fs ≡ all
+        unfolding faultAt furtherOf lateOf
+        chain-on = rw (e₁₀, e₄, eq-eqb _ _ e₅)
 
-        chain-on : faultIn k (size st k) 0 0 fs ≡ Fine → lastOf st k fs ≡ all
-        unfolding faultAt lastOf lateOf
-        chain-on e = rw (e₁₀, e₄, eq-eqb _ _ e₅, e)
+-- ---- from 6 on
+
+module _ (st : Due) (k : ℕ) (fs : List (List ℕ)) where
+  further-6 : (o i : ℕ) → faultIn k (size st k) 0 0 fs ≡ Stop 6 o i → stops 6 o i ≡ furtherOf st k fs
+  unfolding furtherOf
+  further-6 o i e = rw e
+
+  further-on : {x : Next} → faultIn k (size st k) 0 0 fs ≡ Fine → x ≡ lastOf st k fs → x ≡ furtherOf st k fs
+  unfolding furtherOf lastOf
+  further-on e q = rw e q
+
+-- w is what the walk over its fields found
+module _ (file : List ℕ) (at e k n : ℕ) (st : State) (w : Walked) (en : n ≡ size (seen file st) k) (ew : Walks file at e k n w) where
+  pub walk-stops : (a i : ℕ) → w ≡ walked.Broken a i → (stops 6 a i ≡ furtherOf (seen file st) k (cells file at e)) × (at + a ≤ e)
+  walk-stops a i q =
+      let b : Broken file at e k n a i = rw q at ew in
+      (further-6 (seen file st) k (cells file at e) a i (rw (← en) (b .fault)), b .within)
+
+  module _ (p q : ℕ) (sound : w ≡ walked.Sound p q) where
+    is-sound : Sound file at e k n p q
+    is-sound = rw sound at ew
+
+    pub ready : Kept file at st → Typed file at e k n → Ready file at e k p q st
+    ready r y = record { kept = r; typed = rw en at y; sound = rw en at is-sound }
+
+    pub walk-on : {x : Next} → x ≡ lastOf (seen file st) k (cells file at e) → x ≡ furtherOf (seen file st) k (cells file at e)
+    walk-on h = further-on (seen file st) k (cells file at e) (rw (← en) (is-sound .fault)) h
+
+-- r is what the reading of a 400 found
+module _ (file : List ℕ) (at e : ℕ) (r : Run) (er : Runs file at e r) where
+  pub run-stops : (st : State) (o i : ℕ) → r ≡ run.Broken o i → (stops 6 o i ≡ furtherOf (seen file st) 400 (cells file at e)) × (at + o ≤ e)
+  run-stops st o i q =
+      let b : Broken file at e 400 0 o i = rw q at er in
+      (further-6 (seen file st) 400 (cells file at e) o i (b .fault), b .within)
+
+  module _ (from to q : ℕ) (t : Tag) (sound : r ≡ run.Of from to q t) where
+    pub ran : Ran file at e from to q t
+    ran = rw sound at er
+
+    pub run-on : (st : State) {x : Next} → x ≡ lastOf (seen file st) 400 (cells file at e) → x ≡ furtherOf (seen file st) 400 (cells file at e)
+    run-on st h = further-on (seen file st) 400 (cells file at e) (ran .fault) h
+
+-- a record that is one
+module _ (k : ℕ) (is : k ≡ 400) where
+  pub typed-400 : (file : List ℕ) (at e n : ℕ) (st : State) → n ≡ size (seen file st) k → Typed file at e k n → Typed file at e 400 0
+  typed-400 file at e n st en y =
+      let z : n ≡ 0 = rw is at en in
+      rw (is, z) at y
+
+  pub further-400 : (st : Due) (fs : List (List ℕ)) {x : Next} → x ≡ furtherOf st 400 fs → x ≡ furtherOf st k fs
+  further-400 st fs e = rw is e
+
+pub behind-400 : (file : List ℕ) (at e : ℕ) → Typed file at e 400 0 → Here file at e 1 (at + 4)
+unfolding countOf rowOf
+behind-400 file at e y = second-field file at e 400 0 y (omega arith)
 
 -- ---- the step, in the terms of its code
 
@@ -201,20 +244,6 @@ module _ (file : List ℕ) (at e bad commas : ℕ) (st : State) (l : Looked file
               count = counted ∙ t ∙ ec;
             }
 
-        module _ (w : Walked) (no-5 : commas + 1 ≡ c) (ew : Walks file at e k n w) where
-          fits : length (cells file at e) ≡ countOf k (size (seen file st) k)
-          fits = rw (← en) (counted ∙ no-5 ∙ ec)
-
-          pub step-6 : (a i : ℕ) → w ≡ walked.Broken a i → (stops 6 a i ≡ nextOf (seen file st) (part file at e)) × (at + a ≤ e)
-          step-6 a i q =
-              let b : Broken file at e k n a i = rw q at ew in
-              (rw reached (chain-6 (seen file st) k (cells file at e) (opens ∙ no-10) comes fits a i (rw (← en) (b .fault))), b .within)
-
-          module _ (p q : ℕ) (sound : w ≡ walked.Sound p q) where
-            pub ready : Kept file at st → Ready file at e k p q st
-            ready r = record { kept = r; typed = rw en at (typed r no-5); sound = rw en at (rw sound at ew) }
-
-            pub step-on : {x : Next} → x ≡ lastOf (seen file st) k (cells file at e) → x ≡ nextOf (seen file st) (part file at e)
-            step-on h =
-                let b : Sound file at e k n p q = rw sound at ew in
-                h ∙ rw reached (chain-on (seen file st) k (cells file at e) (opens ∙ no-10) comes fits (rw (← en) (b .fault)))
+        pub step-on : {x : Next} → commas + 1 ≡ c → x ≡ furtherOf (seen file st) k (cells file at e) → x ≡ nextOf (seen file st) (part file at e)
+        step-on no-5 h =
+            h ∙ rw reached (chain-on (seen file st) k (cells file at e) (opens ∙ no-10) comes (rw (← en) (counted ∙ no-5 ∙ ec)))

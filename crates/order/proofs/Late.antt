@@ -5,23 +5,25 @@ use mathlib.Core.List.{List}
 use mathlib.Core.Bool.{Bool, true, false, cond, not, _&&_, _||_}
 use native.Mathlib.Omega.{arith}
 use lib.ListN.{length}
-use lib.Dec.{eqb}
-use borrow.Author.Tests.{eqb-true, eq-eqb, ne-eqb, le-leb, lt-leb, not-true, not-false}
+use lib.Dec.{eqb, leb}
+use borrow.Author.Tests.{eqb-true, leb-true, eq-eqb, ne-eqb, le-leb, lt-leb, not-true, not-false}
 use Rattle.ground.specs.Lists.{part}
-use Rattle.format.specs.Numbers.{numberIn, intervalOf, isLength, lengthOf, intervalsOf}
+use Rattle.ground.proofs.Tests.{and-true}
+use Rattle.format.specs.Numbers.{numberIn, isLength, lengthOf, intervalsOf}
 use Rattle.format.specs.Texts.{versionOf}
 use Rattle.format.specs.Dates.{dateOf, readTimeOf}
 use Rattle.format.specs.Quality.{across}
 use Rattle.format.specs.Cut.{fields, field, startOf}
-use Rattle.format.specs.Records.{versionIn, intervalsIn, dateIn, firstIn, lastIn, readTimeIn, qualitiesOf, firstBroken}
+use Rattle.format.specs.Records.{versionIn, intervalsIn, dateIn, lastIn, readTimeIn, qualitiesOf, firstBroken}
 use Rattle.format.specs.Order.{Due, isVaried, alikeWith, on100, on200, afterOf}
 use Rattle.format.specs.Faults.{size, brokenIn, isLate, covers, isOff, isAlike, onDay, isElsewhere}
 use Rattle.format.specs.Day.{rowAt, tagAt}
 use Rattle.format.specs.declared.Tag.{Tag}
-use Rattle.record.proofs.Fields.{says-of}
+use Rattle.record.specs.Walk.{Ran}
+use Rattle.record.proofs.Fields.{says-of, tag-moves}
 use Rattle.order.specs.declared.State.{State}
 use Rattle.order.specs.State.{markOf, seen, noTag, closed, Kept, cells, Here, After, goes, stops, lateOf, lastOf, goesOn, alikeTo}
-use Rattle.order.proofs.Marks.{flag-of, mark-of, agrees-of}
+use Rattle.order.proofs.Marks.{flag-of, mark-of, agrees-of, tag-within}
 
 -- ---- the chain from 7 on
 
@@ -101,30 +103,44 @@ mark-picked : (file : List ℕ) (b : Bool) (t u : Tag) → markOf file (cond b t
 mark-picked file true t u = refl
 mark-picked file false t u = refl
 
-module _ (file : List ℕ) (at e p q : ℕ) (st : State) (t : Tag) {b : Bool} (h : Here file at e 1 (at + 4)) (g : Here file at e 2 p) (r : Here file at e 3 q)
-    (et : t ≡ tagAt 400 (rowAt q (part file q e)) 0) (eb : b ≡ across (t .flag) (t .reason) (t .length)) where
+-- its mark, by the place of its quality
+ran-tag : (file : List ℕ) (at e from to q : ℕ) (t : Tag) → Ran file at e from to q t → t ≡ tagAt 400 (rowAt q (part file q e)) 0
+ran-tag file at e from to q t r = r .tag ∙ sym (tag-moves file 400 (rowAt at (part file at e)) 3 q e (r .quality .rest))
+
+pub ran-within : (file : List ℕ) (at e from to q : ℕ) (t : Tag) → Ran file at e from to q t → t .start + t .length ≤ length file
+ran-within file at e from to q t r = tag-within file at e 400 3 q t (r .quality) (ran-tag file at e from to q t r)
+
+module _ (file : List ℕ) (at e from to q : ℕ) (st : State) (t : Tag) {b : Bool} (h : Here file at e 1 (at + 4)) (r : Ran file at e from to q t)
+    (eb : b ≡ across (t .flag) (t .reason) (t .length)) where
+  et : t ≡ tagAt 400 (rowAt q (part file q e)) 0
+  et = ran-tag file at e from to q t r
+
   broken-400 : brokenIn 400 0 (cells file at e) ≡ cond b 0 4
   unfolding brokenIn qualitiesOf firstBroken
-  broken-400 = rw (← agrees-of file at e 400 3 q t r et eb)
+  broken-400 = rw (← agrees-of file at e 400 3 q t (r .quality) et eb)
 
   pub on400-7 : not b ≡ true → stops 7 (q - at) 4 ≡ lastOf (seen file st) 400 (cells file at e)
   on400-7 n =
       let w : brokenIn 400 0 (cells file at e) ≡ 3 + 1 = rw (not-true b n) at broken-400 in
-      let z : q - at ≡ startOf 3 (cells file at e) = omega (arith, r .place) in
+      let z : q - at ≡ startOf 3 (cells file at e) = omega (arith, r .quality .place) in
       rw z (late-7 (seen file st) 400 (cells file at e) 3 w)
 
-  module _ (from to : ℕ) {o : Bool} (ok : not b ≡ false) (ef : from ≡ numberIn (intervalOf (field 0 (fields (part file (at + 4) e)))))
-      (el : to ≡ numberIn (intervalOf (field 0 (fields (part file p e))))) (eo : o ≡ goesOn (st .next) (st .n) from to) where
+  module _ {o : Bool} (ok : not b ≡ false) (eo : o ≡ goesOn (st .next) (st .n) from to) where
     fine-400 : brokenIn 400 0 (cells file at e) ≡ 0
     fine-400 = rw (not-false b ok) at broken-400
 
     last : to ≡ lastIn (cells file at e)
-    unfolding lastIn
-    last = says-of intervalOf el g
+    last = r .spans .last
 
     off : isOff (seen file st) 400 (cells file at e) ≡ not o
-    unfolding isOff covers firstIn goesOn
-    off = rw (← says-of intervalOf ef h, ← last, ← eo)
+    unfolding isOff covers goesOn
+    off = rw (← r .spans .first, ← last, ← eo)
+
+    pub goes-small : not o ≡ false → to ≤ st .n
+    unfolding goesOn
+    goes-small n =
+        let a = and-true (eqb from (st .next)) (leb from to && leb to (st .n)) (sym eo ∙ not-false o n) in
+        leb-true to (st .n) (and-true (leb from to) (leb to (st .n)) (a .1) .1)
 
     pub on400-9 : not o ≡ true → stops 9 4 2 ≡ lastOf (seen file st) 400 (cells file at e)
     unfolding isLate
@@ -135,7 +151,7 @@ module _ (file : List ℕ) (at e p q : ℕ) (st : State) (t : Tag) {b : Bool} (h
     module _ {a w : Bool} (on : not o ≡ false) (ea : a ≡ alikeTo (seen file st) (markOf file t)) (ew : w ≡ eqb to (st .n) && a) where
       alike : a ≡ alikeWith (seen file st) (cells file at e)
       unfolding alikeWith alikeTo
-      alike = rw (← mark-of file at e 400 3 q t r et) ea
+      alike = rw (← mark-of file at e 400 3 q t (r .quality) et) ea
 
       whole : w ≡ isAlike (seen file st) 400 (cells file at e)
       unfolding isAlike
@@ -150,7 +166,7 @@ module _ (file : List ℕ) (at e p q : ℕ) (st : State) (t : Tag) {b : Bool} (h
           → goes s ≡ lastOf (seen file st) 400 (cells file at e)
       unfolding isLate isElsewhere afterOf
       on400-on m s v em es =
-          rw (es, em, mark-picked file (eqb (st .next) 1) t (st .mark), mark-of file at e 400 3 q t r et, last, alike)
+          rw (es, em, mark-picked file (eqb (st .next) 1) t (st .mark), mark-of file at e 400 3 q t (r .quality) et, last, alike)
           (late-none (seen file st) 400 (cells file at e) fine-400 refl (off ∙ on) (sym whole ∙ v) refl)
 
 -- ---- a 500

@@ -11,7 +11,7 @@ use Rattle.format.specs.Numbers.{noReason}
 use Rattle.format.specs.Cut.{fields}
 use Rattle.format.specs.Order.{Due, afterOf}
 use Rattle.format.specs.File.{after}
-use Rattle.format.specs.Faults.{_▹_, size, f7, f8, f9, f11, f12, faultOf}
+use Rattle.format.specs.Faults.{_▹_, size, f7, f8, f9, f11, f12, faultIn, faultOf}
 use Rattle.format.specs.declared.Fault.{Fault}
 use Rattle.format.specs.declared.Fault.the-variants.{Fine, Stop}
 use Rattle.format.specs.declared.Tag.{Tag}
@@ -85,6 +85,10 @@ nextOf st r = orStop (faultOf st r) (after st r)
 -- the faults that are asked for once every field meets its rule
 unfoldable pub lateOf : Due → ℕ → List (List ℕ) → Fault
 lateOf st k fs = f7 k (size st k) fs ▹ f8 st k fs ▹ f9 st k fs ▹ f11 st k fs ▹ f12 st k fs
+
+-- from 6 on: what comes of a record whose kind may come and whose fields are as many as they have to be
+unfoldable pub furtherOf : Due → ℕ → List (List ℕ) → Next
+furtherOf st k fs = orStop (faultIn k (size st k) 0 0 fs ▹ lateOf st k fs) (afterOf st k fs)
 
 unfoldable pub lastOf : Due → ℕ → List (List ℕ) → Next
 lastOf st k fs = orStop (lateOf st k fs) (afterOf st k fs)

@@ -8,7 +8,6 @@ use super::tests::same_mark;
 use field::quality::across;
 use format::Tag;
 use record::says::date_at;
-use record::says::interval_at;
 use record::says::intervals_at;
 use record::says::read_time_at;
 use record::says::tag_at;
@@ -19,6 +18,7 @@ ghost use Prim.Native.Nat.{_+_, _≤_};
 ghost use lib.ListN.{length};
 ghost use lib.Dec.{eqb};
 ghost use Rattle.format.specs.Order.{on100, on200};
+ghost use Rattle.record.specs.Walk.{Ran};
 ghost use Rattle.order.specs.State.{markOf, seen, noTag, closed, Kept, cells, Here, After, lastOf, stepAs, Holds, alikeTo};
 
 fn no_tag() -> Tag
@@ -148,17 +148,23 @@ impl State {
         })
     }
 
-    // p is where its end starts, q where its quality does.
-    pub fn on_400(self, file: &[u8], at: usize, e: usize, p: usize, q: usize) -> Step
-        requires { ⌜ Kept (now file) at self × Here (now file) at e 1 (at + 4) × Here (now file) at e 2 p × Here (now file) at e 3 q ⌝ }
+    // Intervals from and to with the mark t, whose quality starts at q.
+    pub fn on_400(
+        self,
+        file: &[u8],
+        at: usize,
+        e: usize,
+        from: usize,
+        to: usize,
+        q: usize,
+        t: Tag,
+    ) -> Step
+        requires { ⌜ Kept (now file) at self × Here (now file) at e 1 (at + 4) × Ran (now file) at e from to q t ⌝ }
         ensures { λ r. ⌜ (stepAs (now (file .entry)) r ≡ lastOf (seen (now (file .entry)) self) 400 (cells (now (file .entry)) at e)) × Holds (now (file .entry)) at e r ⌝ }
     {
-        let t = tag_at(file, q, e, 400);
         if !across(t.flag, t.reason, t.length) {
             return Step::Stop(7, q - at, 4);
         }
-        let from = interval_at(file, at + 4, e);
-        let to = interval_at(file, p, e);
         if !goes_on(self.next, self.n, from, to) {
             return Step::Stop(9, 4, 2);
         }

@@ -3,9 +3,11 @@ use super::State;
 use super::Step;
 use super::tests::is_open;
 use super::tests::may_come;
+use record::Run;
 use record::Walked;
 use record::lines::Found;
 use record::rules::count_of;
+use record::runs::run_at;
 use record::says::kind_at;
 use record::walk::check_fields;
 ghost use mathlib.Core.Path.{_≡_};
@@ -13,8 +15,10 @@ ghost use mathlib.Core.Bool.{cond};
 ghost use lib.ListN.{length};
 ghost use lib.Dec.{eqb};
 ghost use Rattle.ground.specs.Lists.{part};
+ghost use Rattle.format.specs.Faults.{size};
 ghost use Rattle.record.specs.Places.{Looked};
-ghost use Rattle.order.specs.State.{seen, closed, Kept, cells, Ready, nextOf, lastOf, stepAs, Holds};
+ghost use Rattle.record.specs.Walk.{Typed};
+ghost use Rattle.order.specs.State.{seen, closed, Kept, cells, Ready, nextOf, furtherOf, lastOf, stepAs, Holds};
 
 impl State {
     // Before the first record.
@@ -34,20 +38,46 @@ impl State {
         0
     }
 
-    // The record's own method; p and q are the places that it asks for.
+    // A 400 is read in one go, and hands its method what it says.
+    fn run(self, file: &[u8], at: usize, e: usize) -> Step
+        requires { ⌜ Kept (now file) at self × Typed (now file) at e 400 0 ⌝ }
+        ensures { λ r. ⌜ (stepAs (now (file .entry)) r ≡ furtherOf (seen (now (file .entry)) self) 400 (cells (now (file .entry)) at e)) × Holds (now (file .entry)) at e r ⌝ }
+    {
+        let r = run_at(file, at, e);
+        match r {
+            Run::Broken(o, i) => Step::Stop(6, o, i),
+            Run::Of(from, to, q, t) => self.on_400(file, at, e, from, to, q, t),
+        }
+    }
+
+    // The own method of any other record; p and q are the places that it asks for.
     fn on(self, file: &[u8], at: usize, e: usize, kind: u64, p: usize, q: usize) -> Step
-        requires { ⌜ Ready (now file) at e kind p q self ⌝ }
+        requires { ⌜ Ready (now file) at e kind p q self × (kind ≡ 400 → ⊥) ⌝ }
         ensures { λ r. ⌜ (stepAs (now (file .entry)) r ≡ lastOf (seen (now (file .entry)) self) kind (cells (now (file .entry)) at e)) × Holds (now (file .entry)) at e r ⌝ }
     {
         match kind {
             100 => Step::On(self.on_100(file, at, e)),
             200 => Step::On(self.on_200(file, at, e, p)),
             300 => self.on_300(file, at, e, p),
-            400 => self.on_400(file, at, e, p, q),
             500 => self.on_500(file, at, e, p),
             250 => self.on_250(file, at, e, p, q),
             550 => Step::On(self.on_550()),
             _ => Step::On(self.on_900()),
+        }
+    }
+
+    // From 6 on: its fields, each held to its rule, and its own method.
+    fn further(self, file: &[u8], at: usize, e: usize, kind: u64, n: usize) -> Step
+        requires { ⌜ Kept (now file) at self × Typed (now file) at e kind n × (n ≡ size (seen (now file) self) kind) ⌝ }
+        ensures { λ r. ⌜ (stepAs (now (file .entry)) r ≡ furtherOf (seen (now (file .entry)) self) kind (cells (now (file .entry)) at e)) × Holds (now (file .entry)) at e r ⌝ }
+    {
+        if kind == 400 {
+            return self.run(file, at, e);
+        }
+        let w = check_fields(file, at, e, kind, n);
+        match w {
+            Walked::Broken(o, i) => Step::Stop(6, o, i),
+            Walked::Sound(p, q) => self.on(file, at, e, kind, p, q),
         }
     }
 
@@ -71,10 +101,6 @@ impl State {
         if found.commas + 1 != count_of(kind, n) {
             return Step::Stop(5, 0, 0);
         }
-        let w = check_fields(file, at, e, kind, n);
-        match w {
-            Walked::Broken(o, i) => Step::Stop(6, o, i),
-            Walked::Sound(p, q) => self.on(file, at, e, kind, p, q),
-        }
+        self.further(file, at, e, kind, n)
     }
 }

@@ -6,7 +6,6 @@ use format::DayRead;
 use format::Refusal;
 use format::Totalled;
 use format::Written;
-
 ghost use Rattle.format.specs.Answers.{accepted as Answers·accepted};
 ghost use Rattle.format.specs.Answers.{refusedAs, checkedAs, dayReadAs, totalledAs, writtenAs};
 ghost use Rattle.page.specs.Filled.{Filled};
@@ -23,7 +22,12 @@ pub fn refusal(page: &mut [u8], at: usize, x: Refusal) -> usize
     ensures { λ r. ⌜ Filled (now (page .entry)) at (lineOf (refusedAs x)) r (now (page .exit)) ⌝ }
 {
     let p = put(page, at, b"refused");
-    numbers_behind(page, p, b' ', &[x.number, x.place as u64, x.record as u64, x.field as u64])
+    numbers_behind(
+        page,
+        p,
+        b' ',
+        &[x.number, x.place as u64, x.record as u64, x.field as u64],
+    )
 }
 
 pub fn checked(page: &mut [u8], at: usize, x: Checked) -> usize

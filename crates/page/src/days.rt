@@ -3,7 +3,6 @@ use super::answers::day_read;
 use super::texts::number_behind;
 use super::texts::numbers_behind;
 use format::DayRead;
-
 ghost use mathlib.Core.Path.{_≡_};
 ghost use lib.ListN.{getD};
 ghost use Rattle.page.specs.Filled.{Filled};
@@ -67,7 +66,18 @@ fn interval(
     let start = usize_at(starts, i);
     let length = usize_at(lengths, i);
     let p = number_behind(page, at, b' ', value);
-    numbers_behind(page, p, b'/', &[flag as u64, method as u64, reason as u64, start as u64, length as u64])
+    numbers_behind(
+        page,
+        p,
+        b'/',
+        &[
+            flag as u64,
+            method as u64,
+            reason as u64,
+            start as u64,
+            length as u64,
+        ],
+    )
 }
 
 // The first n intervals.

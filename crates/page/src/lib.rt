@@ -1,4 +1,4 @@
 // What the programs write: texts put on a lent page, one behind the other, as far as there is room, and the lines in which answers are given.
-pub mod texts;
 pub mod answers;
 pub mod days;
+pub mod texts;

@@ -2,7 +2,6 @@
 use text::bytes::put_bytes;
 use text::digits::put_dec;
 use text::values::put_value;
-
 ghost use mathlib.Core.Path.{_≡_};
 ghost use mathlib.Core.List.{_∷_};
 ghost use Rattle.ground.specs.Lists.{part as Lists·part};

@@ -1,2 +1,6 @@
 pub mod Spans
+pub mod Rows
+pub mod Bytes
 pub mod Shapes
+pub mod RegisterReads
+pub mod CommonDates

@@ -1,60 +1,20 @@
--- A digit, a point and three digits: the cases as the code meets them; it is a value, and holds no comma. Assumes nothing.
-use Prim.Native.Nat.{ℕ, _≤_, _<_}
-use mathlib.Core.Path.{_≡_, refl, sym}
-use mathlib.Core.Bool.{Bool, true, false, not, _&&_}
+-- A digit, a point and three digits: they are a value, its number, and they hold no comma. Assumes nothing.
+use Prim.Native.Nat.{ℕ, _+_, _-_, _*_, _≤_}
+use mathlib.Core.Path.{_≡_, ap}
+use mathlib.Core.Bool.{true}
 use mathlib.Core.List.{List, [], _∷_}
 use native.Mathlib.Omega.{arith}
 use lib.ListN.{length, getD}
-use lib.Dec.{leb, eqb}
-use borrow.Author.Tests.{eq-eqb, ne-eqb, eqb-true, leb-true, not-true, not-false}
-use Rattle.ground.specs.Lists.{all, spanOf, other}
+use lib.Dec.{eqb}
+use borrow.Author.Tests.{ne-eqb, eqb-true}
+use Rattle.ground.specs.Lists.{all, spanOf, other, from}
 use Rattle.ground.specs.Digits.{isDigit}
-use Rattle.ground.proofs.Tests.{and-true, and-false}
-use Rattle.format.specs.Numbers.{isNumber, decimals, valueOf}
-use Rattle.format.proofs.Shapes.{value-fraction}
+use Rattle.ground.proofs.Tests.{and-true}
+use Rattle.format.specs.Bytes.{areAll}
+use Rattle.format.specs.Numbers.{isNumber, decimals, numberOf, fractionOf, valueOf}
+use Rattle.format.specs.declared.Number.the-variants.{Is}
 use Rattle.quick.specs.Shapes.{isThousandths}
-
-module _ (s : List ℕ) where
-  pub not-five : (length s ≡ 5 → ⊥) → false ≡ isThousandths s
-  unfolding isThousandths
-  not-five h = rw (ne-eqb _ _ h)
-
-  module _ (l : length s ≡ 5) where
-    pub no-point : (getD s 1 0 ≡ 46 → ⊥) → false ≡ isThousandths s
-    unfolding isThousandths
-    no-point h = rw (eq-eqb _ _ l, ne-eqb _ _ h)
-
-    module _ (p : getD s 1 0 ≡ 46) {a : Bool} (ea : a ≡ isDigit (getD s 0 0)) where
-      pub no-first : not a ≡ true → false ≡ isThousandths s
-      unfolding isThousandths
-      no-first h = rw (eq-eqb _ _ l, eq-eqb _ _ p, ← ea, not-true a h)
-
-      module _ (ha : not a ≡ false) {b : Bool} (eb : b ≡ isDigit (getD s 2 0)) where
-        pub no-second : not b ≡ true → false ≡ isThousandths s
-        unfolding isThousandths
-        no-second h = rw (eq-eqb _ _ l, eq-eqb _ _ p, ← ea, not-false a ha, ← eb, not-true b h)
-
-        module _ (hb : not b ≡ false) {c : Bool} (ec : c ≡ isDigit (getD s 3 0)) where
-          pub no-third : not c ≡ true → false ≡ isThousandths s
-          unfolding isThousandths
-          no-third h = rw (eq-eqb _ _ l, eq-eqb _ _ p, ← ea, not-false a ha, ← eb, not-false b hb, ← ec, not-true c h)
-
-          pub all-five : {d : Bool} → not c ≡ false → d ≡ isDigit (getD s 4 0) → d ≡ isThousandths s
-          unfolding isThousandths
-          all-five h e = rw (eq-eqb _ _ l, eq-eqb _ _ p, ← ea, not-false a ha, ← eb, not-false b hb, ← ec, not-false c h) e
-
--- ---- what such bytes are
-
--- a point is no digit
-point-none : isDigit 46 ≡ false
-unfolding isDigit
-point-none = refl
-
-digit-not : (x b : ℕ) → x < 48 → isDigit b ≡ true → other x b ≡ true
-unfolding isDigit
-digit-not x b l t =
-    let h = leb-true 48 b (and-true (leb 48 b) (leb b 57) t .0) in
-    rw (ne-eqb b x (λ e. let z : ⊥ = omega arith in z))
+use Rattle.quick.proofs.Bytes.{digit-range, digit-not, spelled}
 
 -- the four digits and the point
 record Five (s : List ℕ) : Type 0 where
@@ -82,29 +42,35 @@ five-is s t =
       fourth = t5 .1;
     }
 
--- a list of five elements
-spelled : (P : List ℕ → Type 0) → ((a b c d e : ℕ) → P (a ∷ b ∷ c ∷ d ∷ e ∷ [])) → (s : List ℕ) → length s ≡ 5 → P s
-spelled P f (a ∷ b ∷ c ∷ d ∷ e ∷ []) h = f a b c d e
-spelled P f [] h = absurd (let z : ⊥ = omega arith in z)
-spelled P f (a ∷ []) h = absurd (let z : ⊥ = omega arith in z)
-spelled P f (a ∷ b ∷ []) h = absurd (let z : ⊥ = omega arith in z)
-spelled P f (a ∷ b ∷ c ∷ []) h = absurd (let z : ⊥ = omega arith in z)
-spelled P f (a ∷ b ∷ c ∷ d ∷ []) h = absurd (let z : ⊥ = omega arith in z)
-spelled P f (a ∷ b ∷ c ∷ d ∷ e ∷ g ∷ s) h = absurd (let z : ⊥ = omega arith in z)
+-- their length, and the ranges of the digits
+pub thousandths-bytes : (s : List ℕ) → isThousandths s ≡ true
+    → (length s ≡ 5) × (48 ≤ getD s 0 0) × (getD s 0 0 ≤ 57) × (48 ≤ getD s 2 0) × (getD s 2 0 ≤ 57) × (48 ≤ getD s 3 0) × (getD s 3 0 ≤ 57) × (48 ≤ getD s 4 0)
+    × (getD s 4 0 ≤ 57)
+thousandths-bytes s t =
+    let f = five-is s t in
+    omega (arith, f .size, digit-range _ (f .first), digit-range _ (f .second), digit-range _ (f .third), digit-range _ (f .fourth))
 
--- one digit stands before the point
-digit-point : (a b : ℕ) (s : List ℕ) → isDigit a ≡ true → b ≡ 46 → 1 ≡ spanOf isDigit (a ∷ b ∷ s)
-unfolding spanOf
-digit-point a b s f e = rw (f, e, point-none)
+-- the number of such a value: 53328 is that of four zeros, each a 48
+five-number : (a b c d : ℕ) → isDigit a ≡ true → isDigit b ≡ true → isDigit c ≡ true → isDigit d ≡ true
+    → valueOf decimals (a ∷ 46 ∷ b ∷ c ∷ d ∷ []) ≡ Is ((a * 1000 + b * 100 + c * 10 + d - 53328) * 1000)
+unfolding valueOf numberOf fractionOf areAll spanOf
+five-number a b c d ha hb hc hd =
+    rw (digit-not 46 a (omega arith) ha, ha, hb, hc, hd) (ap Is (omega (arith, digit-range a ha, digit-range b hb, digit-range c hc, digit-range d hd)))
+
+pub thousandths-number : (s : List ℕ) → isThousandths s ≡ true
+    → valueOf decimals s ≡ Is ((getD s 0 0 * 1000 + getD s 2 0 * 100 + getD s 3 0 * 10 + getD s 4 0 - 53328) * 1000)
+unfolding from
+thousandths-number s t =
+    let f = five-is s t in
+    spelled (λ l. valueOf decimals l ≡ Is ((getD s 0 0 * 1000 + getD s 2 0 * 100 + getD s 3 0 * 10 + getD s 4 0 - 53328) * 1000)) 5 s (f .size)
+    (rw (f .dot) (five-number _ _ _ _ (f .first) (f .second) (f .third) (f .fourth)))
 
 pub thousandths-value : (s : List ℕ) → isThousandths s ≡ true → isNumber (valueOf decimals s) ≡ true
-thousandths-value s t = spelled (λ l. Five l → isNumber (valueOf decimals l) ≡ true) one s (five-is s t .size) (five-is s t)
-  where
-    one : (a b c d e : ℕ) → Five (a ∷ b ∷ c ∷ d ∷ e ∷ []) → isNumber (valueOf decimals (a ∷ b ∷ c ∷ d ∷ e ∷ [])) ≡ true
-    one a b c d e f = sym (value-fraction (a ∷ b ∷ c ∷ d ∷ e ∷ []) {w = 1} (digit-point a b (c ∷ d ∷ e ∷ []) (f .first) (f .dot)) (omega arith) (omega arith) (λ h. let z : ⊥ = omega arith in z) (f .dot) (λ h. let z : ⊥ = omega arith in z) (omega arith) (rw (f .second, f .third, f .fourth)))
+thousandths-value s t = rw (thousandths-number s t)
 
 pub thousandths-plain : (s : List ℕ) → isThousandths s ≡ true → all (other 44) s ≡ true
-thousandths-plain s t = spelled (λ l. Five l → all (other 44) l ≡ true) one s (five-is s t .size) (five-is s t)
-  where
-    one : (a b c d e : ℕ) → Five (a ∷ b ∷ c ∷ d ∷ e ∷ []) → all (other 44) (a ∷ b ∷ c ∷ d ∷ e ∷ []) ≡ true
-    one a b c d e f = rw (digit-not 44 a (omega arith) (f .first), ne-eqb b 44 (λ h. let z = f .dot in let y : ⊥ = omega arith in y), digit-not 44 c (omega arith) (f .second), digit-not 44 d (omega arith) (f .third), digit-not 44 e (omega arith) (f .fourth))
+unfolding from
+thousandths-plain s t =
+    let f = five-is s t in
+    spelled (λ l. all (other 44) l ≡ true) 5 s (f .size)
+    (rw (digit-not 44 _ (omega arith) (f .first), ne-eqb (getD s 1 0) 44 (λ h. let z = f .dot in let y : ⊥ = omega arith in y), digit-not 44 _ (omega arith) (f .second), digit-not 44 _ (omega arith) (f .third), digit-not 44 _ (omega arith) (f .fourth)))

@@ -1,15 +1,27 @@
 // Fast answers to the rules that are asked most often. Each has the contract of the simple rule and needs no number, only whether there is one.
+pub mod dates;
+
+use format::Number;
 use leaf::Class;
 use leaf::bytes::all_in;
 use leaf::bytes::is_digit;
-
 ghost use mathlib.Core.Path.{_≡_};
 ghost use Prim.Native.Nat.{_≤_};
 ghost use lib.ListN.{length};
 ghost use Rattle.ground.specs.Lists.{spanOf};
 ghost use Rattle.ground.specs.Digits.{isDigit};
-ghost use Rattle.format.specs.Numbers.{isNumber, decimals, valueOf};
+ghost use Rattle.format.specs.Numbers.{isNumber, decimals, valueOf, isRead};
 ghost use Rattle.quick.specs.Shapes.{isThousandths};
+
+// There is a number.
+pub fn is_number(x: Number) -> bool
+    ensures { λ r. ⌜ r ≡ isNumber x ⌝ }
+{
+    match x {
+        Number::Is(_) => true,
+        Number::Bad => false,
+    }
+}
 
 // How many of the first bytes are digits.
 fn digit_span(f: &[u8]) -> usize
@@ -54,6 +66,31 @@ pub fn is_value(f: &[u8]) -> bool
         return false;
     }
     if 6 < n - a {
+        return false;
+    }
+    all_in(&f[a..], Class::Digit)
+}
+
+// A register read: it goes like a value, but only all of its bytes are counted.
+pub fn is_read(f: &[u8]) -> bool
+    ensures { λ r. ⌜ r ≡ isRead (now (f .entry)) ⌝ }
+{
+    let n = f.len();
+    if 15 < n {
+        return false;
+    }
+    let w = digit_span(f);
+    if w < 1 {
+        return false;
+    }
+    if w == n {
+        return true;
+    }
+    if f[w] != 46 {
+        return false;
+    }
+    let a = w + 1;
+    if a == n {
         return false;
     }
     all_in(&f[a..], Class::Digit)

@@ -2,3 +2,4 @@
 pub mod check;
 pub mod read_day;
 pub mod total;
+pub mod tour;

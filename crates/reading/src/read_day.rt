@@ -1,5 +1,5 @@
 // Reads one day.
-use super::check::check;
+use super::tour::tour;
 use filling::read_checked;
 use format::Checked;
 use format::DayRead;
@@ -22,13 +22,24 @@ pub fn read_day(
 ) -> DayRead
     ensures { λ r. ⌜ outcome (dayReadAs r) (now (values .exit)) (five (now (flags .exit)) (now (methods .exit)) (now (reasons .exit)) (now (starts .exit)) (now (lengths .exit))) ≡ readOf (now (file .entry)) day (now (values .entry)) (five (now (flags .entry)) (now (methods .entry)) (now (reasons .entry)) (now (starts .entry)) (now (lengths .entry))) ⌝ }
 {
-    let c = check(file);
+    let t = tour(file, day, 0);
+    let c = t.answer;
     match c {
         Checked::Refused(x) => DayRead::Refused(x),
         Checked::Accepted {
             version: _,
             channels: _,
             days: _,
-        } => read_checked(file, day, values, flags, methods, reasons, starts, lengths),
+        } => read_checked(
+            file,
+            day,
+            t.day,
+            values,
+            flags,
+            methods,
+            reasons,
+            starts,
+            lengths,
+        ),
     }
 }

@@ -1,5 +1,5 @@
 // Totals one channel.
-use super::check::check;
+use super::tour::tour;
 use channel::total_of;
 use format::Checked;
 use format::Totalled;
@@ -12,13 +12,14 @@ ghost use Rattle.format.specs.Total.{totalOf};
 pub fn total(file: &[u8], channel: usize) -> Totalled
     ensures { λ r. ⌜ totalledAs r ≡ totalOf (now (file .entry)) channel ⌝ }
 {
-    let c = check(file);
+    let t = tour(file, 0, channel);
+    let c = t.answer;
     match c {
         Checked::Refused(x) => Totalled::Refused(x),
         Checked::Accepted {
             version: _,
             channels: _,
             days: _,
-        } => total_of(file, channel),
+        } => total_of(file, channel, t.channel),
     }
 }

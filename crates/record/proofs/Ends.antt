@@ -27,11 +27,11 @@ module _ (s : List ℕ) (i : ℕ) where
       let k : lineLen (drop i s) ≡ suc (lineLen (drop (i + 1) s)) = rw (drop-cons s i 0 h₀, ← add-one i, drop-cons s (i + 1) 0 h, t) in
       omega arith
 
-  pub line-stop : i + 1 < length s → isCrlf (getD s i 0) (getD s (i + 1) 0) ≡ true → lineLen s ≡ i + lineLen (drop i s) → i ≡ lineLen s
+  pub line-stop : i + 1 < length s → getD s i 0 ≡ 13 → getD s (i + 1) 0 ≡ 10 → lineLen s ≡ i + lineLen (drop i s) → i ≡ lineLen s
   unfolding lineLen
-  line-stop h t e =
+  line-stop h cr lf e =
       let h₀ : i < length s = omega arith in
-      let k : lineLen (drop i s) ≡ 0 = rw (drop-cons s i 0 h₀, ← add-one i, drop-cons s (i + 1) 0 h, t) in
+      let k : lineLen (drop i s) ≡ 0 = rw (drop-cons s i 0 h₀, ← add-one i, drop-cons s (i + 1) 0 h, cr, lf) in
       omega arith
 
   -- no CR LF is left

@@ -100,7 +100,7 @@ reason-fits s {x} {v} e q = let h : v ≡ numberIn (reasonOf s) = q ∙ ap numbe
 start-first : (x : ℕ) (fs : List (List ℕ)) → x + startOf 0 fs ≡ x
 start-first x fs = rw (start-zero fs, add-zero x)
 
-tag-eq : {a b d e f a₁ b₁ d₁ e₁ f₁ : ℕ} → a ≡ a₁ → b ≡ b₁ → d ≡ d₁ → e ≡ e₁ → f ≡ f₁
+pub tag-eq : {a b d e f a₁ b₁ d₁ e₁ f₁ : ℕ} → a ≡ a₁ → b ≡ b₁ → d ≡ d₁ → e ≡ e₁ → f ≡ f₁
     → _≡_ {A = Tag} (record { flag = a; method = b; reason = d; start = e; length = f }) (record { flag = a₁; method = b₁; reason = d₁; start = e₁; length = f₁ })
 tag-eq p q r s t = rw (p, q, r, s, t)
 

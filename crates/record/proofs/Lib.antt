@@ -4,4 +4,7 @@ pub mod Ends
 pub mod Cuts
 pub mod Fields
 pub mod Rows
+pub mod Tried
 pub mod Turns
+pub mod Valued
+pub mod Ran

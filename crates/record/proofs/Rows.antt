@@ -1,13 +1,13 @@
--- The rule of a field, found in the table by its number: in the front of a row, in a part of it, in the values of a 300 and behind them.
+-- The rule of a field, found in the table by its number: past the row, in the values of a 300 and behind them.
 -- Assumes nothing.
-use Prim.Native.Nat.{ℕ, suc, _+_, _-_, _≤_, _<_}
+use Prim.Native.Nat.{ℕ, zero, suc, _+_, _-_, _≤_, _<_}
 use mathlib.Core.Path.{_≡_, refl, sym, _∙_, ap}
 use mathlib.Core.List.{List, [], _∷_}
 use mathlib.Core.Bool.{Bool}
 use native.Mathlib.Omega.{arith}
 use native.Mathlib.Decide.{decLt}
-use lib.ListN.{length, getD, take, drop, replicate, length-replicate, length-append, getD-replicate, List·getD-eq-default, List·getD-append}
-use lib.Seq.{getD-take, getD-drop, getD-append-add}
+use lib.ListN.{length, getD, replicate, length-replicate, length-append, getD-replicate, List·getD-eq-default, List·getD-append}
+use lib.Seq.{getD-append-add}
 use borrow.Author.Tests.{ne-eqb}
 use Rattle.format.specs.Numbers.{isNumber}
 use Rattle.format.specs.Quality.{isGraded}
@@ -28,13 +28,14 @@ off-row row i h e = by (decLt i (length row))
     by (yes p) = rw (h p) (sym e)
     by (no p) = past-row row i (omega arith)
 
-pub in-front : (row : List Rule) (n i : ℕ) {x : Rule} → i < n → x ≡ getD (take n row) i Indicator → x ≡ getD row i Indicator
-in-front row n i h e = e ∙ getD-take n row i Indicator h
+-- a `match` with the arms 1 to n: what it says of i behind them all
+abbrev pub Past : ℕ → ℕ → Type 0
+Past i zero = Unit {0}
+Past i (suc n) = Past i n × (i ≡ suc n → ⊥)
 
-pub in-part : (row : List Rule) (a n i : ℕ) {x : Rule} → a ≤ i → i < a + n → x ≡ getD (take n (drop a row)) (i - a) Indicator → x ≡ getD row i Indicator
-in-part row a n i l h e =
-    let k : a + (i - a) ≡ i = omega arith in
-    e ∙ getD-take n (drop a row) (i - a) Indicator (omega arith) ∙ rw (getD-drop a row (i - a) Indicator, k)
+pub past-arms : (n i : ℕ) → Past i n → i < suc n → i ≡ 0
+past-arms zero i p h = omega arith
+past-arms (suc n) i p h = past-arms n i (p .0) (let q = p .1 in omega arith)
 
 -- behind the values of a 300
 abbrev pub behind : List Rule

@@ -3,7 +3,7 @@
 use Prim.Native.Nat.{ℕ, _+_, _-_, _≤_, _<_}
 use mathlib.Core.Path.{_≡_, refl, sym, _∙_, ap}
 use mathlib.Core.List.{List}
-use mathlib.Core.Bool.{Bool, true, false, cond, not, _&&_}
+use mathlib.Core.Bool.{Bool, true, false, cond, _&&_, false≢true}
 use native.Mathlib.Omega.{arith}
 use native.Mathlib.Decide.{decLt}
 use lib.ListN.{length, getD, take, drop, drop-of-length-le, length-drop}
@@ -24,10 +24,11 @@ use Rattle.format.specs.declared.Fault.the-variants.{Fine, Stop}
 use Rattle.format.specs.declared.Rule.{Rule}
 use Rattle.format.specs.declared.Rule.the-variants.{Indicator, Value}
 use Rattle.format.proofs.Cut.{fields-some, field-here, field-cons, start-zero, start-next, start-end, fields-from}
-use Rattle.quick.specs.Shapes.{isThousandths}
-use Rattle.quick.proofs.Shapes.{thousandths-value, thousandths-plain}
 use Rattle.record.specs.Places.{Rest, Starts}
-use Rattle.record.specs.Walk.{firstAsked, secondAsked, Typed, Obeyed, Along, Goes, Sound, Broken}
+use Rattle.record.specs.Walk.{heldOf, firstAsked, secondAsked, Typed, Obeyed, Along, Goes, Sound, Broken}
+use Rattle.record.specs.declared.Held.{Held}
+use Rattle.record.specs.declared.Held.the-variants.{To}
+use Rattle.record.specs.declared.Held.the-variants as held
 use Rattle.record.specs.declared.Spot.{Spot}
 use Rattle.record.proofs.Cuts.{first-is, rest-at, rest-first}
 use Rattle.record.proofs.Rows.{count-300, rule-is, row-value}
@@ -115,6 +116,29 @@ along-first file at e k n y =
       passed = obeyed-first k n fs (fields-some (part file at e));
     }
 
+-- ---- a field held to its rule, by what came of it
+
+abbrev isTo : Held → Bool
+isTo (To z) = true
+isTo held.Broken = false
+
+abbrev endOf : Held → ℕ
+endOf (To z) = z
+endOf held.Broken = 0
+
+meets : (o : Bool) (z : ℕ) {t : ℕ} → cond o (To z) held.Broken ≡ To t → (o ≡ true) × (t ≡ z)
+meets true z e = (refl, sym (ap endOf e))
+meets false z e = absurd (false≢true (ap isTo e))
+
+breaks : (o : Bool) (z : ℕ) → cond o (To z) held.Broken ≡ held.Broken → o ≡ false
+breaks true z e = absurd (false≢true (sym (ap isTo e)))
+breaks false z e = refl
+
+-- it ends behind its start
+pub held-past : (k : ℕ) (x : Rule) (a : ℕ) (s : List ℕ) {r : Held} {t : ℕ} → r ≡ heldOf k x a s → r ≡ To t → a ≤ t
+unfolding heldOf
+held-past k x a s er q = let g = meets (obeys k x (field 0 (fields s))) (a + spanOf (other 44) s) (sym er ∙ q) in omega (arith, g .1)
+
 module _ (file : List ℕ) (at e k n i b : ℕ) (y : Typed file at e k n) (l : Along file at e k n i b) where
   -- more of the record is left, so a field is
   more : b < e → i < length (fields (part file at e))
@@ -134,39 +158,48 @@ module _ (file : List ℕ) (at e k n i b : ℕ) (y : Typed file at e k n) (l : A
       by (yes p) = absurd (let w : ⊥ = omega (arith, l .here, fields-from i (part file at e) p .within, part-length file at e (y .within), y .order) in w)
       by (no p) = omega arith
 
-  -- a turn: m is what `field_end` answers of the record from `b + 1` on, o what `obeys` answers of that field
-  module _ (m : ℕ) (x : Rule) (o : Bool) (h : b < e) (em : m ≡ spanOf (other 44) (take (e - (b + 1)) (drop (b + 1) file)))
-      (ex : x ≡ ruleOf k n i) (eo : o ≡ obeys k x (take (b + 1 + m - (b + 1)) (drop (b + 1) file))) where
+  -- a field is left, so more of the record is
+  pub left : i < length (fields (part file at e)) → b < e
+  left h = by (decLt b e)
+    where
+      by : Dec (b < e) → b < e
+      by (yes p) = p
+      by (no p) = absurd (let w : ⊥ = omega (arith, none (omega arith)) in w)
+
+  -- a turn: what `held` answers of the field from `b + 1` on
+  module _ (x : Rule) (r : Held) (h : b < e) (ex : x ≡ ruleOf k n i) (er : r ≡ heldOf k x (b + 1) (part file (b + 1) e)) where
     place : b + 1 ≡ at + startOf i (fields (part file at e))
     place = l .here
 
-    is : take (b + 1 + m - (b + 1)) (drop (b + 1) file) ≡ field i (fields (part file at e))
+    is : field 0 (fields (part file (b + 1) e)) ≡ field i (fields (part file at e))
     is =
         let s : Rest file (fields (part file at e)) at i (b + 1) e = rw place (rest-at file at e i (y .order) (y .within) (more h)) in
-        first-is file (b + 1) e m (omega arith) (y .within) em ∙ rest-first s
+        rest-first s
 
-    held : o ≡ obeys k (ruleOf k n i) (field i (fields (part file at e)))
-    held = rw (← ex, ← is) eo
+    turned : r ≡ cond (obeys k (ruleOf k n i) (field i (fields (part file at e)))) (To (b + 1 + spanOf (other 44) (part file (b + 1) e))) held.Broken
+    unfolding heldOf
+    turned = rw (← ex, ← is) er
 
-    pub along-stops : not o ≡ true → Broken file at e k n (b + 1 - at) (i + 1)
+    pub along-stops : r ≡ held.Broken → Broken file at e k n (b + 1 - at) (i + 1)
     along-stops t =
         let z : b + 1 - at ≡ startOf i (fields (part file at e)) = omega (arith, place) in
         record {
-          fault = rw z (obeyed-stops k n (fields (part file at e)) i (more h) (l .passed) (sym held ∙ not-true o t));
+          fault = rw z (obeyed-stops k n (fields (part file at e)) i (more h) (l .passed) (breaks _ _ (sym turned ∙ t)));
           within = omega (arith, place);
         }
 
-    pub along-on : not o ≡ false → Along file at e k n (i + 1) (b + 1 + m)
-    along-on t =
-        let r = part file (b + 1) e in
-        let w : length r ≡ e - (b + 1) = part-length file (b + 1) e (y .within) in
-        let j : m ≤ length r = rw em (span-le (other 44) r) in
-        let g : length (field i (fields (part file at e))) ≡ m = rw (← is, part-cut (b + 1) m (drop (b + 1) file)) (length-take-le m (drop (b + 1) file) (omega (arith, length-drop (b + 1) file, y .within))) in
+    pub along-on : {t : ℕ} → r ≡ To t → Along file at e k n (i + 1) t
+    along-on {t} q =
+        let g = meets (obeys k (ruleOf k n i) (field i (fields (part file at e)))) (b + 1 + spanOf (other 44) (part file (b + 1) e)) (sym turned ∙ q) in
+        let s = part file (b + 1) e in
+        let w : length s ≡ e - (b + 1) = part-length file (b + 1) e (y .within) in
+        let j : spanOf (other 44) s ≤ length s = span-le (other 44) s in
+        let f : length (field i (fields (part file at e))) ≡ spanOf (other 44) s = rw (← is, field-here s) (length-take-le _ s j) in
         record {
-          high = omega arith;
-          few = omega (arith, l .few);
-          here = omega (arith, start-next i (fields (part file at e)) (more h), place);
-          passed = obeyed-on k n (fields (part file at e)) i (more h) (l .passed) (sym held ∙ not-false o t);
+          high = omega (arith, g .1);
+          few = omega (arith, l .few, g .1);
+          here = omega (arith, start-next i (fields (part file at e)) (more h), place, g .1);
+          passed = obeyed-on k n (fields (part file at e)) i (more h) (l .passed) (g .0);
         }
 
 -- ---- the fields that later rules ask for
@@ -207,23 +240,20 @@ module _ (k n : ℕ) where
   abbrev fits : ℕ → Type 0
   fits x = x < countOf k n
 
-  asked-second : secondAsked k n < countOf k n
+  asked-second : secondAsked k < countOf k n
   unfolding secondAsked countOf rowOf
-  asked-second =
-      by-test fits (eqb k 400) (λ t. rw (eqb-true k 400 t) (omega arith))
-      (λ t. by-test fits (eqb k 250) (λ t. rw (eqb-true k 250 t) (omega arith)) (λ t. some-field))
+  asked-second = by-test fits (eqb k 250) (λ t. rw (eqb-true k 250 t) (omega arith)) (λ t. some-field)
 
   asked-first : firstAsked k n < countOf k n
   unfolding firstAsked countOf rowOf
   asked-first =
       by-test fits (eqb k 200) (λ t. rw (eqb-true k 200 t) (omega arith))
       (λ t. by-test fits (eqb k 300) (λ t. omega (arith, count-300 k n (eqb-true k 300 t)))
-      (λ t. by-test fits (eqb k 400) (λ t. rw (eqb-true k 400 t) (omega arith))
       (λ t. by-test fits (eqb k 500) (λ t. rw (eqb-true k 500 t) (omega arith))
-      (λ t. by-test fits (eqb k 250) (λ t. rw (eqb-true k 250 t) (omega arith)) (λ t. some-field)))))
+      (λ t. by-test fits (eqb k 250) (λ t. rw (eqb-true k 250 t) (omega arith)) (λ t. some-field))))
 
 pub along-end : (file : List ℕ) (at e k n i b v w p q : ℕ) → Typed file at e k n → Along file at e k n i b → e ≤ b
-    → Noted (fields (part file at e)) at i v p → Noted (fields (part file at e)) at i w q → v ≡ firstAsked k n → w ≡ secondAsked k n
+    → Noted (fields (part file at e)) at i v p → Noted (fields (part file at e)) at i w q → v ≡ firstAsked k n → w ≡ secondAsked k
     → Sound file at e k n p q
 along-end file at e k n i b v w p q y l h np nq ev ew =
     let z : length (fields (part file at e)) ≤ i = none file at e k n i b y l h in
@@ -241,28 +271,16 @@ along-end file at e k n i b v w p q y l h np nq ev ew =
 
 -- ---- the values of a 300 that have the commonest shape
 
--- five bytes that are no comma, and a comma behind them
-value-span : (s : List ℕ) → 5 < length s → all (other 44) (take 5 s) ≡ true → getD s 5 0 ≡ 44 → spanOf (other 44) s ≡ 5
-value-span s h a c =
-    let z : spanOf (other 44) s ≤ 5 = prefix-most (other 44) s 5 h (rw c) in
-    omega (arith, span-block (other 44) 5 s (omega arith) a)
+-- ---- the values of a 300
 
--- a turn: the five bytes behind t are such a value, and a comma follows
-pub along-value : (file : List ℕ) (at e n i t : ℕ) {o : Bool} → Typed file at e 300 n → Along file at e 300 n i t → 2 ≤ i → i < n + 2 → 6 < e - t
-    → getD file (t + 6) 0 ≡ 44 → o ≡ isThousandths (take (t + 6 - (t + 1)) (drop (t + 1) file)) → not o ≡ false → Along file at e 300 n (i + 1) (t + 6)
-unfolding obeys rowOf
-along-value file at e n i t {o} y l two few room comma eo en =
-    let six : t + 1 + 5 ≡ t + 6 = omega arith in
-    let f = take (t + 6 - (t + 1)) (drop (t + 1) file) in
-    let h : isThousandths f ≡ true = sym eo ∙ not-false o en in
-    let w : length (part file (t + 1) e) ≡ e - (t + 1) = part-length file (t + 1) e (y .within) in
-    let five : take 5 (part file (t + 1) e) ≡ f = rw six at (part-take file (t + 1) e 5 (omega arith)) in
-    let q : 5 < e - (t + 1) = omega arith in
-    let c : getD (part file (t + 1) e) 5 0 ≡ 44 = rw (getD-take, getD-drop, six) comma in
-    let span : spanOf (other 44) (part file (t + 1) e) ≡ 5 = value-span (part file (t + 1) e) (omega arith) (rw five (thousandths-plain f h)) c in
-    let on : Along file at e 300 n (i + 1) (t + 1 + 5) =
-        along-on file at e 300 n i t y l 5 Value true (omega arith) (sym span) (rule-is 300 n 300 i refl (row-value n i two few)) (rw six (sym (thousandths-value f h))) refl in
-    rw six at on
+pub value-left : (file : List ℕ) (at e n i t : ℕ) → Typed file at e 300 n → Along file at e 300 n i t → i < n + 2 → t < e
+value-left file at e n i t y l few = left file at e 300 n i t y l (omega (arith, y .count, count-300 300 n refl))
+
+pub along-value : (file : List ℕ) (at e n i t : ℕ) {r : Held} {z : ℕ} → Typed file at e 300 n → Along file at e 300 n i t → 2 ≤ i → i < n + 2
+    → r ≡ heldOf 300 Value (t + 1) (part file (t + 1) e) → r ≡ To z → Along file at e 300 n (i + 1) z
+unfolding rowOf
+along-value file at e n i t {r} y l two few er q =
+    along-on file at e 300 n i t y l Value r (value-left file at e n i t y l few) (rule-is 300 n 300 i refl (row-value n i two few)) er q
 
 -- what `passed` answers
 module _ (file : List ℕ) (at e k n i b : ℕ) where
@@ -287,7 +305,7 @@ module _ {file : List ℕ} {at e k n i t : ℕ} {s : Spot} (g : Goes file at e k
   pub noted-first : w ≡ firstAsked k n → Noted (fields (part file at e)) at (s .i) w r
   noted-first f = record { is = λ l. noted-on (fields (part file at e)) at i w p a r m h q .is (rw (← f) at (g .first) l) }
 
-  pub noted-second : w ≡ secondAsked k n → Noted (fields (part file at e)) at (s .i) w r
+  pub noted-second : w ≡ secondAsked k → Noted (fields (part file at e)) at (s .i) w r
   noted-second f = record { is = λ l. noted-on (fields (part file at e)) at i w p a r m h q .is (rw (← f) at (g .second) l) }
 
 -- at a 300

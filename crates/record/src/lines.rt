@@ -5,7 +5,7 @@ ghost use Prim.Native.Nat.{_+_, _-_, _≤_, _<_};
 ghost use lib.ListN.{length, take, drop};
 ghost use Rattle.ground.specs.Lists.{all, spanOf, other};
 ghost use Rattle.format.specs.Bytes.{plain};
-ghost use Rattle.format.specs.Cut.{isCrlf, fields};
+ghost use Rattle.format.specs.Cut.{fields};
 ghost use Rattle.record.specs.Places.{lineLen, LineEnd, Scanned, Looked};
 
 pub struct Span {
@@ -120,22 +120,17 @@ fn plain_span(s: &[u8]) -> Span
     bytewise(s, short)
 }
 
-// A CR and a LF.
-fn is_crlf(a: u8, b: u8) -> bool
-    ensures { λ r. ⌜ r ≡ isCrlf a b ⌝ }
-{
-    a == 13 && b == 10
-}
-
-// How many bytes stand before the first CR LF, or all of them where there is none.
+// How many bytes stand before the first CR LF, or all of them where there is none. Few bytes are a CR, so the next one is read only behind a CR.
 fn line_len(s: &[u8]) -> usize
     ensures { λ r. ⌜ (r ≡ lineLen (now (s .entry))) × (r ≤ length (now (s .entry))) ⌝ }
 {
     let n = s.len();
     let mut i: usize = 0;
     while i + 1 < n {
-        if is_crlf(s[i], s[i + 1]) {
-            return i;
+        if s[i] == 13 {
+            if s[i + 1] == 10 {
+                return i;
+            }
         }
         i += 1;
     }

@@ -4,15 +4,15 @@ use field::numbers;
 use field::quality;
 use field::texts;
 use format::Graded;
-use format::Number;
 use format::Rule;
+use quick::is_number;
+use quick::is_read;
 use quick::is_value;
 ghost use mathlib.Core.Path.{_≡_};
-ghost use Prim.Native.Nat.{_≤_, _-_};
-ghost use lib.ListN.{getD, take};
-ghost use Rattle.format.specs.Numbers.{isNumber};
+ghost use Prim.Native.Nat.{_≤_};
+ghost use lib.ListN.{getD};
 ghost use Rattle.format.specs.Quality.{isGraded};
-ghost use Rattle.format.specs.Records.{row100, row200, row300, row400, row500, reading, row250, row550, countOf, ruleOf, obeys};
+ghost use Rattle.format.specs.Records.{row100, row200, row300, row400, row500, row250, row550, countOf, ruleOf, obeys};
 ghost use Rattle.format.specs.declared.Rule.the-variants.{Indicator};
 
 fn rule_100(i: usize) -> Rule
@@ -27,9 +27,8 @@ fn rule_100(i: usize) -> Rule
     }
 }
 
-// The fields that a 200 and a 250 begin with.
-fn rule_meter(i: usize) -> Rule
-    ensures { λ r. ⌜ r ≡ getD (take 7 row200) i Indicator ⌝ }
+fn rule_200(i: usize) -> Rule
+    ensures { λ r. ⌜ r ≡ getD row200 i Indicator ⌝ }
 {
     match i {
         1 => Rule::Nmi,
@@ -38,17 +37,6 @@ fn rule_meter(i: usize) -> Rule
         4 => Rule::Suffix,
         5 => Rule::Stream,
         6 => Rule::Serial,
-        _ => Rule::Indicator,
-    }
-}
-
-fn rule_200(i: usize) -> Rule
-    ensures { λ r. ⌜ r ≡ getD row200 i Indicator ⌝ }
-{
-    if i < 7 {
-        return rule_meter(i);
-    }
-    match i {
         7 => Rule::Unit,
         8 => Rule::Length,
         9 => Rule::NextRead,
@@ -104,36 +92,28 @@ fn rule_500(i: usize) -> Rule
     }
 }
 
-// Previous and current of a 250, counted from the read.
-fn rule_reading(i: usize) -> Rule
-    ensures { λ r. ⌜ r ≡ getD reading i Indicator ⌝ }
-{
-    match i {
-        0 => Rule::RegisterRead,
-        1 => Rule::Time,
-        2 => Rule::Quality,
-        3 => Rule::Reason,
-        4 => Rule::Description,
-        _ => Rule::Indicator,
-    }
-}
-
+// One table, which a 250's many fields are looked up in at one step.
 fn rule_250(i: usize) -> Rule
     ensures { λ r. ⌜ r ≡ getD row250 i Indicator ⌝ }
 {
-    if i < 7 {
-        return rule_meter(i);
-    }
-    if i < 8 {
-        return Rule::Direction;
-    }
-    if i < 13 {
-        return rule_reading(i - 8);
-    }
-    if i < 18 {
-        return rule_reading(i - 13);
-    }
     match i {
+        1 => Rule::Nmi,
+        2 => Rule::Configuration,
+        3 => Rule::Register,
+        4 => Rule::Suffix,
+        5 => Rule::Stream,
+        6 => Rule::Serial,
+        7 => Rule::Direction,
+        8 => Rule::RegisterRead,
+        9 => Rule::Time,
+        10 => Rule::Quality,
+        11 => Rule::Reason,
+        12 => Rule::Description,
+        13 => Rule::RegisterRead,
+        14 => Rule::Time,
+        15 => Rule::Quality,
+        16 => Rule::Reason,
+        17 => Rule::Description,
         18 => Rule::Value,
         19 => Rule::Unit,
         20 => Rule::NextRead,
@@ -189,15 +169,6 @@ pub fn count_of(kind: u64, n: usize) -> usize
     }
 }
 
-fn is_number(x: Number) -> bool
-    ensures { λ r. ⌜ r ≡ isNumber x ⌝ }
-{
-    match x {
-        Number::Is(_) => true,
-        Number::Bad => false,
-    }
-}
-
 fn is_graded(g: Graded) -> bool
     ensures { λ r. ⌜ r ≡ isGraded g ⌝ }
 {
@@ -238,6 +209,6 @@ pub fn obeys(kind: u64, rule: Rule, f: &[u8]) -> bool
         Rule::ReadTime => is_number(dates::read_time(f)),
         Rule::IndexRead => numbers::index_read(f),
         Rule::Direction => texts::direction(f),
-        Rule::RegisterRead => numbers::register_read(f),
+        Rule::RegisterRead => is_read(f),
     }
 }

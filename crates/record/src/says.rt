@@ -127,7 +127,7 @@ fn reason_of(f: &[u8]) -> u16
 }
 
 // The place of a stretch, 0 where it is empty.
-fn start_of(at: usize, length: usize) -> usize
+pub fn start_of(at: usize, length: usize) -> usize
     ensures { λ r. ⌜ r ≡ cond (eqb «length» 0) 0 at ⌝ }
 {
     if length == 0 {

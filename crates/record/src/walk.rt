@@ -1,10 +1,10 @@
 // The fields of a record from left to right, each held to its rule: one loop over the field's number serves every kind.
+use super::Held;
 use super::Spot;
 use super::Walked;
-use super::pieces::field_end;
-use super::rules::obeys;
 use super::rules::rule_at;
-use quick::thousandths;
+use super::tries::held;
+use super::tries::value_held;
 ghost use mathlib.Core.Path.{_≡_};
 ghost use mathlib.Core.Bool.{cond};
 ghost use Prim.Native.Nat.{_+_, _≤_};
@@ -18,21 +18,19 @@ fn first_asked(kind: u64, n: usize) -> usize
     match kind {
         200 => 8,
         300 => n + 2,
-        400 => 2,
         500 => 3,
         250 => 10,
         _ => 0,
     }
 }
 
-fn second_asked(kind: u64, n: usize) -> usize
-    ensures { λ r. ⌜ r ≡ secondAsked kind n ⌝ }
+fn second_asked(kind: u64) -> usize
+    ensures { λ r. ⌜ r ≡ secondAsked kind ⌝ }
 {
-    match kind {
-        400 => 3,
-        250 => 15,
-        _ => 0,
+    if kind == 250 {
+        return 15;
     }
+    0
 }
 
 // Field i starts at a: that is where the field w starts, if it is this one.
@@ -45,7 +43,7 @@ fn noted(w: usize, before: usize, i: usize, a: usize) -> usize
     before
 }
 
-// Passes the values of a 300 that have the commonest shape, of which the end need not be looked for. Each is tried as a part of the file.
+// Passes the values of a 300, up to one that breaks its rule.
 fn pass_values(file: &[u8], at: usize, e: usize, n: usize, i: usize, b: usize) -> Spot
     requires { ⌜ Typed (now file) at e 300 n × Along (now file) at e 300 n i b × (2 ≤ i) × (i ≤ n + 2) ⌝ }
     ensures { λ r. ⌜ Along (now (file .entry)) at e 300 n (r .i) (r .b) × (b ≤ r .b) × (i ≤ r .i) × (r .i ≤ n + 2) ⌝ }
@@ -53,24 +51,18 @@ fn pass_values(file: &[u8], at: usize, e: usize, n: usize, i: usize, b: usize) -
     let mut j = i;
     let mut t = b;
     while j < n + 2 {
-        if e - t <= 6 {
-            return Spot { i: j, b: t };
-        }
         let a = t + 1;
-        let z = t + 6;
-        if file[z] != 44 {
+        let h = value_held(file, a, e);
+        let Held::To(z) = h else {
             return Spot { i: j, b: t };
-        }
-        if !thousandths(&file[a..z]) {
-            return Spot { i: j, b: t };
-        }
+        };
         t = z;
         j += 1;
     }
     Spot { i: j, b: t }
 }
 
-// Goes on over values of a 300 that are passed quickly, if any come next; a field that later rules ask for is none of them.
+// Goes on over the values of a 300, if they come next; a field that later rules ask for is none of them.
 fn passed(file: &[u8], at: usize, e: usize, kind: u64, n: usize, i: usize, b: usize) -> Spot
     requires { ⌜ Typed (now file) at e kind n × Along (now file) at e kind n i b × (1 ≤ i) ⌝ }
     ensures { λ r. ⌜ Goes (now (file .entry)) at e kind n i b r ⌝ }
@@ -93,17 +85,17 @@ pub fn check_fields(file: &[u8], at: usize, e: usize, kind: u64, n: usize) -> Wa
     ensures { λ r. ⌜ Walks (now (file .entry)) at e kind n r ⌝ }
 {
     let v = first_asked(kind, n);
-    let w = second_asked(kind, n);
+    let w = second_asked(kind);
     let mut p = at;
     let mut q = at;
     let mut b = at + 3;
     let mut i: usize = 1;
     while b < e {
         let a = b + 1;
-        let t = a + field_end(&file[a..e]);
-        if !obeys(kind, rule_at(kind, n, i), &file[a..t]) {
+        let h = held(file, a, e, kind, rule_at(kind, n, i));
+        let Held::To(t) = h else {
             return Walked::Broken(a - at, i + 1);
-        }
+        };
         p = noted(v, p, i, a);
         q = noted(w, q, i, a);
         let s = passed(file, at, e, kind, n, i + 1, t);

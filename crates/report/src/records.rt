@@ -1,7 +1,6 @@
 // The records of a file and their fields.
 use day::fields::skip;
 use day::walk::intervals_of;
-use record::lines::Found;
 use record::lines::scan;
 use record::pieces::first_field;
 use record::says::kind_at;
@@ -17,18 +16,6 @@ pub struct Record {
     pub n: usize,
 }
 
-fn record_at(file: &[u8], start: usize, found: Found, n: usize) -> Record
-    requires { ⌜ (start ≤ found .end) × (found .end ≤ length (now file)) ⌝ }
-{
-    Record {
-        start: start,
-        end: found.end,
-        kind: kind_at(file, start, found.end),
-        count: std::num::wrapping_add_usize(found.commas, 1),
-        n: n,
-    }
-}
-
 // The n that holds behind a record.
 fn n_behind(file: &[u8], start: usize, end: usize, n: usize) -> usize
     requires { ⌜ (start ≤ end) × (end ≤ length (now file)) ⌝ }
@@ -39,22 +26,83 @@ fn n_behind(file: &[u8], start: usize, end: usize, n: usize) -> usize
     n
 }
 
-// The record in which a place stands, or the last one.
-pub fn record_of(file: &[u8], place: usize) -> Record {
+// The n of the last 200 before a place, for which the file is walked over once more.
+fn n_before(file: &[u8], place: usize) -> usize {
     let mut at: usize = 0;
     let mut n: usize = 0;
-    loop {
-        let found = scan(file, at);
-        let end = found.end;
-        if place <= end {
-            return record_at(file, at, found, n);
-        }
+    while at < place {
+        let end = scan(file, at).end;
         if end == file.len() {
-            return record_at(file, at, found, n);
+            return n;
         }
         n = n_behind(file, at, end, n);
         at = end + 2;
     }
+    n
+}
+
+// Where the record in which a place stands starts: behind the last CR LF before the place.
+fn start_of(file: &[u8], place: usize) -> usize
+    ensures { λ r. ⌜ r ≤ length (now (file .entry)) ⌝ }
+{
+    if file.len() < place {
+        return 0;
+    }
+    let mut at = place;
+    while 1 < at {
+        if file[at - 2] == 13 {
+            if file[at - 1] == 10 {
+                return at;
+            }
+        }
+        at -= 1;
+    }
+    0
+}
+
+// A record that no CR LF ends goes to the end of the file.
+fn endless(file: &[u8], start: usize) -> Record
+    requires { ⌜ start ≤ length (now file) ⌝ }
+{
+    let end = file.len();
+    Record {
+        start,
+        end,
+        kind: kind_at(file, start, end),
+        count: 0,
+        n: 0,
+    }
+}
+
+fn ended(file: &[u8], start: usize, place: usize, number: u64) -> Record
+    requires { ⌜ start ≤ length (now file) ⌝ }
+{
+    let found = scan(file, start);
+    let end = found.end;
+    Record {
+        start,
+        end,
+        kind: kind_at(file, start, end),
+        count: std::num::wrapping_add_usize(found.commas, 1),
+        n: n_asked(file, place, number),
+    }
+}
+
+// n is asked for only where the number of fields is wrong.
+fn n_asked(file: &[u8], place: usize, number: u64) -> usize {
+    if number == 5 {
+        return n_before(file, place);
+    }
+    0
+}
+
+// The record in which the place of a refusal stands. It is looked for backwards, so that a refused file costs no second walk over it.
+pub fn record_of(file: &[u8], place: usize, number: u64) -> Record {
+    let start = start_of(file, place);
+    if number == 2 {
+        return endless(file, start);
+    }
+    ended(file, start, place, number)
 }
 
 // The field of a number from 1.

@@ -63,7 +63,7 @@ fn line_shown(page: &mut [u8], file: &[u8], record: Record, place: usize) {
 }
 
 fn place_shown(page: &mut [u8], file: &[u8], x: Refusal) {
-    let record = record_of(file, x.place);
+    let record = record_of(file, x.place, x.number);
     let p = whereabouts(page, 0, x, record.kind, record.count);
     say(page, p);
     fields_said(page, record, x.number);

@@ -6,6 +6,7 @@ use field::numbers::intervals;
 use format::DayHead;
 use format::Refusal;
 use format::Written;
+use lists::enough;
 use pieces::fit_day;
 use pieces::measure_block;
 use pieces::put_block;
@@ -14,7 +15,7 @@ ghost use mathlib.Core.Bool.{true};
 ghost use Prim.Native.Nat.{_≤_};
 ghost use lib.ListN.{length};
 ghost use Rattle.format.specs.Answers.{refusal, writtenAs};
-ghost use Rattle.format.specs.Day.{five, enoughFor};
+ghost use Rattle.format.specs.Day.{five};
 ghost use Rattle.format.specs.Block.{given, valuesText, blockOf, writeOf, roomOf};
 ghost use Rattle.writing.specs.Pieces.{dayWith, fitWith, Ready, FitDay};
 ghost use Rattle.writing.specs.Layers.{placedOf, answeredOf, Writes};
@@ -28,28 +29,6 @@ fn no_block(number: u64) -> Written
         record: 0,
         field: 0,
     })
-}
-
-// None of the lists is shorter than n.
-fn enough(n: usize, v: usize, f: usize, m: usize, r: usize, s: usize, l: usize) -> bool
-    ensures { λ b. ⌜ b ≡ enoughFor n v f m r s l ⌝ }
-{
-    if v < n {
-        return false;
-    }
-    if f < n {
-        return false;
-    }
-    if m < n {
-        return false;
-    }
-    if r < n {
-        return false;
-    }
-    if s < n {
-        return false;
-    }
-    n <= l
 }
 
 // A fit day whose values have k bytes: written where the room is long enough.

@@ -22,20 +22,8 @@ abbrev μ-loop : tie.MeasureT-loop
 loop-holds : tie.Need-loop-holds Inv-loop μ-loop
 loop-holds c = (omega arith, omega arith, rest-whole _ _ _ (omega arith) (omega arith), rw sub-zero)
 
-field-at-requires : tie.Need-field-at-requires Inv-loop μ-loop
-field-at-requires c κs = search needs
-
-sub-value-of : tie.Need-sub-value-of Inv-loop μ-loop
-sub-value-of c = search needs
-
-part-value-of-start : tie.Need-part-value-of-start Inv-loop μ-loop
-part-value-of-start c = search needs
-
-part-value-of-end : tie.Need-part-value-of-end Inv-loop μ-loop
-part-value-of-end c = search needs
-
-value-of-requires : tie.Need-value-of-requires Inv-loop μ-loop
-value-of-requires c κs = search needs
+value-at-requires : tie.Need-value-at-requires Inv-loop μ-loop
+value-at-requires c κs = search needs
 
 sub-if1 : tie.Need-sub-if1 Inv-loop μ-loop
 sub-if1 c = search needs
@@ -65,11 +53,7 @@ add-values-spec =
     Inv-loop
     μ-loop
     loop-holds
-    field-at-requires
-    sub-value-of
-    part-value-of-start
-    part-value-of-end
-    value-of-requires
+    value-at-requires
     sub-if1
     returns
     add-acc

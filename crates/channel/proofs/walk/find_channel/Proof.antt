@@ -8,7 +8,7 @@ use Rattle.format.specs.Total.{totalsFrom, totalFirst}
 use Rattle.record.proofs.Ends.{line-room}
 use borrow.Author.Needs.{needs}
 use lib.ListN.{length, drop}
-use mathlib.Core.Path.{_≡_, refl}
+use mathlib.Core.Path.{_≡_}
 use native.Mathlib.Omega.{arith}
 use Rattle.channel.proofs.walk.find_channel.Statement.{statement}
 use Rattle.channel.proofs.walk.find_channel.Tie as tie
@@ -20,7 +20,7 @@ abbrev μ-loop : tie.MeasureT-loop
 μ-loop file channel at₀ left₀ at left = length file - at
 
 loop-holds : tie.Need-loop-holds Inv-loop μ-loop
-loop-holds c = (omega arith, refl)
+loop-holds c = search needs
 
 scan-requires : tie.Need-scan-requires Inv-loop μ-loop
 scan-requires c κs = search needs

@@ -6,7 +6,7 @@ use Rattle.format.specs.Day.{daysOf}
 use Rattle.record.proofs.Ends.{line-room}
 use borrow.Author.Needs.{needs}
 use lib.ListN.{length, drop}
-use mathlib.Core.Path.{_≡_, refl}
+use mathlib.Core.Path.{_≡_}
 use native.Mathlib.Omega.{arith}
 use Rattle.day.proofs.walk.find_day.Statement.{statement}
 use Rattle.day.proofs.walk.find_day.Tie as tie
@@ -18,8 +18,7 @@ abbrev μ-loop : tie.MeasureT-loop
 μ-loop file day at₀ left₀ n₀ at left n = length file - at
 
 loop-holds : tie.Need-loop-holds Inv-loop μ-loop
-unfolding daysOf
-loop-holds c = (omega arith, refl)
+loop-holds c = search needs
 
 scan-requires : tie.Need-scan-requires Inv-loop μ-loop
 scan-requires c κs = search needs

@@ -15,9 +15,6 @@ on-200-requires c κs = (search needs, search asked)
 on-300-requires : tie.Need-on-300-requires
 on-300-requires c κs = (search needs, search asked, search asked)
 
-on-400-requires : tie.Need-on-400-requires
-on-400-requires c κs = (search needs, search asked, search asked, search asked)
-
 on-500-requires : tie.Need-on-500-requires
 on-500-requires c κs = (search needs, search asked)
 
@@ -46,13 +43,10 @@ returns-5 : tie.Need-returns-5
 returns-5 c = (search went, search needs)
 
 returns-6 : tie.Need-returns-6
-returns-6 c = (search went, search needs)
+returns-6 c = let k = c .before .before .before .pre .0 .kept in let y = c .before .before .before .pre .0 .typed in (search went, kept-closed _ _ (c .on-550 .ensures) (omega arith) (omega arith) (omega arith))
 
 returns-7 : tie.Need-returns-7
-returns-7 c = let k = c .before .before .before .pre .kept in let y = c .before .before .before .pre .typed in (search went, kept-closed _ _ (c .on-550 .ensures) (omega arith) (omega arith) (omega arith))
-
-returns-8 : tie.Need-returns-8
-returns-8 c = let k = c .before .before .before .pre .kept in let y = c .before .before .before .pre .typed in (search went, kept-closed _ _ (c .on-900 .ensures) (omega arith) (omega arith) (omega arith))
+returns-7 c = let k = c .before .before .before .pre .0 .kept in let y = c .before .before .before .pre .0 .typed in (search went, kept-closed _ _ (c .on-900 .ensures) (omega arith) (omega arith) (omega arith))
 
 pub on-spec : {M : Type 1} → statement M
 on-spec =
@@ -61,7 +55,6 @@ on-spec =
     on-100-requires
     on-200-requires
     on-300-requires
-    on-400-requires
     on-500-requires
     on-250-requires
     on-550-requires
@@ -72,5 +65,4 @@ on-spec =
     returns-4
     returns-5
     returns-6
-    returns-7
-    returns-8)
+    returns-7)

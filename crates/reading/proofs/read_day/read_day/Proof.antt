@@ -4,8 +4,8 @@ use borrow.Author.Needs.{needs}
 use Rattle.reading.proofs.read_day.read_day.Statement.{statement}
 use Rattle.reading.proofs.read_day.read_day.Tie as tie
 
-check-requires : tie.Need-check-requires
-check-requires c κs = search needs
+tour-requires : tie.Need-tour-requires
+tour-requires c κs = search needs
 
 enum-known-c : tie.Need-enum-known-c
 enum-known-c c = search needs
@@ -14,7 +14,7 @@ enum-told : tie.Need-enum-told
 enum-told c = search needs
 
 read-checked-requires : tie.Need-read-checked-requires
-read-checked-requires c κs = search read-sound
+read-checked-requires c κs = (search read-sound, search needs)
 
 returns : tie.Need-returns
 returns c = search read-refused
@@ -44,7 +44,7 @@ pub read-day-spec : {M : Type 1} → statement M
 read-day-spec =
     tie.close
     (tie.spec
-    check-requires
+    tour-requires
     enum-known-c
     enum-told
     read-checked-requires

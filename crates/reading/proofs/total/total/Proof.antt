@@ -4,8 +4,8 @@ use borrow.Author.Needs.{needs}
 use Rattle.reading.proofs.total.total.Statement.{statement}
 use Rattle.reading.proofs.total.total.Tie as tie
 
-check-requires : tie.Need-check-requires
-check-requires c κs = search needs
+tour-requires : tie.Need-tour-requires
+tour-requires c κs = search needs
 
 enum-known-c : tie.Need-enum-known-c
 enum-known-c c = search needs
@@ -24,4 +24,4 @@ returns-2 c = search total-accepted
 
 pub total-spec : {M : Type 1} → statement M
 total-spec =
-    tie.close (tie.spec check-requires enum-known-c enum-told total-of-requires returns returns-2)
+    tie.close (tie.spec tour-requires enum-known-c enum-told total-of-requires returns returns-2)

@@ -1,10 +1,13 @@
 -- `record::lines::line_len` meets its contract. Assumes nothing.
 use Prim.Native.Nat.{_+_, _≤_, _-_}
+use Rattle.ground.proofs.Tests.{and-false}
 use Rattle.record.proofs.Ends.{line-on, line-stop, line-out}
 use Rattle.record.specs.Places.{lineLen}
 use borrow.Author.Needs.{needs}
+use borrow.Author.Tests.{ne-eqb}
 use lib.ListN.{length, drop}
-use mathlib.Core.Path.{_≡_, refl, sym, _∙_}
+use mathlib.Core.Logic.{⊎-elim}
+use mathlib.Core.Path.{_≡_, refl}
 use native.Mathlib.Omega.{arith}
 use Rattle.record.proofs.lines.line_len.Statement.{statement}
 use Rattle.record.proofs.lines.line_len.Tie as tie
@@ -21,24 +24,17 @@ loop-holds c = search needs
 add-loop : tie.Need-add-loop Inv-loop μ-loop
 add-loop c = search needs
 
-shared-slice-read-is-crlf : tie.Need-shared-slice-read-is-crlf Inv-loop μ-loop
-shared-slice-read-is-crlf c = search needs
+shared-slice-read-if1 : tie.Need-shared-slice-read-if1 Inv-loop μ-loop
+shared-slice-read-if1 c = search needs
 
-add-is-crlf : tie.Need-add-is-crlf Inv-loop μ-loop
-add-is-crlf c = search needs
+add-if2 : tie.Need-add-if2 Inv-loop μ-loop
+add-if2 c = search needs
 
-shared-slice-read-is-crlf-2 : tie.Need-shared-slice-read-is-crlf-2 Inv-loop μ-loop
-shared-slice-read-is-crlf-2 c = search needs
-
-is-crlf-requires : tie.Need-is-crlf-requires Inv-loop μ-loop
-is-crlf-requires c κs = search needs
+shared-slice-read-if2 : tie.Need-shared-slice-read-if2 Inv-loop μ-loop
+shared-slice-read-if2 c = search needs
 
 returns : tie.Need-returns Inv-loop μ-loop
-returns c =
-    let q = c .before .before .before .before .before in (
-      line-stop (q .before .before .args .s .now) (q .loop .i) (omega arith) (sym (c .before .is-crlf .ensures) ∙ c .if1 .taken) (q .loop .inv .2),
-      omega arith,
-    )
+returns c = (search line-stop, omega arith)
 
 add-i : tie.Need-add-i Inv-loop μ-loop
 add-i c = search needs
@@ -48,18 +44,15 @@ loop-less c = search needs
 
 loop-again : tie.Need-loop-again Inv-loop μ-loop
 loop-again c =
-    let q = c .before .before .before .before .before in (
+    let q = c .before .before .before in (
       refl,
       omega arith,
-      line-on (q .before .before .args .s .now) (q .loop .i) (omega arith) (sym (c .before .is-crlf .ensures) ∙ c .if1 .left) (q .loop .inv .2),
+      line-on (q .before .args .s .now) (q .loop .i) (omega arith)
+          (⊎-elim (λ w. rw (ne-eqb _ _ (w .2 .left), and-false)) (λ w. rw (ne-eqb _ _ (w .left))) (c .if1 .came)) (q .loop .inv .2),
     )
 
 returns-2 : tie.Need-returns-2 Inv-loop μ-loop
-returns-2 c =
-    let q = c .before in (
-      line-out (q .before .before .args .s .now) (q .loop .i) (omega arith) (omega arith) (q .loop .inv .2),
-      omega arith,
-    )
+returns-2 c = (search line-out, omega arith)
 
 pub line-len-spec : {M : Type 1} → statement M
 line-len-spec =
@@ -69,10 +62,9 @@ line-len-spec =
     μ-loop
     loop-holds
     add-loop
-    shared-slice-read-is-crlf
-    add-is-crlf
-    shared-slice-read-is-crlf-2
-    is-crlf-requires
+    shared-slice-read-if1
+    add-if2
+    shared-slice-read-if2
     returns
     add-i
     loop-less

@@ -194,8 +194,8 @@ direction-requires c κs = search needs
 enum-told-27 : tie.Need-enum-told-27
 enum-told-27 c = search needs
 
-register-read-requires : tie.Need-register-read-requires
-register-read-requires c κs = search needs
+is-read-requires : tie.Need-is-read-requires
+is-read-requires c κs = search needs
 
 returns : tie.Need-returns
 unfolding obeys
@@ -372,7 +372,7 @@ obeys-spec =
     enum-told-26
     direction-requires
     enum-told-27
-    register-read-requires
+    is-read-requires
     returns
     returns-2
     returns-3

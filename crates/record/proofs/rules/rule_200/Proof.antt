@@ -1,17 +1,13 @@
 -- `record::rules::rule_200` meets its contract. Assumes nothing.
 use Rattle.format.specs.Records.{row200}
-use Rattle.record.proofs.Rows.{off-row, in-front}
+use Rattle.record.proofs.Rows.{off-row, past-arms}
 use borrow.Author.Needs.{needs}
 use mathlib.Core.Path.{refl}
-use native.Mathlib.Omega.{arith}
 use Rattle.record.proofs.rules.rule_200.Statement.{statement}
 use Rattle.record.proofs.rules.rule_200.Tie as tie
 
-rule-meter-requires : tie.Need-rule-meter-requires
-rule-meter-requires c κs = search needs
-
 returns : tie.Need-returns
-returns c = in-front row200 7 _ (c .before .if1 .taken) (c .rule-meter .ensures)
+returns c = search needs
 
 returns-2 : tie.Need-returns-2
 returns-2 c = search needs
@@ -23,8 +19,34 @@ returns-4 : tie.Need-returns-4
 returns-4 c = search needs
 
 returns-5 : tie.Need-returns-5
-returns-5 c = off-row row200 (c .before .before .args .i) (λ h. omega arith) refl
+returns-5 c = search needs
+
+returns-6 : tie.Need-returns-6
+returns-6 c = search needs
+
+returns-7 : tie.Need-returns-7
+returns-7 c = search needs
+
+returns-8 : tie.Need-returns-8
+returns-8 c = search needs
+
+returns-9 : tie.Need-returns-9
+returns-9 c = search needs
+
+returns-10 : tie.Need-returns-10
+returns-10 c = off-row row200 (c .before .args .i) (λ h. past-arms 9 (c .before .args .i) (c .match .rest) h) refl
 
 pub rule-200-spec : {M : Type 1} → statement M
 rule-200-spec =
-    tie.close (tie.spec rule-meter-requires returns returns-2 returns-3 returns-4 returns-5)
+    tie.close
+    (tie.spec
+    returns
+    returns-2
+    returns-3
+    returns-4
+    returns-5
+    returns-6
+    returns-7
+    returns-8
+    returns-9
+    returns-10)

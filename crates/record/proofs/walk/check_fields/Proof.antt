@@ -1,9 +1,8 @@
 -- `record::walk::check_fields` meets its contract. Assumes nothing.
-use Prim.Native.Nat.{_-_}
-use Prim.Native.Nat.{_≤_}
+use Prim.Native.Nat.{_-_, _≤_}
 use Rattle.format.specs.Cut.{fields}
 use Rattle.ground.specs.Lists.{part}
-use Rattle.record.proofs.Turns.{Noted, along-first, along-stops, along-on, along-end, noted-none, noted-first, noted-second}
+use Rattle.record.proofs.Turns.{Noted, held-past, along-first, along-stops, along-on, along-end, noted-none, noted-first, noted-second}
 use Rattle.record.specs.Walk.{firstAsked, secondAsked, Along}
 use borrow.Author.Needs.{needs}
 use mathlib.Core.Path.{_≡_}
@@ -12,7 +11,7 @@ use Rattle.record.proofs.walk.check_fields.Statement.{statement}
 use Rattle.record.proofs.walk.check_fields.Tie as tie
 
 abbrev Inv-loop : tie.InvT-loop
-Inv-loop file at e kind n v w p₀ q₀ b₀ i₀ p q b i = (v ≡ firstAsked kind n) × (w ≡ secondAsked kind n) × Along file at e kind n i b × Noted (fields (part file at e)) at i v p × Noted (fields (part file at e)) at i w q × (1 ≤ i)
+Inv-loop file at e kind n v w p₀ q₀ b₀ i₀ p q b i = (v ≡ firstAsked kind n) × (w ≡ secondAsked kind) × Along file at e kind n i b × Noted (fields (part file at e)) at i v p × Noted (fields (part file at e)) at i w q × (1 ≤ i)
 
 abbrev μ-loop : tie.MeasureT-loop
 μ-loop file at e kind n v w p₀ q₀ b₀ i₀ p q b i = e - b
@@ -32,41 +31,23 @@ loop-holds c = (search needs, search needs, search along-first, search noted-non
 add-a : tie.Need-add-a Inv-loop μ-loop
 add-a c = search needs
 
-sub-field-end : tie.Need-sub-field-end Inv-loop μ-loop
-sub-field-end c = search needs
-
-part-field-end-start : tie.Need-part-field-end-start Inv-loop μ-loop
-part-field-end-start c = search needs
-
-part-field-end-end : tie.Need-part-field-end-end Inv-loop μ-loop
-part-field-end-end c = search needs
-
-field-end-requires : tie.Need-field-end-requires Inv-loop μ-loop
-field-end-requires c κs = search needs
-
-add-t : tie.Need-add-t Inv-loop μ-loop
-add-t c = search needs
-
 rule-at-requires : tie.Need-rule-at-requires Inv-loop μ-loop
 rule-at-requires c κs = search needs
 
-sub-obeys : tie.Need-sub-obeys Inv-loop μ-loop
-sub-obeys c = search needs
+held-requires : tie.Need-held-requires Inv-loop μ-loop
+held-requires c κs = search needs
 
-part-obeys-start : tie.Need-part-obeys-start Inv-loop μ-loop
-part-obeys-start c = search needs
+enum-known-h : tie.Need-enum-known-h Inv-loop μ-loop
+enum-known-h c = search needs
 
-part-obeys-end : tie.Need-part-obeys-end Inv-loop μ-loop
-part-obeys-end c = search needs
+enum-told : tie.Need-enum-told Inv-loop μ-loop
+enum-told c = search needs
 
-obeys-requires : tie.Need-obeys-requires Inv-loop μ-loop
-obeys-requires c κs = search needs
+sub-t18 : tie.Need-sub-t18 Inv-loop μ-loop
+sub-t18 c = search needs
 
-sub-t26 : tie.Need-sub-t26 Inv-loop μ-loop
-sub-t26 c = search needs
-
-add-t27 : tie.Need-add-t27 Inv-loop μ-loop
-add-t27 c = search needs
+add-t19 : tie.Need-add-t19 Inv-loop μ-loop
+add-t19 c = search needs
 
 returns : tie.Need-returns Inv-loop μ-loop
 returns c = search along-stops
@@ -81,10 +62,10 @@ add-passed : tie.Need-add-passed Inv-loop μ-loop
 add-passed c = search needs
 
 passed-requires : tie.Need-passed-requires Inv-loop μ-loop
-passed-requires c κs = (c .before .before .before .before .before .before .before .before .before .before .before .before .before .pre, along-on _ _ _ _ _ _ _ (c .before .before .before .before .before .before .before .before .before .before .before .before .before .pre) (c .before .before .before .before .before .before .before .before .before .loop .inv .2) _ _ _ (c .before .before .before .before .before .before .before .before .loop-test .taken) (c .before .before .before .before .before .before .field-end .ensures .0) (c .before .before .before .before .before .rule-at .ensures) (c .before .before .before .obeys .ensures) (c .before .before .if1 .left), omega arith)
+passed-requires c κs = (c .before .before .before .before .before .before .before .before .before .before .before .before .pre, along-on _ _ _ _ _ _ _ (c .before .before .before .before .before .before .before .before .before .before .before .before .pre) (c .before .before .before .before .before .before .before .before .loop .inv .2) _ _ (c .before .before .before .before .before .before .before .loop-test .taken) (c .before .before .before .before .before .before .rule-at .ensures) (c .before .before .before .before .before .held .ensures) (c .before .before .before .h .given .1), omega arith)
 
 loop-less : tie.Need-loop-less Inv-loop μ-loop
-loop-less c = search needs
+loop-less c = let p = held-past _ _ _ _ (c .before .before .before .before .before .before .held .ensures) (c .before .before .before .before .h .given .1) in omega (arith, p, c .passed .ensures .on)
 
 loop-again : tie.Need-loop-again Inv-loop μ-loop
 loop-again c = (search needs, search needs, c .passed .ensures .along, search noted-first, search noted-second, omega (arith, c .passed .ensures .more))
@@ -103,18 +84,12 @@ check-fields-spec =
     add-b
     loop-holds
     add-a
-    sub-field-end
-    part-field-end-start
-    part-field-end-end
-    field-end-requires
-    add-t
     rule-at-requires
-    sub-obeys
-    part-obeys-start
-    part-obeys-end
-    obeys-requires
-    sub-t26
-    add-t27
+    held-requires
+    enum-known-h
+    enum-told
+    sub-t18
+    add-t19
     returns
     noted-requires
     noted-requires-2

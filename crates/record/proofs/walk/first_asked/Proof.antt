@@ -26,12 +26,8 @@ returns-4 c = rw (c .match .keys4)
 
 returns-5 : tie.Need-returns-5
 unfolding firstAsked
-returns-5 c = rw (c .match .keys5)
-
-returns-6 : tie.Need-returns-6
-unfolding firstAsked
-returns-6 c = search tests
+returns-5 c = search tests
 
 pub first-asked-spec : {M : Type 1} → statement M
 first-asked-spec =
-    tie.close (tie.spec add-result returns returns-2 returns-3 returns-4 returns-5 returns-6)
+    tie.close (tie.spec add-result returns returns-2 returns-3 returns-4 returns-5)

@@ -10,11 +10,7 @@ returns c = search tests
 
 returns-2 : tie.Need-returns-2
 unfolding secondAsked
-returns-2 c = rw (c .match .keys2)
-
-returns-3 : tie.Need-returns-3
-unfolding secondAsked
-returns-3 c = search tests
+returns-2 c = search tests
 
 pub second-asked-spec : {M : Type 1} → statement M
-second-asked-spec = tie.close (tie.spec returns returns-2 returns-3)
+second-asked-spec = tie.close (tie.spec returns returns-2)
