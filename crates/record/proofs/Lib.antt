@@ -6,5 +6,4 @@ pub mod Fields
 pub mod Rows
 pub mod Tried
 pub mod Turns
-pub mod Valued
 pub mod Ran

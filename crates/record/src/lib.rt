@@ -5,7 +5,6 @@ pub mod rules;
 pub mod runs;
 pub mod says;
 pub mod tries;
-pub mod values;
 pub mod walk;
 
 use format::Tag;

@@ -1,9 +1,9 @@
--- `record::values::thousand` meets its contract. Assumes nothing.
+-- `values::lump::thousand` meets its contract. Assumes nothing.
 use Rattle.quick.proofs.Shapes.{thousandths-bytes}
-use Rattle.record.proofs.Valued.{thousand-is}
+use Rattle.values.proofs.Lumps.{thousand-is}
 use native.Mathlib.Omega.{arith}
-use Rattle.record.proofs.values.thousand.Statement.{statement}
-use Rattle.record.proofs.values.thousand.Tie as tie
+use Rattle.values.proofs.lump.thousand.Statement.{statement}
+use Rattle.values.proofs.lump.thousand.Tie as tie
 
 shared-slice-read-result : tie.Need-shared-slice-read-result
 shared-slice-read-result c = omega (arith, thousandths-bytes _ (c .before .pre))

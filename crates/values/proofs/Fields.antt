@@ -1,0 +1,76 @@
+-- A field of the record whose value was read, by the comma behind its bytes or by its cut. Assumes nothing.
+use Prim.Native.Nat.{ℕ, _+_, _-_, _≤_, _<_, _^_}
+use mathlib.Core.Path.{_≡_, sym, _∙_, ap}
+use mathlib.Core.List.{List}
+use mathlib.Core.Bool.{true}
+use native.Mathlib.Omega.{arith}
+use lib.ListN.{length, getD, take, drop}
+use lib.Seq.{length-take-le}
+use Rattle.ground.specs.Lists.{all, spanOf, other, part}
+use Rattle.ground.proofs.Spans.{span-le, part-length}
+use Rattle.format.specs.Cut.{fields, field}
+use Rattle.format.specs.Records.{millionths}
+use Rattle.format.proofs.Cut.{field-here}
+use Rattle.record.specs.Places.{Cut}
+use Rattle.record.proofs.Cuts.{first-is, cut-more}
+use Rattle.record.proofs.Tried.{stops-comma, span-is}
+use Rattle.values.specs.declared.Taken.{Taken}
+use Rattle.values.specs.declared.Taken.the-variants.{Value}
+use Rattle.values.specs.Shapes.{Complete, ValueAt, Shown}
+
+-- m bytes from a on hold no comma, and one follows
+module _ (file : List ℕ) (a e m : ℕ) (le : a ≤ e) (within : e ≤ length file) (h : m < e - a) (c : getD file (a + m) 0 ≡ 44)
+    (plain : all (other 44) (part file a (a + m)) ≡ true) where
+  span-m : m ≡ spanOf (other 44) (part file a e)
+  span-m = sym (span-is file a e m within le (stops-comma file a e m within h c) plain)
+
+  pub comma-field : part file a (a + m) ≡ field 0 (fields (part file a e))
+  comma-field = first-is file a e m le within span-m
+
+  pub comma-cut : Cut file a e (a + m) (a + m + 1)
+  comma-cut = cut-more file a e m le within span-m (omega arith)
+
+  pub comma-whole : Cut file a e (a + spanOf (other 44) (part file a e)) (a + m + 1)
+  comma-whole = rw (← span-m) comma-cut
+
+-- a value up to q, and a comma there
+pub complete-value : {file : List ℕ} {a e q v : ℕ} → Complete file a e q v → getD file q 0 ≡ 44 → ValueAt file a e v (q + 1)
+complete-value {file} {a} {e} {q} {v} k c =
+    let m : a + (q - a) ≡ q = omega (arith, k .order) in
+    let le : a ≤ e = omega (arith, k .order, k .room) in
+    let h : q - a < e - a = omega (arith, k .order, k .room) in
+    let cm : getD file (a + (q - a)) 0 ≡ 44 = rw m c in
+    let pl : all (other 44) (part file a (a + (q - a))) ≡ true = rw m (k .plain) in
+    record {
+      is = k .is ∙ ap millionths (rw m at (comma-field file a e (q - a) le (k .within) h cm pl));
+      small = k .small;
+      cut = rw m at (comma-whole file a e (q - a) le (k .within) h cm pl);
+    }
+
+-- what a try came to, taken over
+module _ (file : List ℕ) (a e : ℕ) {t : Taken} (v x : ℕ) (s : Shown file a e t) (q : t ≡ Value v x) where
+  taken : ValueAt file a e v x
+  taken = rw q at s
+
+  pub taken-is : v ≡ millionths (field 0 (fields (part file a e)))
+  taken-is = taken .is
+
+  pub taken-small : v < 10 ^ 13
+  taken-small = taken .small
+
+  pub taken-cut : Cut file a e (a + spanOf (other 44) (part file a e)) x
+  taken-cut = taken .cut
+
+-- any other field
+module _ (file : List ℕ) (a e b x : ℕ) (k : Cut file a e b x) where
+  pub cut-value : {v : ℕ} → v ≡ millionths (take (b - a) (drop a file)) → v ≡ millionths (field 0 (fields (part file a e)))
+  cut-value ev = ev ∙ ap millionths (sym (k .here))
+
+  cut-end : b ≡ a + spanOf (other 44) (part file a e)
+  cut-end =
+      let n : length (part file a b) ≡ spanOf (other 44) (part file a e) =
+      ap length (sym (k .here)) ∙ ap length (field-here (part file a e)) ∙ length-take-le (spanOf (other 44) (part file a e)) (part file a e) (span-le (other 44) (part file a e)) in
+      omega (arith, part-length file a b (omega (arith, k .on, k .ends, k .within)), k .order)
+
+  pub cut-whole : Cut file a e (a + spanOf (other 44) (part file a e)) x
+  cut-whole = rw (← cut-end) k

@@ -1,0 +1,4 @@
+-- The laws of values that are read as numbers.
+pub mod Fields
+pub mod Shorts
+pub mod Lumps

@@ -1,0 +1,30 @@
+-- Values of the commonest shape in a row, and what a test of all their bytes at once asks.
+use Prim.Native.Nat.{ℕ, zero, suc, _+_, _*_, _<_}
+use mathlib.Core.Path.{_≡_}
+use mathlib.Core.List.{List, [], _∷_, _++_}
+use mathlib.Core.Bool.{Bool, true, _&&_}
+use lib.ListN.{getD}
+use lib.Dec.{leb}
+use Rattle.ground.specs.Lists.{part}
+use Rattle.quick.specs.Shapes.{isThousandths}
+
+-- every byte of a list passes a test against the byte of another list at its place
+abbrev pub all2 : (ℕ → ℕ → Bool) → List ℕ → List ℕ → Bool
+all2 p [] t = true
+all2 p (b ∷ s) [] = true
+all2 p (b ∷ s) (l ∷ t) = p b l && all2 p s t
+
+abbrev pub atLeast : ℕ → ℕ → Bool
+atLeast b l = leb l b
+
+abbrev pub atMost : ℕ → ℕ → Bool
+atMost b h = leb b h
+
+-- a list k times
+abbrev pub again : ℕ → List ℕ → List ℕ
+again zero s = []
+again (suc k) s = s ++ again k s
+
+-- k values of the commonest shape stand at x, with a comma behind each
+abbrev pub Alike : List ℕ → ℕ → ℕ → Type 0
+Alike file x k = (j : ℕ) → j < k → (isThousandths (part file (x + 6 * j) (x + 6 * j + 5)) ≡ true) × (getD file (x + 6 * j + 5) 0 ≡ 44)
