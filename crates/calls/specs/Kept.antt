@@ -12,11 +12,21 @@ use Rattle.format.specs.Day.{Five}
 unfoldable pub kept : ℕ → ℕ → List ℕ → Bool
 kept mark from xs = all (λ x. eqb x mark) (drop from xs)
 
--- each of six lists, from place n on: its mark is nothing that an interval of a day has
+-- what every place of a list is lent with, by the width of its numbers: nothing that an interval of a day has, so that a place that was filled is seen
+abbrev pub wideMark : ℕ
+wideMark = 18446744073709551557
+
+abbrev pub halfMark : ℕ
+halfMark = 42405
+
+abbrev pub byteMark : ℕ
+byteMark = 165
+
+-- each of six lists, from place n on
 unfoldable pub keptAll : ℕ → List ℕ → Five → Bool
 keptAll n vs ms =
-    kept 18446744073709551557 n vs && (kept 165 n (ms .flags) && (kept 165 n (ms .methods)
-    && (kept 42405 n (ms .reasons) && (kept 18446744073709551557 n (ms .starts) && kept 18446744073709551557 n (ms .lengths)))))
+    kept wideMark n vs && (kept byteMark n (ms .flags) && (kept byteMark n (ms .methods)
+    && (kept halfMark n (ms .reasons) && (kept wideMark n (ms .starts) && kept wideMark n (ms .lengths)))))
 
 -- a line's end, behind a word where something has changed
 unfoldable pub ending : Bool → List ℕ

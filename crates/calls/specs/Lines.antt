@@ -6,7 +6,7 @@ use Rattle.format.specs.Answers.{Answer, accepted, refused}
 use Rattle.format.specs.Day.{Five, five, Outcome}
 use Rattle.format.specs.Block.{Given, writeOf, roomOf}
 use Rattle.page.specs.Lines.{lineOf, intervalIn, texts}
-use Rattle.calls.specs.Kept.{kept, keptAll, ending}
+use Rattle.calls.specs.Kept.{kept, wideMark, halfMark, byteMark, keptAll, ending}
 
 -- an answer's line where nothing that could change was lent
 unfoldable pub answerLine : Answer → List ℕ
@@ -31,10 +31,10 @@ unfoldable pub lent : ℕ → ℕ → List ℕ
 lent w mark = take w (replicate 300 mark)
 
 abbrev pub lentValues : ℕ → List ℕ
-lentValues w = lent w 18446744073709551557
+lentValues w = lent w wideMark
 
 abbrev pub lentMarks : ℕ → Five
-lentMarks w = five (lent w 165) (lent w 165) (lent w 42405) (lent w 18446744073709551557) (lent w 18446744073709551557)
+lentMarks w = five (lent w byteMark) (lent w byteMark) (lent w halfMark) (lent w wideMark) (lent w wideMark)
 
 -- the bytes of a block that was written: the first of its answer's values
 abbrev pub bytesIn : Answer → ℕ

@@ -21,6 +21,7 @@ use Rattle.format.specs.declared.Fault.the-variants.{Fine, Stop}
 use Rattle.bridge.proofs.Bridge.{fine-may}
 use Rattle.record.specs.Places.{LineEnd}
 use Rattle.record.specs.declared.lines.Found.{Found}
+use Rattle.record.proofs.Turns.{by-test}
 use Rattle.walker.specs.Handed.{recordAt}
 use Rattle.walker.specs.declared.Record.{Record}
 use Rattle.walker.specs.declared.Record.the-variants.{At}
@@ -35,11 +36,6 @@ use Rattle.day.proofs.Find as days
 use Rattle.channel.specs.Places.{totalsAt, ChannelAhead}
 use Rattle.channel.specs.declared.ChannelStart.{ChannelStart}
 use Rattle.channel.proofs.Find as totals
-
--- what holds of both that a test picks from
-by-test : {X : Type 0} (P : X → Type 0) (b : Bool) {x y : X} → (b ≡ true → P x) → (b ≡ false → P y) → P (cond b x y)
-by-test P true f g = f refl
-by-test P false f g = g refl
 
 -- ---- what a record does to the counts
 

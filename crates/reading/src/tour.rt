@@ -71,6 +71,7 @@ fn intervals_from(before: usize, expect: u64, n: usize) -> usize
     before
 }
 
+// The whole file, up to its first refusal; the day and the channel have numbers from 0.
 pub fn tour(file: &[u8], day: usize, channel: usize) -> Noted
     ensures is { λ r. ⌜ checkedAs (r .answer) ≡ checkOf (now (file .entry)) ⌝ }
     ensures day { λ r. ⌜ DayAhead (now (file .entry)) day (r .day) ⌝ }

@@ -38,6 +38,14 @@ module _ (p : ℕ → Bool) (s : List ℕ) where
   pub held-end : (i : ℕ) (ok : Bool) → length s ≤ i → Held p s i ok → ok ≡ all p s
   held-end i ok h r = rw (drop-of-length-le s h, and-true) at (r .same)
 
+-- the test is that a byte is not x, and the code compares the byte
+module _ (x : ℕ) (s : List ℕ) (i : ℕ) (ok : Bool) (h : i < length s) (r : Held (other x) s i ok) where
+  pub free-on : (getD s i 0 ≡ x → ⊥) → Held (other x) s (i + 1) ok
+  free-on ne = held-on (other x) s i ok true h (rw (ne-eqb _ _ ne)) refl r
+
+  pub free-off : getD s i 0 ≡ x → Held (other x) s (i + 1) false
+  free-off q = held-off (other x) s i ok false h (rw (eq-eqb _ _ q)) refl r
+
 -- n of the bytes before i are commas
 pub record Counted (s : List ℕ) (i n : ℕ) : Type 0 where
   pub within : i ≤ length s
@@ -125,4 +133,4 @@ module _ (s : List ℕ) (i c : ℕ) (r : Scanned s i c) where
   pub scanned-end : length s ≤ i → i ≡ spanOf plain s
   scanned-end h = span-all plain s i h (r .span)
 
-pub ruleset passes = (held-none, held-on, held-off, held-end, counted-none, counted-on, counted-more, counted-end, counted-few, scanned-none, scanned-block, scanned-stops, scanned-byte, scanned-comma, scanned-end)
+pub ruleset passes = (held-none, held-on, held-off, held-end, free-on, free-off, counted-none, counted-on, counted-more, counted-end, counted-few, scanned-none, scanned-block, scanned-stops, scanned-byte, scanned-comma, scanned-end)

@@ -1,20 +1,20 @@
 -- Where a record ends: the loop that looks for it, the file's first record and the rest of them, and a record as a place of the file. Assumes nothing.
 use Prim.Native.Nat.{ℕ, zero, suc, _+_, _-_, _≤_, _<_}
-use mathlib.Core.Path.{_≡_, refl, _∙_, ap}
+use mathlib.Core.Path.{_≡_, refl, sym, _∙_, ap}
 use mathlib.Core.List.{List, [], _∷_}
-use mathlib.Core.Bool.{Bool, true, false, cond, false≢true}
+use mathlib.Core.Bool.{Bool, true, false, cond, not, false≢true}
 use native.Mathlib.Numerals.{add-one}
 use native.Mathlib.Omega.{arith}
-use lib.ListN.{length, getD, take, drop, length-drop, length-take}
+use lib.ListN.{length, getD, take, drop, length-drop}
 use lib.Seq.{drop-cons, drop-drop}
 use lib.Dec.{eqb}
-use borrow.Author.Tests.{eqb-true}
-use Rattle.ground.specs.Lists.{spanOf, part}
+use borrow.Author.Tests.{eqb-true, not-false}
+use Rattle.ground.specs.Lists.{all, spanOf, other, part}
 use Rattle.ground.proofs.Lists.{to-end}
-use Rattle.ground.proofs.Spans.{part-cut, part-length}
+use Rattle.ground.proofs.Spans.{span-block, part-cut, part-length}
 use Rattle.format.specs.Bytes.{plain}
 use Rattle.format.specs.Cut.{isCrlf, line, rest, lines}
-use Rattle.record.specs.Places.{lineLen, LineEnd, Scanned, Looked}
+use Rattle.record.specs.Places.{lineLen, LineEnd, Unended, Scanned, Looked}
 
 -- ---- the loop, at byte i
 
@@ -95,14 +95,16 @@ lines-none (b ∷ d ∷ s) h = go (isCrlf b d) refl (λ k. lines-none (d ∷ s) 
 
 -- ---- a record as a place of the file
 
-pub line-ends : (file : List ℕ) (at m : ℕ) → at ≤ length file → m ≡ lineLen (take (length file - at) (drop at file))
-    → m ≤ length (take (length file - at) (drop at file)) → LineEnd file at (at + m)
-line-ends file at m h e g =
-    record {
-      order = omega arith;
-      within = omega (arith, length-take (length file - at) (drop at file), length-drop at file);
-      is = ap (λ (z : ℕ). at + z) (rw (to-end at file) at e);
-    }
+-- no CR LF begins in the first i bytes of `&file[at..]`, and n is what `line_len` answers of the rest
+pub line-ends : (file : List ℕ) (at i n : ℕ) → at ≤ length file → Unended (take (length file - at) (drop at file)) i
+    → n ≡ lineLen (take (length file - (at + i)) (drop (at + i) file)) → n ≤ length (take (length file - (at + i)) (drop (at + i) file))
+    → LineEnd file at (at + i + n)
+line-ends file at i n h r e g =
+    let u : Unended (drop at file) i = rw (to-end at file) at r in
+    let m : n ≡ lineLen (drop (at + i) file) = rw (to-end (at + i) file) at e in
+    let w : n ≤ length (drop (at + i) file) = rw (to-end (at + i) file) at g in
+    let l : lineLen (drop at file) ≡ i + lineLen (drop (at + i) file) = rw (← drop-drop i at file) (u .same) in
+    record { order = omega arith; within = omega (arith, length-drop at file, length-drop (at + i) file); is = omega arith }
 
 -- every place has such an end
 pub line-at : (file : List ℕ) (at : ℕ) → at ≤ length file → LineEnd file at (at + lineLen (drop at file))
@@ -132,31 +134,50 @@ module _ (file : List ℕ) (at e : ℕ) (s : LineEnd file at e) where
   pub line-long : length (part file at e) ≡ e - at
   line-long = part-length file at e (s .within)
 
--- ---- a record by the pass over it
+-- ---- a record by a pass over it
 
--- no plain byte begins a CR LF
-plain-crlf : (b d : ℕ) → plain b ≡ true → isCrlf b d ≡ false
-plain-crlf b d t = by (eqb b 13) refl
-  where
-    by : (u : Bool) → eqb b 13 ≡ u → isCrlf b d ≡ false
-    by false e = rw e
-    by true e = let q : b ≡ 13 = eqb-true b 13 e in absurd (false≢true (rw q at t))
+-- p is a test that no CR passes
+module _ (p : ℕ → Bool) (cr : p 13 ≡ false) where
+  -- a byte that passes begins no CR LF
+  pass-crlf : (b d : ℕ) → p b ≡ true → isCrlf b d ≡ false
+  pass-crlf b d t = by (eqb b 13) refl
+    where
+      by : (u : Bool) → eqb b 13 ≡ u → isCrlf b d ≡ false
+      by false e = rw e
+      by true e = let q : b ≡ 13 = eqb-true b 13 e in absurd (false≢true (sym cr ∙ rw q at t))
 
--- a record's end, from the end of its plain bytes on
-line-span : (s : List ℕ) → lineLen s ≡ spanOf plain s + lineLen (drop (spanOf plain s) s)
-unfolding lineLen spanOf
-line-span [] = refl
-line-span (b ∷ []) = go (plain b)
-  where
-    go : (t : Bool) → lineLen (b ∷ []) ≡ cond t 1 0 + lineLen (drop (cond t 1 0) (b ∷ []))
-    go true = refl
-    go false = refl
-line-span (b ∷ d ∷ s) = go (plain b) refl (line-span (d ∷ s))
-  where
-    go : (t : Bool) → plain b ≡ t → lineLen (d ∷ s) ≡ spanOf plain (d ∷ s) + lineLen (drop (spanOf plain (d ∷ s)) (d ∷ s))
-        → lineLen (b ∷ d ∷ s) ≡ cond t (suc (spanOf plain (d ∷ s))) 0 + lineLen (drop (cond t (suc (spanOf plain (d ∷ s))) 0) (b ∷ d ∷ s))
-    go true e ih = rw (plain-crlf b d e) (omega (arith, ih))
-    go false e ih = omega arith
+  -- a record's end, from the end of the bytes that pass on
+  line-span : (s : List ℕ) → lineLen s ≡ spanOf p s + lineLen (drop (spanOf p s) s)
+  unfolding lineLen spanOf
+  line-span [] = refl
+  line-span (b ∷ []) = go (p b)
+    where
+      go : (t : Bool) → lineLen (b ∷ []) ≡ cond t 1 0 + lineLen (drop (cond t 1 0) (b ∷ []))
+      go true = refl
+      go false = refl
+  line-span (b ∷ d ∷ s) = go (p b) refl (line-span (d ∷ s))
+    where
+      go : (t : Bool) → p b ≡ t → lineLen (d ∷ s) ≡ spanOf p (d ∷ s) + lineLen (drop (spanOf p (d ∷ s)) (d ∷ s))
+          → lineLen (b ∷ d ∷ s) ≡ cond t (suc (spanOf p (d ∷ s))) 0 + lineLen (drop (cond t (suc (spanOf p (d ∷ s))) 0) (b ∷ d ∷ s))
+      go true e ih = rw (pass-crlf b d e) (omega (arith, ih))
+      go false e ih = omega arith
+
+  -- and from any place among them: they may be passed m at a time
+  line-block : (m : ℕ) (s : List ℕ) → m ≤ length s → all p (take m s) ≡ true → lineLen s ≡ m + lineLen (drop m s)
+  line-block m s h t =
+      let v = span-block p m s h t in
+      let w : drop (spanOf p s) s ≡ drop (spanOf p (drop m s)) (drop m s) = rw (drop-drop (spanOf p (drop m s)) m s, v) in
+      omega (arith, line-span s, line-span (drop m s), ap lineLen w)
+
+-- a block from i to e: b is what `no_cr` answers of it
+pub unended-block : (s : List ℕ) (i e m : ℕ) (b : Bool) → Unended s i → e ≡ i + m → m ≤ length s - i → b ≡ all (other 13) (take (e - i) (drop i s))
+    → not b ≡ false → Unended s e
+unended-block s i e m b r q h f t =
+    let d : e - i ≡ m = omega arith in
+    let l : m ≤ length (drop i s) = omega (arith, length-drop i s) in
+    let u : all (other 13) (take m (drop i s)) ≡ true = rw (← d) (sym f ∙ not-false b t) in
+    let v = line-block (other 13) refl m (drop i s) l u in
+    rw q record { within = omega arith; same = omega (arith, r .same, rw (drop-drop m i s) at v) }
 
 -- a span that ends inside the first m ends there in the whole
 span-take : (p : ℕ → Bool) (m : ℕ) (s : List ℕ) → spanOf p s ≤ m → spanOf p (take m s) ≡ spanOf p s
@@ -179,13 +200,10 @@ pub looked : (file : List ℕ) (at stop commas n : ℕ) → at ≤ length file �
     → n ≤ length (take (length file - (at + stop)) (drop (at + stop) file)) → Looked file at (at + stop + n) (at + stop) commas
 looked file at stop commas n within r e q g =
     let k : stop ≡ spanOf plain (drop at file) = rw (to-end at file) at e in
-    let m : n ≡ lineLen (drop (at + stop) file) = rw (to-end (at + stop) file) at q in
-    let l : lineLen (drop at file) ≡ stop + lineLen (drop (at + stop) file) = line-span (drop at file) ∙ rw (← k, drop-drop stop at file) in
-    let w : n ≤ length (drop (at + stop) file) = rw (to-end (at + stop) file) at g in
-    let u : length (take (length file - at) (drop at file)) ≡ length file - at = rw (to-end at file) (length-drop at file) in
+    let l = rw (← e) at (line-span plain refl (take (length file - at) (drop at file))) in
     let j : at + stop + n - at ≡ stop + n = omega arith in
     record {
-      ends = record { order = omega arith; within = omega (arith, w, u, r .within, length-drop (at + stop) file); is = omega arith };
+      ends = line-ends file at stop n within (record { within = r .within; same = l }) q g;
       order = omega arith;
       within = omega arith;
       few = omega (arith, r .few);

@@ -36,7 +36,7 @@ use Rattle.record.proofs.Rows.{count-300, rule-is, row-value}
 -- ---- the fields before i meet their rules
 
 -- what holds of both that a test picks from, where it is known how the test went
-by-test : {X : Type 0} (P : X → Type 0) (b : Bool) {x y : X} → (b ≡ true → P x) → (b ≡ false → P y) → P (cond b x y)
+pub by-test : {X : Type 0} (P : X → Type 0) (b : Bool) {x y : X} → (b ≡ true → P x) → (b ≡ false → P y) → P (cond b x y)
 by-test P true f g = f refl
 by-test P false f g = g refl
 

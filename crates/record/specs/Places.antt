@@ -21,6 +21,11 @@ pub record LineEnd (file : List ℕ) (at e : ℕ) : Type 0 where
   pub within : e ≤ length file
   pub is : e ≡ at + lineLen (drop at file)
 
+-- no CR LF begins in the first i bytes, so that the first record's end may be looked for behind them
+pub record Unended (s : List ℕ) (i : ℕ) : Type 0 where
+  pub within : i ≤ length s
+  pub same : lineLen s ≡ i + lineLen (drop i s)
+
 -- the first `stop` bytes are plain, and `commas` of them are commas
 pub record Scanned (s : List ℕ) (stop commas : ℕ) : Type 0 where
   pub within : stop ≤ length s

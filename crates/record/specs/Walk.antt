@@ -1,4 +1,4 @@
--- A walk over the fields of a record, for the contracts of the inner functions.
+-- A field held to its rule, a walk over the fields of a record, and a 400 read in one go, for the contracts of the inner functions.
 use Prim.Native.Nat.{ℕ, _+_, _-_, _≤_, _<_}
 use mathlib.Core.Path.{_≡_}
 use mathlib.Core.List.{List}
@@ -44,7 +44,7 @@ abbrev pub Ended : (List ℕ → Bool) → ℕ → List ℕ → Held → Type 0
 Ended p a s (held.To z) = (z ≡ a + spanOf (other 44) s) × (p (field 0 (fields s)) ≡ true)
 Ended p a s held.Broken = Unit {0}
 
--- the record from a to e has m bytes, and no more of them before its first comma
+-- from a to e stand at least m bytes, and no more than m before the first comma
 pub record Stops (file : List ℕ) (a e m : ℕ) : Type 0 where
   pub room : m ≤ e - a
   pub span : spanOf (other 44) (part file a e) ≤ m

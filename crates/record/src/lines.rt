@@ -6,7 +6,7 @@ ghost use lib.ListN.{length, take, drop};
 ghost use Rattle.ground.specs.Lists.{all, spanOf, other};
 ghost use Rattle.format.specs.Bytes.{plain};
 ghost use Rattle.format.specs.Cut.{fields};
-ghost use Rattle.record.specs.Places.{lineLen, LineEnd, Scanned, Looked};
+ghost use Rattle.record.specs.Places.{lineLen, LineEnd, Unended, Scanned, Looked};
 
 pub struct Span {
     pub stop: usize,
@@ -137,12 +137,50 @@ fn line_len(s: &[u8]) -> usize
     n
 }
 
-// Where the record that starts at a place ends: before its CR LF, or at the file's end where there is none.
+// No CR among the bytes.
+fn no_cr(s: &[u8]) -> bool
+    ensures { λ r. ⌜ r ≡ all (other 13) (now (s .entry)) ⌝ }
+{
+    let mut ok = true;
+    let mut i: usize = 0;
+    while i < s.len() {
+        let b = s[i];
+        i += 1;
+        if b == 13 {
+            ok = false;
+        }
+    }
+    ok
+}
+
+// Goes on by whole blocks, as long as no CR stands in them.
+fn past_blocks(s: &[u8], from: usize, size: usize) -> usize
+    requires { ⌜ Unended (now s) from × (0 < size) ⌝ }
+    ensures { λ r. ⌜ Unended (now (s .entry)) r ⌝ }
+{
+    let n = s.len();
+    let mut i = from;
+    while size <= n - i {
+        let e = i + size;
+        if !no_cr(&s[i..e]) {
+            return i;
+        }
+        i = e;
+    }
+    i
+}
+
+// Where the record that starts at a place ends: before its CR LF, or at the file's end where there is none. Nothing else is asked of its bytes, so it is
+// looked for by blocks without a CR.
 pub fn line_end(file: &[u8], at: usize) -> usize
     requires { ⌜ at ≤ length (now file) ⌝ }
     ensures { λ r. ⌜ LineEnd (now (file .entry)) at r ⌝ }
 {
-    at + line_len(&file[at..])
+    let s = &file[at..];
+    let long = past_blocks(s, 0, 64);
+    let short = past_blocks(s, long, 16);
+    let near = at + short;
+    near + line_len(&file[near..])
 }
 
 // The record that starts at a place. No plain byte begins a CR LF, so its end is looked for only from its first other byte on.

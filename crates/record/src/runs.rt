@@ -54,7 +54,7 @@ fn reasoned(
     )
 }
 
-// From its quality on.
+// From its quality on, behind b.
 fn graded(file: &[u8], at: usize, e: usize, b: usize, from: usize, to: usize) -> Run
     requires { ⌜ Typed (now file) at e 400 0 × Along (now file) at e 400 0 3 b × Spans (now file) at e from to ⌝ }
     ensures { λ r. ⌜ Runs (now (file .entry)) at e r ⌝ }
@@ -68,7 +68,7 @@ fn graded(file: &[u8], at: usize, e: usize, b: usize, from: usize, to: usize) ->
     reasoned(file, at, e, c, from, to, q, flag, method)
 }
 
-// From its end on.
+// From its last interval on, behind b.
 fn ended(file: &[u8], at: usize, e: usize, b: usize, from: usize) -> Run
     requires { ⌜ Typed (now file) at e 400 0 × Along (now file) at e 400 0 2 b × (from ≡ firstIn (fields (part (now file) at e))) ⌝ }
     ensures { λ r. ⌜ Runs (now (file .entry)) at e r ⌝ }

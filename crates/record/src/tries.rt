@@ -144,7 +144,8 @@ pub fn held(file: &[u8], a: usize, e: usize, kind: u64, rule: Rule) -> Held
     }
 }
 
-// A value of a 300. Its commonest shape, a digit, a point and three digits, is tried first.
+// A value of a 300. Its commonest shape, a digit, a point and three digits, is tried first. Nearly every field of a 5-minute file is a value, so its rule
+// is asked by `is_value`, which needs no number, and not through `obeys`, which would first look for the rule among all.
 pub fn value_held(file: &[u8], a: usize, e: usize) -> Held
     requires { ⌜ (a ≤ e) × (e ≤ length (now file)) ⌝ }
     ensures { λ r. ⌜ r ≡ heldOf 300 Value a (part (now (file .entry)) a e) ⌝ }

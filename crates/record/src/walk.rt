@@ -1,4 +1,4 @@
-// The fields of a record from left to right, each held to its rule: one loop over the field's number serves every kind.
+// The fields of a record from left to right, each held to its rule: one loop over the field's number serves every kind but a 400, which `runs` reads.
 use super::Held;
 use super::Spot;
 use super::Walked;

@@ -4,6 +4,24 @@ use borrow.Author.Needs.{needs}
 use Rattle.record.proofs.lines.line_end.Statement.{statement}
 use Rattle.record.proofs.lines.line_end.Tie as tie
 
+sub-s : tie.Need-sub-s
+sub-s c = search needs
+
+part-s-start : tie.Need-part-s-start
+part-s-start c = search needs
+
+part-s-end : tie.Need-part-s-end
+part-s-end c = search needs
+
+past-blocks-requires : tie.Need-past-blocks-requires
+past-blocks-requires c κs = search needs
+
+past-blocks-requires-2 : tie.Need-past-blocks-requires-2
+past-blocks-requires-2 c κs = search needs
+
+add-near : tie.Need-add-near
+add-near c = search needs
+
 sub-line-len : tie.Need-sub-line-len
 sub-line-len c = search needs
 
@@ -26,6 +44,12 @@ pub line-end-spec : {M : Type 1} → statement M
 line-end-spec =
     tie.close
     (tie.spec
+    sub-s
+    part-s-start
+    part-s-end
+    past-blocks-requires
+    past-blocks-requires-2
+    add-near
     sub-line-len
     part-line-len-start
     part-line-len-end
