@@ -1,16 +1,19 @@
 -- A sum that is taken value by value, and given up before it would pass 64 bits. Assumes nothing.
-use Prim.Native.Nat.{ℕ, zero, suc, _+_, _-_, _^_, _≤_, _<_}
+use Prim.Native.Nat.{ℕ, zero, suc, _+_, _-_, _*_, _^_, _≤_, _<_}
 use mathlib.Core.Path.{_≡_, refl, sym, ap, _∙_}
 use mathlib.Core.List.{List, [], _∷_, map}
 use mathlib.Core.Bool.{Bool, true, false, cond}
+use native.Mathlib.Nat.{sub-zero, add-zero, zero-add}
 use native.Mathlib.Numerals.{add-one}
 use native.Mathlib.Omega.{arith}
 use native.Mathlib.Decide.{decLt}
-use lib.ListN.{length, take, drop, drop-of-length-le, List·getD-eq-default}
+use lib.ListN.{length, getD, take, drop, drop-of-length-le, List·getD-eq-default}
 use lib.Seq.{drop-cons}
 use lib.Dec.{ltb}
+use mir.Val.{Fits}
+use mir.Syntax.{w64}
 use borrow.Author.Tests.{lt-ltb, le-ltb, ltb-true, ltb-false, ne-eqb}
-use Rattle.ground.specs.Lists.{spanOf, sum, part}
+use Rattle.ground.specs.Lists.{all, spanOf, other, sum, part}
 use Rattle.format.specs.Bytes.{areAll}
 use Rattle.format.specs.Numbers.{numberOf, valueOf}
 use Rattle.format.specs.Cut.{fields, field}
@@ -19,14 +22,18 @@ use Rattle.format.specs.Answers.{Answer, accepted, refusal}
 use Rattle.format.specs.Total.{sumFrom, totalFirst}
 use Rattle.format.specs.declared.Number.{Number}
 use Rattle.format.specs.declared.Number.the-variants.{Is, Bad}
-use Rattle.record.specs.Places.{LineEnd, Rest}
+use Rattle.quick.specs.Shapes.{isThousandths}
+use Rattle.quick.proofs.Shapes.{thousandths-plain}
+use Rattle.record.specs.Places.{LineEnd, Cut, Rest}
 use Rattle.record.proofs.Ends.{line-none, line-more}
-use Rattle.record.proofs.Cuts.{rest-first}
+use Rattle.record.proofs.Cuts.{rest-whole, rest-next, rest-on, rest-first}
+use Rattle.values.specs.Lumps.{Alike}
+use Rattle.values.proofs.Fields.{comma-field, comma-cut}
 use Rattle.day.specs.Places.{valuesFrom}
 use Rattle.day.proofs.Values.{values-move}
 use Rattle.channel.specs.declared.Channel.{Channel}
 use Rattle.channel.specs.declared.Channel.the-variants.{Days, Quantity, Missing}
-use Rattle.channel.specs.Places.{held, sumAt, channelAs, within}
+use Rattle.channel.specs.Places.{held, sumAt, Adds, channelAs, within}
 
 held-is : (v : ℕ) → v < 2 ^ 64 → Is v ≡ held v
 unfolding held
@@ -60,21 +67,86 @@ got-bad v e = by (ltb v (2 ^ 64)) refl e
     by true h q = let z : _≡_ {A = ℕ} 0 1 = cc in absurd (omega arith)
     by false h q = ltb-false _ _ h
 
+-- ---- some of the values of a 300
+
+-- i of m fields from x on come to acc, and the next one starts at y
+pub record Adding (file : List ℕ) (x e m i acc y : ℕ) : Type 0 where
+  pub few : i ≤ m
+  pub small : acc ≤ i * 10 ^ 13
+  pub rest : Rest file (fields (part file x e)) x i y e
+  pub left : acc + sum (valuesFrom (m - i) i (fields (part file x e))) ≡ sum (valuesFrom m 0 (fields (part file x e)))
+
+pub adding-none : (file : List ℕ) (x e m : ℕ) → x ≤ e → e ≤ length file → Adding file x e m 0 0 x
+adding-none file x e m h g = record { few = omega arith; small = omega arith; rest = rest-whole file x e h g; left = rw (sub-zero, zero-add) }
+
+-- the value of the next field, which was cut off
+pub adding-on : (file : List ℕ) (x e m i acc y b z v : ℕ) → i < m → Adding file x e m i acc y → Cut file y e b z
+    → v ≡ millionths (field 0 (fields (part file y e))) → v < 10 ^ 13 → Adding file x e m (i + 1) (acc + v) z
+unfolding valuesFrom
+adding-on file x e m i acc y b z v h r k ev sv =
+    let fs : List (List ℕ) = fields (part file x e) in
+    let n : m - i ≡ suc (m - (i + 1)) = omega arith in
+    let w : millionths (field i fs) ≡ v = sym (ev ∙ ap millionths (rest-first (r .rest))) in
+    let t : sum (valuesFrom (m - i) i fs) ≡ v + sum (valuesFrom (m - (i + 1)) (i + 1) fs) = rw (n, w, add-one) in
+    record { few = omega arith; small = omega (arith, r .small); rest = rest-next (r .rest) k; left = omega (arith, r .left) }
+
+pub adding-end : (file : List ℕ) (x e m i acc y : ℕ) → m ≤ i → Adding file x e m i acc y → Adds file x e m acc y
+unfolding valuesFrom
+adding-end file x e m i acc y h r =
+    let q : i ≡ m = omega (arith, r .few) in
+    let n : m - i ≡ 0 = omega arith in
+    let t : sum (valuesFrom (m - i) i (fields (part file x e))) ≡ 0 = rw n in
+    record { is = omega (arith, r .left); small = rw q at (r .small); rest = rw q at (r .rest) }
+
+pub adding-fits : (file : List ℕ) (x e m i acc y v : ℕ) → m ≤ 16 → Adding file x e m i acc y → i < m → v < 10 ^ 13 → Fits w64 (acc + v)
+adding-fits file x e m i acc y v h r l sv = omega (arith, r .small)
+
+-- one of the commonest shape among sixteen
+module _ (file : List ℕ) (x e i acc y : ℕ) (l : Alike file x 16) (g : x + 96 ≤ e) (w : e ≤ length file) (h : i < 16) (p : y ≡ x + 6 * i)
+    (r : Adding file x e 16 i acc y) where
+  pub lump-shape : isThousandths (take (y + 5 - y) (drop y file)) ≡ true
+  lump-shape = rw p (l i h .0)
+
+  pub lump-fits : (v : ℕ) → v < 10 ^ 13 → Fits w64 (acc + v)
+  lump-fits v sv = adding-fits file x e 16 i acc y v (omega arith) r h sv
+
+  pub lump-on : (v : ℕ) → v ≡ millionths (take (y + 5 - y) (drop y file)) → v < 10 ^ 13 → Adding file x e 16 (i + 1) (acc + v) (y + 5 + 1)
+  lump-on v ev sv =
+      let le : y ≤ e = omega arith in
+      let rm : 5 < e - y = omega arith in
+      let c : getD file (y + 5) 0 ≡ 44 = rw p (l i h .1) in
+      let pl : all (other 44) (part file y (y + 5)) ≡ true = thousandths-plain _ lump-shape in
+      adding-on file x e 16 i acc y (y + 5) (y + 5 + 1) v h r (comma-cut file y e 5 le w rm c pl) (ev ∙ ap millionths (comma-field file y e 5 le w rm c pl)) sv
+
+pub lump-is : {file : List ℕ} {x e m v y : ℕ} → m ≡ 16 → Adds file x e 16 v y → Adds file x e m v y
+lump-is q r = rw q r
+
 -- ---- the values of one 300
 
--- a turn, at field i: v is its value, and `whole` the sum to come to
-module _ (file : List ℕ) (fs : List (List ℕ)) (p n i a e v acc whole : ℕ) (h : i < n) (s : Rest file fs p i a e)
-    (ev : v ≡ millionths (field 0 (fields (part file a e)))) (inv : acc + sum (valuesFrom (n - i) i fs) ≡ whole) where
-  pub sum-on : acc + v + sum (valuesFrom (n - (i + 1)) (i + 1) fs) ≡ whole
-  unfolding valuesFrom
+values-split : (m k i : ℕ) (fs : List (List ℕ)) → sum (valuesFrom (m + k) i fs) ≡ sum (valuesFrom m i fs) + sum (valuesFrom k (i + m) fs)
+unfolding valuesFrom
+values-split zero k i fs = rw (zero-add k, add-zero i) (omega arith)
+values-split (suc m) k i fs =
+    let n : i + suc m ≡ suc i + m = omega arith in
+    let z : suc m + k ≡ suc (m + k) = omega arith in
+    rw (n, z) (omega (arith, values-split m k (suc i) fs))
+
+-- a turn, at field i: v is what the next m values come to, and `whole` the sum to come to
+module _ (file : List ℕ) (p n i a e m v y acc whole : ℕ) (fs : List (List ℕ)) (h : m ≤ n - i) (g : i < n) (s : Rest file fs p i a e) (d : Adds file a e m v y)
+    (inv : acc + sum (valuesFrom (n - i) i fs) ≡ whole) where
+  pub sum-on : acc + v + sum (valuesFrom (n - (i + m)) (i + m) fs) ≡ whole
   sum-on =
-      let m : n - i ≡ suc (n - (i + 1)) = omega arith in
-      let w : millionths (field i fs) ≡ v = sym (ev ∙ ap millionths (rest-first s)) in
-      let t : sum (valuesFrom (n - i) i fs) ≡ v + sum (valuesFrom (n - (i + 1)) (i + 1) fs) = rw (m, w, add-one) in
+      let q : n - i ≡ m + (n - (i + m)) = omega arith in
+      let o : i + 0 ≡ i = omega arith in
+      let w : v ≡ sum (valuesFrom m i fs) = d .is ∙ ap sum (rw o at (values-move s m 0)) in
+      let t : sum (valuesFrom (n - i) i fs) ≡ v + sum (valuesFrom (n - (i + m)) (i + m) fs) = rw (q, values-split m (n - (i + m)) i fs, w) in
       omega arith
 
+  pub sum-rest : Rest file fs p (i + m) y e
+  sum-rest = rest-on s (d .rest)
+
   pub sum-over : 18446744073709551615 - acc < v → acc < 2 ^ 64 → Bad ≡ held whole
-  sum-over g l = held-not whole (omega (arith, sum-on))
+  sum-over o l = held-not whole (omega (arith, sum-on))
 
 pub sum-end : (n i acc whole : ℕ) (fs : List (List ℕ)) → n ≤ i → acc < 2 ^ 64 → acc + sum (valuesFrom (n - i) i fs) ≡ whole → Is acc ≡ held whole
 unfolding valuesFrom

@@ -1,16 +1,85 @@
-// The values of a channel's days, added up; each sum is tested before it is taken, so that none wraps.
+// The values of a channel's days, added up, sixteen at a time; each sum is tested before it is taken, so that none wraps.
 use day::fields::skip;
 use format::Number;
-use record::lines::scan;
+use record::lines::line_end;
 use record::says::kind_at;
-use record::values::value_at;
+use values::lump::sixteen;
+use values::lump::thousand;
+use values::value_at;
 ghost use mathlib.Core.Path.{_≡_};
-ghost use Prim.Native.Nat.{_+_, _≤_};
+ghost use Prim.Native.Nat.{_+_, _≤_, _<_};
 ghost use lib.ListN.{length};
 ghost use Rattle.ground.specs.Lists.{part, sum};
 ghost use Rattle.format.specs.Cut.{fields};
 ghost use Rattle.day.specs.Places.{valuesFrom};
-ghost use Rattle.channel.specs.Places.{held, sumAt};
+ghost use Rattle.values.specs.Lumps.{Alike};
+ghost use Rattle.channel.specs.Places.{held, sumAt, Adds};
+
+// The values of some fields from a place on, added up, and where the field behind them starts.
+pub struct Sum {
+    pub v: u64,
+    pub next: usize,
+}
+
+// One after the other.
+fn singly(file: &[u8], x: usize, e: usize, m: usize) -> Sum
+    requires { ⌜ (x ≤ e) × (e ≤ length (now file)) × (m ≤ 16) ⌝ }
+    ensures { λ r. ⌜ Adds (now (file .entry)) x e m (r .v) (r .next) ⌝ }
+{
+    let mut acc: u64 = 0;
+    let mut y = x;
+    let mut i: usize = 0;
+    while i < m {
+        let f = value_at(file, y, e);
+        acc += f.v;
+        y = f.next;
+        i += 1;
+    }
+    Sum { v: acc, next: y }
+}
+
+// Sixteen of the commonest shape: nothing is left to be asked of their bytes.
+fn lumped(file: &[u8], x: usize, e: usize) -> Sum
+    requires { ⌜ Alike (now file) x 16 × (x + 96 ≤ e) × (e ≤ length (now file)) ⌝ }
+    ensures { λ r. ⌜ Adds (now (file .entry)) x e 16 (r .v) (r .next) ⌝ }
+{
+    let mut acc: u64 = 0;
+    let mut y = x;
+    let mut i: usize = 0;
+    while i < 16 {
+        let z = y + 5;
+        acc += thousand(&file[y..z]);
+        y = z + 1;
+        i += 1;
+    }
+    Sum { v: acc, next: y }
+}
+
+// At most sixteen: in a lump where they are of the commonest shape. Where they are not, as many are read singly, so that a lump is not tried again at once.
+fn some(file: &[u8], x: usize, e: usize, m: usize) -> Sum
+    requires { ⌜ (x ≤ e) × (e ≤ length (now file)) × (m ≤ 16) ⌝ }
+    ensures { λ r. ⌜ Adds (now (file .entry)) x e m (r .v) (r .next) ⌝ }
+{
+    if m == 16 {
+        if 96 <= e - x {
+            if sixteen(file, x) {
+                return lumped(file, x, e);
+            }
+        }
+    }
+    singly(file, x, e, m)
+}
+
+// Sixteen, or fewer where fewer are left.
+fn step(left: usize) -> usize
+    requires { ⌜ 0 < left ⌝ }
+    ensures { λ r. ⌜ (0 < r) × (r ≤ left) × (r ≤ 16) ⌝ }
+{
+    if left < 16 {
+        return left;
+    }
+    16
+}
 
 // The values of the n fields from a on, added to a sum so far.
 fn add_values(file: &[u8], a: usize, e: usize, n: usize, before: u64) -> Number
@@ -21,14 +90,15 @@ fn add_values(file: &[u8], a: usize, e: usize, n: usize, before: u64) -> Number
     let mut x = a;
     let mut i: usize = 0;
     while i < n {
-        let f = value_at(file, x, e);
-        let v = f.v;
+        let m = step(n - i);
+        let s = some(file, x, e, m);
+        let v = s.v;
         if 18446744073709551615 - acc < v {
             return Number::Bad;
         }
         acc += v;
-        x = f.next;
-        i += 1;
+        x = s.next;
+        i += m;
     }
     Number::Is(acc)
 }
@@ -41,8 +111,7 @@ pub fn add_days(file: &[u8], start: usize, n: usize) -> Number
     let mut acc: u64 = 0;
     let mut at = start;
     loop {
-        let s = scan(file, at);
-        let e = s.end;
+        let e = line_end(file, at);
         if e == file.len() {
             return Number::Is(acc);
         }

@@ -1,6 +1,6 @@
 // The fields of a record one after the other, from a place of the file on: passed over, or stored as values.
 use record::pieces::field_at;
-use record::values::value_at;
+use values::value_at;
 ghost use mathlib.Core.Path.{_≡_};
 ghost use Prim.Native.Nat.{_≤_};
 ghost use lib.ListN.{length};

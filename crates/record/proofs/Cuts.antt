@@ -84,6 +84,20 @@ module _ {file : List ℕ} {fs : List (List ℕ)} {p i a e b x : ℕ} (s : Rest 
             rw m (s .place (suc j) g₁ ∙ k .place j g₂));
       }
 
+-- m fields further on
+pub rest-on : {file : List ℕ} {fs : List (List ℕ)} {p i a e m x : ℕ} → Rest file fs p i a e → Rest file (fields (part file a e)) a m x e → Rest file fs p (i + m) x e
+rest-on {file} {fs} {p} {i} {a} {e} {m} s t =
+    record {
+      ends = t .ends;
+      within = t .within;
+      same = λ j. (let k : i + m + j ≡ i + (m + j) = omega arith in rw k (s .same (m + j) ∙ t .same j));
+      place = λ j g.
+          (let k : i + m + j ≡ i + (m + j) = omega arith in
+          let g₁ : 0 < length (field (i + (m + j)) fs) = rw k at g in
+          let g₂ : 0 < length (field (m + j) (fields (part file a e))) = rw (s .same (m + j)) at g₁ in
+          rw k (s .place (m + j) g₁ ∙ t .place j g₂));
+    }
+
 -- what stands at the place where a field starts
 pub rest-first : {file : List ℕ} {fs : List (List ℕ)} {p i a e : ℕ} → Rest file fs p i a e → field 0 (fields (part file a e)) ≡ field i fs
 rest-first {file} {fs} {p} {i} s = sym (s .same 0) ∙ ap (λ (z : ℕ). field z fs) (add-zero i)

@@ -112,10 +112,9 @@ module _ (file : List ℕ) (x : ℕ) (room : x + 96 ≤ length file) (f : all2 a
       let digit : (r : ℕ) → r < 6 → getD low r 0 ≡ 48 → getD high r 0 ≡ 57 → isDigit (getD file (x + 6 * j + r) 0) ≡ true =
       λ r l p q. (let w = between j r h l in sym (digit-is _ (omega arith) (omega arith))) in
       let dot = between j 1 h (omega arith) in
-      let comma = between j 5 h (omega arith) in
-      (
+      let comma = between j 5 h (omega arith) in (
         shaped file (x + 6 * j) (omega arith) (digit 0 (omega arith) refl refl) (omega arith) (digit 2 (omega arith) refl refl) (digit 3 (omega arith) refl refl)
-        (digit 4 (omega arith) refl refl),
+            (digit 4 (omega arith) refl refl),
         omega arith,
       )
 

@@ -21,8 +21,8 @@ abbrev μ-loop : tie.MeasureT-loop
 loop-holds : tie.Need-loop-holds Inv-loop μ-loop
 loop-holds c = (omega arith, omega arith, zero-add _)
 
-scan-requires : tie.Need-scan-requires Inv-loop μ-loop
-scan-requires c κs = search needs
+line-end-requires : tie.Need-line-end-requires Inv-loop μ-loop
+line-end-requires c κs = search needs
 
 returns : tie.Need-returns Inv-loop μ-loop
 returns c = search days
@@ -34,7 +34,7 @@ returns-2 : tie.Need-returns-2 Inv-loop μ-loop
 returns-2 c = search days
 
 add-at : tie.Need-add-at Inv-loop μ-loop
-add-at c = let r : c .before .before .before .scan .result .end + 2 ≤ length (c .before .before .before .before .before .before .args .file .now) = search line-room in omega arith
+add-at c = let r : c .before .before .before .line-end .result + 2 ≤ length (c .before .before .before .before .before .before .args .file .now) = search line-room in omega arith
 
 skip-requires : tie.Need-skip-requires Inv-loop μ-loop
 skip-requires c κs = search needs
@@ -70,7 +70,7 @@ add-days-spec =
     Inv-loop
     μ-loop
     loop-holds
-    scan-requires
+    line-end-requires
     returns
     kind-at-requires
     returns-2

@@ -1,10 +1,10 @@
 -- `channel::add::add_values` meets its contract. Assumes nothing.
 use Prim.Native.Nat.{_+_, _≤_, _-_, _<_, _^_}
-use Rattle.channel.proofs.Sums.{sum-on, sum-over, sum-end}
+use Rattle.channel.proofs.Sums.{sum-on, sum-rest, sum-over, sum-end}
 use Rattle.day.specs.Places.{valuesFrom}
 use Rattle.format.specs.Cut.{fields}
 use Rattle.ground.specs.Lists.{part, sum}
-use Rattle.record.proofs.Cuts.{rest-whole, rest-next}
+use Rattle.record.proofs.Cuts.{rest-whole}
 use Rattle.record.specs.Places.{Rest}
 use borrow.Author.Needs.{needs}
 use mathlib.Core.Path.{_≡_}
@@ -22,8 +22,14 @@ abbrev μ-loop : tie.MeasureT-loop
 loop-holds : tie.Need-loop-holds Inv-loop μ-loop
 loop-holds c = (omega arith, omega arith, rest-whole _ _ _ (omega arith) (omega arith), rw sub-zero)
 
-value-at-requires : tie.Need-value-at-requires Inv-loop μ-loop
-value-at-requires c κs = search needs
+sub-step : tie.Need-sub-step Inv-loop μ-loop
+sub-step c = search needs
+
+step-requires : tie.Need-step-requires Inv-loop μ-loop
+step-requires c κs = search needs
+
+some-requires : tie.Need-some-requires Inv-loop μ-loop
+some-requires c κs = search needs
 
 sub-if1 : tie.Need-sub-if1 Inv-loop μ-loop
 sub-if1 c = search needs
@@ -41,7 +47,7 @@ loop-less : tie.Need-loop-less Inv-loop μ-loop
 loop-less c = search needs
 
 loop-again : tie.Need-loop-again Inv-loop μ-loop
-loop-again c = (omega arith, omega arith, search rest-next, search sum-on)
+loop-again c = (omega arith, omega arith, search sum-rest, search sum-on)
 
 returns-2 : tie.Need-returns-2 Inv-loop μ-loop
 returns-2 c = search sum-end
@@ -53,7 +59,9 @@ add-values-spec =
     Inv-loop
     μ-loop
     loop-holds
-    value-at-requires
+    sub-step
+    step-requires
+    some-requires
     sub-if1
     returns
     add-acc

@@ -1,12 +1,11 @@
+-- `values::lump::all_from` meets its contract. Assumes nothing.
+use Prim.Native.Nat.{_-_}
 use Rattle.values.proofs.Lumps.{pairs, Held2}
+use Rattle.values.specs.Lumps.{atLeast}
 use borrow.Author.Needs.{needs}
 use lib.ListN.{length}
-use Prim.Native.Nat.{_-_}
-use Rattle.values.specs.Lumps.{atLeast}
 use Rattle.values.proofs.lump.all_from.Statement.{statement}
 use Rattle.values.proofs.lump.all_from.Tie as tie
-use Rattle.values.proofs.lump.all_from.Reads as reads
-use Rattle.values.proofs.lump.all_from.Lts as lts
 
 abbrev Inv-loop : tie.InvT-loop
 Inv-loop s low ok₀ i₀ ok i = Held2 atLeast s low i ok
@@ -14,39 +13,30 @@ Inv-loop s low ok₀ i₀ ok i = Held2 atLeast s low i ok
 abbrev μ-loop : tie.MeasureT-loop
 μ-loop s low ok₀ i₀ ok i = length s - i
 
--- src/lump.rt:19:5
 loop-holds : tie.Need-loop-holds Inv-loop μ-loop
 loop-holds c = search pairs
 
--- src/lump.rt:20:17
 shared-slice-read-b : tie.Need-shared-slice-read-b Inv-loop μ-loop
 shared-slice-read-b c = search needs
 
--- src/lump.rt:21:17
 shared-slice-read-l : tie.Need-shared-slice-read-l Inv-loop μ-loop
 shared-slice-read-l c = search needs
 
--- src/lump.rt:22:9
 add-i : tie.Need-add-i Inv-loop μ-loop
 add-i c = search needs
 
--- src/lump.rt:19:5
 loop-less : tie.Need-loop-less Inv-loop μ-loop
 loop-less c = search needs
 
--- src/lump.rt:19:5
 loop-again : tie.Need-loop-again Inv-loop μ-loop
 loop-again c = search pairs
 
--- src/lump.rt:19:5
 loop-less-2 : tie.Need-loop-less-2 Inv-loop μ-loop
 loop-less-2 c = search needs
 
--- src/lump.rt:19:5
 loop-again-2 : tie.Need-loop-again-2 Inv-loop μ-loop
 loop-again-2 c = search pairs
 
--- src/lump.rt:13:1
 returns : tie.Need-returns Inv-loop μ-loop
 returns c = search pairs
 

@@ -1,0 +1,47 @@
+-- `channel::add::singly` meets its contract. Assumes nothing.
+use Prim.Native.Nat.{_-_}
+use Rattle.channel.proofs.Sums.{Adding, adding-none, adding-on, adding-end, adding-fits}
+use borrow.Author.Needs.{needs}
+use Rattle.channel.proofs.add.singly.Statement.{statement}
+use Rattle.channel.proofs.add.singly.Tie as tie
+
+abbrev Inv-loop : tie.InvT-loop
+Inv-loop file x e m acc₀ y₀ i₀ acc y i = Adding file x e m i acc y
+
+abbrev μ-loop : tie.MeasureT-loop
+μ-loop file x e m acc₀ y₀ i₀ acc y i = m - i
+
+loop-holds : tie.Need-loop-holds Inv-loop μ-loop
+loop-holds c = search adding-none
+
+value-at-requires : tie.Need-value-at-requires Inv-loop μ-loop
+value-at-requires c κs = search needs
+
+add-acc : tie.Need-add-acc Inv-loop μ-loop
+add-acc c = search adding-fits
+
+add-i : tie.Need-add-i Inv-loop μ-loop
+add-i c = search needs
+
+loop-less : tie.Need-loop-less Inv-loop μ-loop
+loop-less c = search needs
+
+loop-again : tie.Need-loop-again Inv-loop μ-loop
+loop-again c = search adding-on
+
+returns : tie.Need-returns Inv-loop μ-loop
+returns c = search adding-end
+
+pub singly-spec : {M : Type 1} → statement M
+singly-spec =
+    tie.close
+    (tie.spec
+    Inv-loop
+    μ-loop
+    loop-holds
+    value-at-requires
+    add-acc
+    add-i
+    loop-less
+    loop-again
+    returns)
