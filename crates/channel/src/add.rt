@@ -5,7 +5,7 @@ use record::lines::line_end;
 use record::says::kind_at;
 use values::lump::sixteen;
 use values::lump::thousand;
-use values::value_at;
+use values::short::value_in_pass;
 ghost use mathlib.Core.Path.{_≡_};
 ghost use Prim.Native.Nat.{_+_, _≤_, _<_};
 ghost use lib.ListN.{length};
@@ -30,7 +30,7 @@ fn singly(file: &[u8], x: usize, e: usize, m: usize) -> Sum
     let mut y = x;
     let mut i: usize = 0;
     while i < m {
-        let f = value_at(file, y, e);
+        let f = value_in_pass(file, y, e);
         acc += f.v;
         y = f.next;
         i += 1;

@@ -2,7 +2,7 @@
 use Prim.Native.Nat.{ℕ, _+_, _-_, _≤_, _<_, _^_}
 use mathlib.Core.Path.{_≡_, sym, _∙_, ap}
 use mathlib.Core.List.{List}
-use mathlib.Core.Bool.{true}
+use mathlib.Core.Bool.{Bool, true}
 use native.Mathlib.Omega.{arith}
 use lib.ListN.{length, getD, take, drop}
 use lib.Seq.{length-take-le}
@@ -11,6 +11,8 @@ use Rattle.ground.proofs.Spans.{span-le, part-length}
 use Rattle.format.specs.Cut.{fields, field}
 use Rattle.format.specs.Records.{millionths}
 use Rattle.format.proofs.Cut.{field-here}
+use Rattle.quick.specs.Shapes.{isThousandths}
+use Rattle.quick.proofs.Shapes.{thousandths-plain}
 use Rattle.record.specs.Places.{Cut}
 use Rattle.record.proofs.Cuts.{first-is, cut-more}
 use Rattle.record.proofs.Tried.{stops-comma, span-is}
@@ -32,6 +34,15 @@ module _ (file : List ℕ) (a e m : ℕ) (le : a ≤ e) (within : e ≤ length f
 
   pub comma-whole : Cut file a e (a + spanOf (other 44) (part file a e)) (a + m + 1)
   comma-whole = rw (← span-m) comma-cut
+
+-- o is what `thousandths` answers of the five bytes from a on, which a comma follows
+module _ (file : List ℕ) (a e : ℕ) (le : a ≤ e) (within : e ≤ length file) {o : Bool} (h : 5 < e - a) (c : getD file (a + 5) 0 ≡ 44)
+    (eo : o ≡ isThousandths (take (a + 5 - a) (drop a file))) (t : o ≡ true) where
+  pub five-value : {v : ℕ} → v ≡ millionths (take (a + 5 - a) (drop a file)) → v ≡ millionths (field 0 (fields (part file a e)))
+  five-value ev = ev ∙ ap millionths (comma-field file a e 5 le within h c (thousandths-plain _ (sym eo ∙ t)))
+
+  pub five-cut : Cut file a e (a + spanOf (other 44) (part file a e)) (a + 5 + 1)
+  five-cut = comma-whole file a e 5 le within h c (thousandths-plain _ (sym eo ∙ t))
 
 -- a value up to q, and a comma there
 pub complete-value : {file : List ℕ} {a e q v : ℕ} → Complete file a e q v → getD file q 0 ≡ 44 → ValueAt file a e v (q + 1)

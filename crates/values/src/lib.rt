@@ -3,9 +3,10 @@
 pub mod lump;
 pub mod short;
 
+use lump::thousand;
+use quick::thousandths;
 use record::pieces::field_at;
 use record::says::value_of;
-use short::short_at;
 ghost use mathlib.Core.Path.{_≡_};
 ghost use Prim.Native.Nat.{_+_, _≤_, _<_, _^_};
 ghost use lib.ListN.{length};
@@ -33,18 +34,23 @@ pub enum Taken {
     Not,
 }
 
-// The value at a, in a record that ends at e. A short one is read in one pass; any other by its end.
+// The value at a, in a record that ends at e. Its commonest shape, a digit, a point and three digits, is tried first: its end need not be looked for, and its
+// number needs no loop.
 pub fn value_at(file: &[u8], a: usize, e: usize) -> Valued
     requires { ⌜ (a ≤ e) × (e ≤ length (now file)) ⌝ }
     ensures is { λ r. ⌜ r .v ≡ millionths (field 0 (fields (part (now (file .entry)) a e))) ⌝ }
     ensures small { λ r. ⌜ r .v < 10 ^ 13 ⌝ }
     ensures cut { λ r. ⌜ Cut (now (file .entry)) a e (a + spanOf (other 44) (part (now (file .entry)) a e)) (r .next) ⌝ }
 {
-    if 8 <= e - a {
-        let t = short_at(file, a, e);
-        match t {
-            Taken::Value(v, next) => return Valued { v, next },
-            Taken::Not => {}
+    if 5 < e - a {
+        let z = a + 5;
+        if file[z] == 44 {
+            if thousandths(&file[a..z]) {
+                return Valued {
+                    v: thousand(&file[a..z]),
+                    next: z + 1,
+                };
+            }
         }
     }
     let p = field_at(file, a, e);

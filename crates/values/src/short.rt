@@ -2,10 +2,16 @@
 // tests and not in a loop, so that the compiler knows how many digits there are wherever it matters.
 use super::Digits;
 use super::Taken;
+use super::Valued;
+use super::value_at;
 use leaf::bytes::is_digit;
 ghost use mathlib.Core.Path.{_≡_};
 ghost use Prim.Native.Nat.{_+_, _-_, _*_, _≤_, _<_, _^_};
 ghost use lib.ListN.{length};
+ghost use Rattle.ground.specs.Lists.{spanOf, other, part};
+ghost use Rattle.format.specs.Cut.{fields, field};
+ghost use Rattle.format.specs.Records.{millionths};
+ghost use Rattle.record.specs.Places.{Cut};
 ghost use Rattle.values.specs.Shapes.{Whole, Pointed, Complete, Shown};
 
 // One digit more.
@@ -68,7 +74,7 @@ fn behind(file: &[u8], a: usize, e: usize, q: usize, d: Digits) -> Taken
 }
 
 // The value at a, if it is such a one.
-pub fn short_at(file: &[u8], a: usize, e: usize) -> Taken
+fn short_at(file: &[u8], a: usize, e: usize) -> Taken
     requires { ⌜ (a + 8 ≤ e) × (e ≤ length (now file)) ⌝ }
     ensures { λ r. ⌜ Shown (now (file .entry)) a e r ⌝ }
 {
@@ -89,4 +95,21 @@ pub fn short_at(file: &[u8], a: usize, e: usize) -> Taken
         return behind(file, a, e, q2, d2);
     }
     behind(file, a, e, q2 + 1, more(d2, b3))
+}
+
+// What `value_at` answers. A loop over values of many shapes asks this one, which the compiler writes into the loop; `value_at` stays out of it.
+pub fn value_in_pass(file: &[u8], a: usize, e: usize) -> Valued
+    requires { ⌜ (a ≤ e) × (e ≤ length (now file)) ⌝ }
+    ensures is { λ r. ⌜ r .v ≡ millionths (field 0 (fields (part (now (file .entry)) a e))) ⌝ }
+    ensures small { λ r. ⌜ r .v < 10 ^ 13 ⌝ }
+    ensures cut { λ r. ⌜ Cut (now (file .entry)) a e (a + spanOf (other 44) (part (now (file .entry)) a e)) (r .next) ⌝ }
+{
+    if a + 8 <= e {
+        let t = short_at(file, a, e);
+        match t {
+            Taken::Value(v, next) => return Valued { v, next },
+            Taken::Not => {}
+        }
+    }
+    value_at(file, a, e)
 }

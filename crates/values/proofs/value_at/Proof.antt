@@ -1,5 +1,5 @@
 -- `values::value_at` meets its contract. Assumes nothing.
-use Rattle.values.proofs.Fields.{taken-is, taken-small, taken-cut, cut-value, cut-whole}
+use Rattle.values.proofs.Fields.{five-value, five-cut, cut-value, cut-whole}
 use borrow.Author.Needs.{needs}
 use Rattle.values.proofs.value_at.Statement.{statement}
 use Rattle.values.proofs.value_at.Tie as tie
@@ -7,17 +7,41 @@ use Rattle.values.proofs.value_at.Tie as tie
 sub-if1 : tie.Need-sub-if1
 sub-if1 c = search needs
 
-short-at-requires : tie.Need-short-at-requires
-short-at-requires c κs = search needs
+add-z : tie.Need-add-z
+add-z c = search needs
 
-enum-known-t : tie.Need-enum-known-t
-enum-known-t c = search needs
+shared-slice-read-if2 : tie.Need-shared-slice-read-if2
+shared-slice-read-if2 c = search needs
+
+sub-thousandths : tie.Need-sub-thousandths
+sub-thousandths c = search needs
+
+part-thousandths-start : tie.Need-part-thousandths-start
+part-thousandths-start c = search needs
+
+part-thousandths-end : tie.Need-part-thousandths-end
+part-thousandths-end c = search needs
+
+thousandths-requires : tie.Need-thousandths-requires
+thousandths-requires c κs = search needs
+
+sub-thousand : tie.Need-sub-thousand
+sub-thousand c = search needs
+
+part-thousand-start : tie.Need-part-thousand-start
+part-thousand-start c = search needs
+
+part-thousand-end : tie.Need-part-thousand-end
+part-thousand-end c = search needs
+
+thousand-requires : tie.Need-thousand-requires
+thousand-requires c κs = cc
+
+add-t22 : tie.Need-add-t22
+add-t22 c = search needs
 
 returns : tie.Need-returns
-returns c = search (taken-is, taken-small, taken-cut)
-
-enum-told : tie.Need-enum-told
-enum-told c = search needs
+returns c = search (five-value, five-cut)
 
 field-at-requires : tie.Need-field-at-requires
 field-at-requires c κs = search needs
@@ -42,10 +66,18 @@ value-at-spec =
     tie.close
     (tie.spec
     sub-if1
-    short-at-requires
-    enum-known-t
+    add-z
+    shared-slice-read-if2
+    sub-thousandths
+    part-thousandths-start
+    part-thousandths-end
+    thousandths-requires
+    sub-thousand
+    part-thousand-start
+    part-thousand-end
+    thousand-requires
+    add-t22
     returns
-    enum-told
     field-at-requires
     sub-value-of
     part-value-of-start

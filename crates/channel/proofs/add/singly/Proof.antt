@@ -14,8 +14,8 @@ abbrev μ-loop : tie.MeasureT-loop
 loop-holds : tie.Need-loop-holds Inv-loop μ-loop
 loop-holds c = search adding-none
 
-value-at-requires : tie.Need-value-at-requires Inv-loop μ-loop
-value-at-requires c κs = search needs
+value-in-pass-requires : tie.Need-value-in-pass-requires Inv-loop μ-loop
+value-in-pass-requires c κs = search needs
 
 add-acc : tie.Need-add-acc Inv-loop μ-loop
 add-acc c = search adding-fits
@@ -39,7 +39,7 @@ singly-spec =
     Inv-loop
     μ-loop
     loop-holds
-    value-at-requires
+    value-in-pass-requires
     add-acc
     add-i
     loop-less
