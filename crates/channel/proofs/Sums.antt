@@ -118,9 +118,6 @@ module _ (file : List ℕ) (x e i acc y : ℕ) (l : Alike file x 16) (g : x + 96
       let pl : all (other 44) (part file y (y + 5)) ≡ true = thousandths-plain _ lump-shape in
       adding-on file x e 16 i acc y (y + 5) (y + 5 + 1) v h r (comma-cut file y e 5 le w rm c pl) (ev ∙ ap millionths (comma-field file y e 5 le w rm c pl)) sv
 
-pub lump-is : {file : List ℕ} {x e m v y : ℕ} → m ≡ 16 → Adds file x e 16 v y → Adds file x e m v y
-lump-is q r = rw q r
-
 -- ---- the values of one 300
 
 values-split : (m k i : ℕ) (fs : List (List ℕ)) → sum (valuesFrom (m + k) i fs) ≡ sum (valuesFrom m i fs) + sum (valuesFrom k (i + m) fs)
@@ -132,7 +129,7 @@ values-split (suc m) k i fs =
     rw (n, z) (omega (arith, values-split m k (suc i) fs))
 
 -- a turn, at field i: v is what the next m values come to, and `whole` the sum to come to
-module _ (file : List ℕ) (p n i a e m v y acc whole : ℕ) (fs : List (List ℕ)) (h : m ≤ n - i) (g : i < n) (s : Rest file fs p i a e) (d : Adds file a e m v y)
+module _ (file : List ℕ) (p n i a e m v y acc whole : ℕ) (fs : List (List ℕ)) (h : m ≤ n - i) (g : i ≤ n) (s : Rest file fs p i a e) (d : Adds file a e m v y)
     (inv : acc + sum (valuesFrom (n - i) i fs) ≡ whole) where
   pub sum-on : acc + v + sum (valuesFrom (n - (i + m)) (i + m) fs) ≡ whole
   sum-on =
@@ -148,13 +145,24 @@ module _ (file : List ℕ) (p n i a e m v y acc whole : ℕ) (fs : List (List �
   pub sum-over : 18446744073709551615 - acc < v → acc < 2 ^ 64 → Bad ≡ held whole
   sum-over o l = held-not whole (omega (arith, sum-on))
 
-pub sum-end : (n i acc whole : ℕ) (fs : List (List ℕ)) → n ≤ i → acc < 2 ^ 64 → acc + sum (valuesFrom (n - i) i fs) ≡ whole → Is acc ≡ held whole
+-- the last turn, over the n - i values that are left: r is what they come to with the sum before
+pub sum-end : (file : List ℕ) (p n i a e v y acc whole : ℕ) (fs : List (List ℕ)) {r : Number} → i ≤ n → Rest file fs p i a e → Adds file a e (n - i) v y
+    → acc + sum (valuesFrom (n - i) i fs) ≡ whole → r ≡ held (acc + v) → r ≡ held whole
 unfolding valuesFrom
-sum-end n i acc whole fs h l inv =
-    let m : n - i ≡ 0 = omega arith in
-    let t : sum (valuesFrom (n - i) i fs) ≡ 0 = rw m in
-    let q : acc ≡ whole = omega arith in
-    rw (← q) (held-is acc l)
+sum-end file p n i a e v y acc whole fs h s d inv er =
+    let k : i + (n - i) ≡ n = omega arith in
+    let m : n - (i + (n - i)) ≡ 0 = omega arith in
+    let t : sum (valuesFrom (n - (i + (n - i))) (i + (n - i)) fs) ≡ 0 = rw m in
+    let q : acc + v ≡ whole = omega (arith, sum-on file p n i a e (n - i) v y acc whole fs (omega arith) h s d inv) in
+    er ∙ ap held q
+
+-- a sum of two that was tested
+module _ (a b : ℕ) (l : a < 2 ^ 64) where
+  pub plus-not : 18446744073709551615 - a < b → Bad ≡ held (a + b)
+  plus-not h = held-not (a + b) (omega arith)
+
+  pub plus-is : b ≤ 18446744073709551615 - a → Is (a + b) ≡ held (a + b)
+  plus-is h = held-is (a + b) (omega arith)
 
 -- a field that is not there adds nothing
 nothing : millionths [] ≡ 0

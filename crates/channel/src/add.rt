@@ -55,33 +55,30 @@ fn lumped(file: &[u8], x: usize, e: usize) -> Sum
     Sum { v: acc, next: y }
 }
 
-// At most sixteen: in a lump where they are of the commonest shape. Where they are not, as many are read singly, so that a lump is not tried again at once.
-fn some(file: &[u8], x: usize, e: usize, m: usize) -> Sum
-    requires { ⌜ (x ≤ e) × (e ≤ length (now file)) × (m ≤ 16) ⌝ }
-    ensures { λ r. ⌜ Adds (now (file .entry)) x e m (r .v) (r .next) ⌝ }
+// Sixteen: in a lump where they are of the commonest shape. Where they are not, all of them are read singly, so that a lump is not tried again at once.
+fn many(file: &[u8], x: usize, e: usize) -> Sum
+    requires { ⌜ (x ≤ e) × (e ≤ length (now file)) ⌝ }
+    ensures { λ r. ⌜ Adds (now (file .entry)) x e 16 (r .v) (r .next) ⌝ }
 {
-    if m == 16 {
-        if 96 <= e - x {
-            if sixteen(file, x) {
-                return lumped(file, x, e);
-            }
+    if 96 <= e - x {
+        if sixteen(file, x) {
+            return lumped(file, x, e);
         }
     }
-    singly(file, x, e, m)
+    singly(file, x, e, 16)
 }
 
-// Sixteen, or fewer where fewer are left.
-fn step(left: usize) -> usize
-    requires { ⌜ 0 < left ⌝ }
-    ensures { λ r. ⌜ (0 < r) × (r ≤ left) × (r ≤ 16) ⌝ }
+// A sum, if 64 bits hold it.
+fn plus(a: u64, b: u64) -> Number
+    ensures { λ r. ⌜ r ≡ held (a + b) ⌝ }
 {
-    if left < 16 {
-        return left;
+    if 18446744073709551615 - a < b {
+        return Number::Bad;
     }
-    16
+    Number::Is(a + b)
 }
 
-// The values of the n fields from a on, added to a sum so far.
+// The values of the n fields from a on, added to a sum so far: sixteen by sixteen, then those that are left.
 fn add_values(file: &[u8], a: usize, e: usize, n: usize, before: u64) -> Number
     requires { ⌜ (a ≤ e) × (e ≤ length (now file)) ⌝ }
     ensures { λ r. ⌜ r ≡ held (before + sum (valuesFrom n 0 (fields (part (now (file .entry)) a e)))) ⌝ }
@@ -89,18 +86,18 @@ fn add_values(file: &[u8], a: usize, e: usize, n: usize, before: u64) -> Number
     let mut acc = before;
     let mut x = a;
     let mut i: usize = 0;
-    while i < n {
-        let m = step(n - i);
-        let s = some(file, x, e, m);
+    while 16 <= n - i {
+        let s = many(file, x, e);
         let v = s.v;
         if 18446744073709551615 - acc < v {
             return Number::Bad;
         }
         acc += v;
         x = s.next;
-        i += m;
+        i += 16;
     }
-    Number::Is(acc)
+    let t = singly(file, x, e, n - i);
+    plus(acc, t.v)
 }
 
 // The values of the days from a place on up to the next channel, n to a day.

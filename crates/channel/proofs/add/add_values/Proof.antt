@@ -22,14 +22,11 @@ abbrev μ-loop : tie.MeasureT-loop
 loop-holds : tie.Need-loop-holds Inv-loop μ-loop
 loop-holds c = (omega arith, omega arith, rest-whole _ _ _ (omega arith) (omega arith), rw sub-zero)
 
-sub-step : tie.Need-sub-step Inv-loop μ-loop
-sub-step c = search needs
+sub-loop : tie.Need-sub-loop Inv-loop μ-loop
+sub-loop c = search needs
 
-step-requires : tie.Need-step-requires Inv-loop μ-loop
-step-requires c κs = search needs
-
-some-requires : tie.Need-some-requires Inv-loop μ-loop
-some-requires c κs = search needs
+many-requires : tie.Need-many-requires Inv-loop μ-loop
+many-requires c κs = search needs
 
 sub-if1 : tie.Need-sub-if1 Inv-loop μ-loop
 sub-if1 c = search needs
@@ -49,6 +46,15 @@ loop-less c = search needs
 loop-again : tie.Need-loop-again Inv-loop μ-loop
 loop-again c = (omega arith, omega arith, search sum-rest, search sum-on)
 
+sub-singly : tie.Need-sub-singly Inv-loop μ-loop
+sub-singly c = search needs
+
+singly-requires : tie.Need-singly-requires Inv-loop μ-loop
+singly-requires c κs = (omega arith, omega arith, omega arith)
+
+plus-requires : tie.Need-plus-requires Inv-loop μ-loop
+plus-requires c κs = search needs
+
 returns-2 : tie.Need-returns-2 Inv-loop μ-loop
 returns-2 c = search sum-end
 
@@ -59,13 +65,15 @@ add-values-spec =
     Inv-loop
     μ-loop
     loop-holds
-    sub-step
-    step-requires
-    some-requires
+    sub-loop
+    many-requires
     sub-if1
     returns
     add-acc
     add-i
     loop-less
     loop-again
+    sub-singly
+    singly-requires
+    plus-requires
     returns-2)
