@@ -5,6 +5,7 @@ use record::lines::line_end;
 use record::says::kind_at;
 use values::lump::sixteen;
 use values::lump::thousand;
+use values::short::short_stop;
 use values::short::value_in_pass;
 ghost use mathlib.Core.Path.{_≡_};
 ghost use Prim.Native.Nat.{_+_, _≤_, _<_};
@@ -26,11 +27,12 @@ fn singly(file: &[u8], x: usize, e: usize, m: usize) -> Sum
     requires { ⌜ (x ≤ e) × (e ≤ length (now file)) × (m ≤ 16) ⌝ }
     ensures { λ r. ⌜ Adds (now (file .entry)) x e m (r .v) (r .next) ⌝ }
 {
+    let stop = short_stop(e);
     let mut acc: u64 = 0;
     let mut y = x;
     let mut i: usize = 0;
     while i < m {
-        let f = value_in_pass(file, y, e);
+        let f = value_in_pass(file, y, e, stop);
         acc += f.v;
         y = f.next;
         i += 1;

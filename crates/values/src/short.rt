@@ -97,14 +97,24 @@ fn short_at(file: &[u8], a: usize, e: usize) -> Taken
     behind(file, a, e, q2 + 1, more(d2, b3))
 }
 
+// The first place of which fewer than eight bytes are left of a record that ends at e. It is asked for once for all values of a record.
+pub fn short_stop(e: usize) -> usize
+    ensures { λ r. ⌜ r ≡ e - 7 ⌝ }
+{
+    if e < 7 {
+        return 0;
+    }
+    e - 7
+}
+
 // What `value_at` answers. A loop over values of many shapes asks this one, which the compiler writes into the loop; `value_at` stays out of it.
-pub fn value_in_pass(file: &[u8], a: usize, e: usize) -> Valued
-    requires { ⌜ (a ≤ e) × (e ≤ length (now file)) ⌝ }
+pub fn value_in_pass(file: &[u8], a: usize, e: usize, stop: usize) -> Valued
+    requires { ⌜ (a ≤ e) × (e ≤ length (now file)) × (stop ≡ e - 7) ⌝ }
     ensures is { λ r. ⌜ r .v ≡ millionths (field 0 (fields (part (now (file .entry)) a e))) ⌝ }
     ensures small { λ r. ⌜ r .v < 10 ^ 13 ⌝ }
     ensures cut { λ r. ⌜ Cut (now (file .entry)) a e (a + spanOf (other 44) (part (now (file .entry)) a e)) (r .next) ⌝ }
 {
-    if a + 8 <= e {
+    if a < stop {
         let t = short_at(file, a, e);
         match t {
             Taken::Value(v, next) => return Valued { v, next },

@@ -1,15 +1,19 @@
 -- `channel::add::singly` meets its contract. Assumes nothing.
 use Prim.Native.Nat.{_-_}
+use mathlib.Core.Path.{_≡_}
 use Rattle.channel.proofs.Sums.{Adding, adding-none, adding-on, adding-end, adding-fits}
 use borrow.Author.Needs.{needs}
 use Rattle.channel.proofs.add.singly.Statement.{statement}
 use Rattle.channel.proofs.add.singly.Tie as tie
 
 abbrev Inv-loop : tie.InvT-loop
-Inv-loop file x e m acc₀ y₀ i₀ acc y i = Adding file x e m i acc y
+Inv-loop file x e m stop acc₀ y₀ i₀ acc y i = Adding file x e m i acc y × (stop ≡ e - 7)
 
 abbrev μ-loop : tie.MeasureT-loop
-μ-loop file x e m acc₀ y₀ i₀ acc y i = m - i
+μ-loop file x e m stop acc₀ y₀ i₀ acc y i = m - i
+
+short-stop-requires : tie.Need-short-stop-requires Inv-loop μ-loop
+short-stop-requires c κs = search needs
 
 loop-holds : tie.Need-loop-holds Inv-loop μ-loop
 loop-holds c = search adding-none
@@ -38,6 +42,7 @@ singly-spec =
     (tie.spec
     Inv-loop
     μ-loop
+    short-stop-requires
     loop-holds
     value-in-pass-requires
     add-acc

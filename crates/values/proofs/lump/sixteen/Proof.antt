@@ -50,7 +50,7 @@ all-to-requires : tie.Need-all-to-requires
 all-to-requires c κs = search needs
 
 returns-4 : tie.Need-returns-4
-returns-4 c = search (alike, unlike)
+returns-4 c = search alike
 
 pub sixteen-spec : {M : Type 1} → statement M
 sixteen-spec =

@@ -1,14 +1,12 @@
 -- `values::short::value_in_pass` meets its contract. Assumes nothing.
 use Rattle.values.proofs.Fields.{taken-is, taken-small, taken-cut}
 use borrow.Author.Needs.{needs}
+use native.Mathlib.Omega.{arith}
 use Rattle.values.proofs.short.value_in_pass.Statement.{statement}
 use Rattle.values.proofs.short.value_in_pass.Tie as tie
 
-add-if1 : tie.Need-add-if1
-add-if1 c = search needs
-
 short-at-requires : tie.Need-short-at-requires
-short-at-requires c κs = search needs
+short-at-requires c κs = (omega arith, omega arith)
 
 enum-known-t : tie.Need-enum-known-t
 enum-known-t c = search needs
@@ -29,7 +27,6 @@ pub value-in-pass-spec : {M : Type 1} → statement M
 value-in-pass-spec =
     tie.close
     (tie.spec
-    add-if1
     short-at-requires
     enum-known-t
     returns
