@@ -3,10 +3,9 @@ use super::Channel;
 use super::ChannelStart;
 use day::fields::skip;
 use day::walk::intervals_of;
-use record::lines::scan;
-use record::pieces::field_at;
+use record::lines::line_end;
 use record::says::kind_at;
-use record::says::value_of;
+use values::value_at;
 ghost use mathlib.Core.Path.{_≡_};
 ghost use Prim.Native.Nat.{_≤_, _<_, _^_};
 ghost use lib.ListN.{length, drop};
@@ -23,9 +22,8 @@ fn quantity_of(file: &[u8], a: usize, e: usize) -> u64
     ensures small { λ r. ⌜ r < 10 ^ 13 ⌝ }
 {
     let x = skip(file, a, e, 18);
-    let f = field_at(file, x, e);
-    let b = f.to;
-    value_of(&file[x..b])
+    let f = value_at(file, x, e);
+    f.v
 }
 
 // The channel of a number from 0.
@@ -37,8 +35,7 @@ pub fn find_channel(file: &[u8], channel: usize, from: ChannelStart) -> Channel
     let mut at = from.at;
     let mut left = from.left;
     loop {
-        let s = scan(file, at);
-        let e = s.end;
+        let e = line_end(file, at);
         if e == file.len() {
             return Channel::Missing;
         }

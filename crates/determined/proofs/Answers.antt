@@ -1,8 +1,7 @@
 -- An answer is known from the paper's number and values: no two cases of an enum stand for the same. Assumes nothing.
-use mathlib.Core.Path.{_≡_, refl, ap}
+use mathlib.Core.Path.{_≡_, ap}
 use Prim.Native.Nat.{ℕ}
-use native.Mathlib.Omega.{arith}
-use Rattle.format.specs.Answers.{Answer, accepted, refused, refusedAs, checkedAs, dayReadAs, totalledAs, writtenAs}
+use Rattle.format.specs.Answers.{refusedAs, checkedAs, dayReadAs, totalledAs, writtenAs}
 use Rattle.format.specs.declared.Refusal.{Refusal}
 use Rattle.format.specs.declared.Checked.{Checked}
 use Rattle.format.specs.declared.Checked.the-variants as checked

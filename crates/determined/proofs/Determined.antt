@@ -2,15 +2,14 @@
 -- function, which the tool makes of the clauses in its source, so that a loosened contract is refused here. Assumes nothing.
 use mathlib.Core.Path.{_≡_, sym, ap, _∙_}
 use mathlib.Core.Logic.{_↔_}
-use mathlib.Core.List.{List, [], _∷_}
+use mathlib.Core.List.{[], _∷_}
 use Prim.Native.Nat.{ℕ}
 use contract.Lifetimes.{Lfts}
 use borrow.Fn.Kinds.{Dens, resT, endedOf}
 use denote.Triple.Clauses.{AtExit}
 use denote.Ref.{now}
-use Rattle.format.specs.Answers.{Answer, accepted, checkedAs}
+use Rattle.format.specs.Answers.{accepted, checkedAs}
 use Rattle.format.specs.Day.{Outcome}
-use Rattle.format.specs.File.{checkOf}
 use Rattle.theorems.specs.Grammar.{InFormat}
 use Rattle.theorems.proofs.Format.{format}
 use Rattle.reading.proofs.check.check.Kinds as check-kinds

@@ -4,7 +4,7 @@
 use Prim.Native.Nat.{ℕ, _+_, _-_}
 use mathlib.Core.List.{List, [], _∷_, _++_, map}
 use mathlib.Core.Bool.{Bool, cond, _&&_}
-use lib.ListN.{length, drop, getD, replicate}
+use lib.ListN.{length, drop, replicate}
 use lib.Dec.{leb, eqb}
 use Rattle.format.specs.Numbers.{numberIn, reasonOf}
 use Rattle.format.specs.Dates.{timeOf, loadOf}

@@ -2,7 +2,7 @@
 -- then a 900 and the end of the file. Under a 300 come its 400s, then any number of 500s. 400s stand only under a 300 of quality V (H)."
 -- And, in A day: "What may come next travels as one state, handed in and handed back at each record."
 use Prim.Native.Nat.{ℕ, _+_}
-use mathlib.Core.List.{List, []}
+use mathlib.Core.List.{List}
 use mathlib.Core.Bool.{Bool, true, false, cond, _&&_, _||_}
 use lib.Dec.{leb, eqb}
 use Rattle.format.specs.Quality.{flagIn, qualityOf, Mark, noMark, sameMark}

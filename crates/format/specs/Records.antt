@@ -1,7 +1,7 @@
 -- 01, Records, the table: for each kind of record its fields in their order, and with them how many they are; and what 01 reads off single fields.
-use Prim.Native.Nat.{ℕ, suc, _+_}
+use Prim.Native.Nat.{ℕ, _+_}
 use mathlib.Core.List.{List, [], _∷_, _++_, map}
-use mathlib.Core.Bool.{Bool, true, cond, not, _||_}
+use mathlib.Core.Bool.{Bool, true, cond, _||_}
 use lib.ListN.{length, getD, take, drop, replicate}
 use lib.Dec.{eqb}
 use Rattle.format.specs.Texts.{isNmi, isSuffix, isStream, isParty, isConfiguration, isRegister, isSerial, isUnit, isServiceOrder, isDescription, isDirection, isTransCode, versionOf}

@@ -15,9 +15,8 @@ use Rattle.format.specs.Cut.{lines, fields, startOf}
 use Rattle.format.specs.Records.{isKind, indicatorOf, kindIn, rowOf, countOf, ruleOf, obeys, versionIn, intervalsIn, dateIn, firstIn, lastIn, readTimeIn, qualitiesOf, markAt, agrees, firstBroken}
 use Rattle.format.specs.Order.{mayCome, isVaried, alikeWith, afterOf}
 use Rattle.format.specs.Faults.{isOpen, faultIn, brokenIn, isLate, covers, isOff, isAlike, onDay, isElsewhere, faultAt, faultOf}
-use Rattle.format.specs.Answers.{Answer, accepted, refused}
+use Rattle.format.specs.Answers.{accepted, refused}
 use Rattle.format.specs.File.{walkOf, checkOf}
-use Rattle.format.specs.declared.Number.{Number}
 use Rattle.format.specs.declared.Number.the-variants.{Is, Bad}
 use Rattle.format.specs.declared.Graded.{Graded}
 use Rattle.format.specs.declared.Graded.the-variants.{Of}

@@ -2,7 +2,7 @@
 -- "Reading calls give the file's own refusal first, then 14, then 15 or 17."
 use Prim.Native.Nat.{ℕ, _+_, _^_}
 use mathlib.Core.List.{List, [], _∷_}
-use mathlib.Core.Bool.{cond, _||_}
+use mathlib.Core.Bool.{cond}
 use lib.ListN.{drop}
 use lib.Dec.{ltb, eqb}
 use Rattle.ground.specs.Lists.{sum}

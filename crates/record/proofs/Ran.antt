@@ -1,5 +1,5 @@
 -- A 400 read in one go. Assumes nothing.
-use Prim.Native.Nat.{ℕ, _+_, _-_, _≤_, _<_}
+use Prim.Native.Nat.{ℕ, _+_, _-_, _<_}
 use mathlib.Core.Path.{_≡_, refl, sym, _∙_, ap}
 use mathlib.Core.List.{List}
 use mathlib.Core.Bool.{Bool, true, false, cond, not}
@@ -15,7 +15,7 @@ use Rattle.format.specs.Quality.{isGraded, flagIn, methodIn, qualityOf}
 use Rattle.format.specs.Texts.{isDescription}
 use Rattle.format.specs.Cut.{fields, field, startOf}
 use Rattle.format.specs.Records.{rowOf, countOf, ruleOf, obeys, firstIn, lastIn}
-use Rattle.format.specs.Day.{rowAt, tagAt}
+use Rattle.format.specs.Day.{tagAt}
 use Rattle.format.specs.declared.Number.{Number}
 use Rattle.format.specs.declared.Number.the-variants.{Is, Bad}
 use Rattle.format.specs.declared.Graded.{Graded}

@@ -1,13 +1,13 @@
 -- One field held to its rule: bytes without a comma, with a comma or the record's end behind them, are a field. Assumes nothing.
 use Prim.Native.Nat.{ℕ, _+_, _-_, _≤_, _<_}
-use mathlib.Core.Path.{_≡_, refl, sym, _∙_, ap}
+use mathlib.Core.Path.{_≡_, refl, sym, _∙_}
 use mathlib.Core.List.{List, [], _∷_}
-use mathlib.Core.Bool.{Bool, true, false, cond, _&&_, _||_, false≢true}
+use mathlib.Core.Bool.{Bool, true, false, cond}
 use native.Mathlib.Nat.{add-zero}
 use native.Mathlib.Omega.{arith}
 use lib.ListN.{length, getD, take, drop}
 use lib.Seq.{getD-take, getD-drop}
-use lib.Dec.{eqb, leb}
+use lib.Dec.{eqb}
 use borrow.Author.Tests.{eqb-true, eq-eqb, le-leb}
 use Rattle.ground.specs.Lists.{all, spanOf, other, part, same}
 use Rattle.ground.specs.Digits.{isDigit}
@@ -20,7 +20,7 @@ use Rattle.format.specs.Bytes.{isAlnum, isLetter, isCapital, areAll, isText, en
 use Rattle.format.specs.Texts.{isNmi, isSuffix, isStream, isDescription, isDirection}
 use Rattle.format.specs.Numbers.{isNumber, orEmpty, reasonOf}
 use Rattle.format.specs.Dates.{dateOf, timeOf, nextReadOf, loadOf}
-use Rattle.format.specs.Quality.{isGraded, standsAlone, qualityOf}
+use Rattle.format.specs.Quality.{standsAlone, qualityOf}
 use Rattle.format.specs.Cut.{fields, field}
 use Rattle.format.specs.Records.{obeys}
 use Rattle.format.specs.declared.Rule.{Rule}

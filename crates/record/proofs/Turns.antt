@@ -6,15 +6,14 @@ use mathlib.Core.List.{List}
 use mathlib.Core.Bool.{Bool, true, false, cond, _&&_, false≢true}
 use native.Mathlib.Omega.{arith}
 use native.Mathlib.Decide.{decLt}
-use lib.ListN.{length, getD, take, drop, drop-of-length-le, length-drop}
-use lib.Seq.{length-take-le, getD-take, getD-drop}
+use lib.ListN.{length, getD, drop, drop-of-length-le}
+use lib.Seq.{length-take-le}
 use lib.Dec.{eqb, leb}
-use borrow.Author.Tests.{eqb-true, eqb-false, leb-true, not-true, not-false}
+use borrow.Author.Tests.{eqb-true, eqb-false, leb-true}
 use Rattle.ground.specs.Lists.{all, spanOf, other, part}
 use Rattle.ground.specs.Digits.{isDigit}
 use Rattle.ground.proofs.Tests.{and-true}
-use Rattle.ground.proofs.Spans.{span-le, span-block, part-length, part-cut, part-take}
-use Rattle.ground.proofs.Prefix.{prefix-most}
+use Rattle.ground.proofs.Spans.{span-le, part-length}
 use Rattle.format.specs.Bytes.{areAll}
 use Rattle.format.specs.Numbers.{numberIn, that, numberOf}
 use Rattle.format.specs.Cut.{fields, field, startOf}
@@ -30,7 +29,7 @@ use Rattle.record.specs.declared.Held.{Held}
 use Rattle.record.specs.declared.Held.the-variants.{To}
 use Rattle.record.specs.declared.Held.the-variants as held
 use Rattle.record.specs.declared.Spot.{Spot}
-use Rattle.record.proofs.Cuts.{first-is, rest-at, rest-first}
+use Rattle.record.proofs.Cuts.{rest-at, rest-first}
 use Rattle.record.proofs.Rows.{count-300, rule-is, row-value}
 
 -- ---- the fields before i meet their rules

@@ -1,13 +1,13 @@
 -- Sixteen values at once: the loops that compare two lists byte by byte, and what two such comparisons say of the values. Assumes nothing.
 use Prim.Native.Nat.{ℕ, zero, suc, _+_, _-_, _*_, _≤_, _<_}
-use mathlib.Core.Path.{_≡_, refl, sym, _∙_, ap}
-use mathlib.Core.List.{List, [], _∷_, _++_}
+use mathlib.Core.Path.{_≡_, refl, sym, _∙_}
+use mathlib.Core.List.{List, [], _∷_}
 use mathlib.Core.Bool.{Bool, true, false, not, _&&_, false≢true}
 use native.Mathlib.Omega.{arith}
 use lib.ListN.{length, getD, take, drop, drop-of-length-le, length-append, List·getD-append}
 use lib.Seq.{getD-take, getD-drop, getD-append-add}
 use lib.Dec.{leb}
-use borrow.Author.Tests.{eq-eqb, le-leb, lt-leb, leb-true, not-true, not-false}
+use borrow.Author.Tests.{eq-eqb, le-leb, lt-leb, leb-true, not-false}
 use Rattle.ground.specs.Lists.{part}
 use Rattle.ground.specs.Digits.{isDigit}
 use Rattle.ground.proofs.Tests.{and-true, and-false}
@@ -17,45 +17,45 @@ use Rattle.ground.proofs.Spans.{part-length}
 use Rattle.format.specs.Records.{millionths}
 use Rattle.quick.specs.Shapes.{isThousandths}
 use Rattle.quick.proofs.Shapes.{thousandths-number}
-use Rattle.values.specs.Lumps.{all2, atLeast, atMost, again, Alike}
+use Rattle.values.specs.Lumps.{noLess, again, Alike}
 
 -- ---- two lists, byte by byte
 
--- `ok` says whether the bytes before i pass
-pub record Held2 (p : ℕ → ℕ → Bool) (s t : List ℕ) (i : ℕ) (ok : Bool) : Type 0 where
+-- `ok` says whether no byte before i is less
+pub record Held (s t : List ℕ) (i : ℕ) (ok : Bool) : Type 0 where
   pub within : i ≤ length s
   pub long : length s ≡ length t
-  pub same : ok && all2 p (drop i s) (drop i t) ≡ all2 p s t
+  pub same : ok && noLess (drop i s) (drop i t) ≡ noLess s t
 
 and-all : (b : Bool) → b && true ≡ b
 and-all true = refl
 and-all false = refl
 
-module _ (p : ℕ → ℕ → Bool) (s t : List ℕ) where
-  pub held2-none : length s ≡ length t → Held2 p s t 0 true
-  held2-none e = record { within = omega arith; long = e; same = refl }
+module _ (s t : List ℕ) where
+  pub held-none : length s ≡ length t → Held s t 0 true
+  held-none e = record { within = omega arith; long = e; same = refl }
 
-  module _ (i : ℕ) (ok : Bool) (h : i < length s) (r : Held2 p s t i ok) where
-    both : all2 p (drop i s) (drop i t) ≡ p (getD s i 0) (getD t i 0) && all2 p (drop (i + 1) s) (drop (i + 1) t)
+  module _ (i : ℕ) (ok : Bool) (h : i < length s) (r : Held s t i ok) where
+    both : noLess (drop i s) (drop i t) ≡ leb (getD t i 0) (getD s i 0) && noLess (drop (i + 1) s) (drop (i + 1) t)
     both = let k : i < length t = omega (arith, r .long) in rw (rest s i h, rest t i k)
 
-    pub held2-on : p (getD s i 0) (getD t i 0) ≡ true → Held2 p s t (i + 1) ok
-    held2-on e = record { within = omega arith; long = r .long; same = rw (both, e) at (r .same) }
+    pub held-on : getD t i 0 ≤ getD s i 0 → Held s t (i + 1) ok
+    held-on e = record { within = omega arith; long = r .long; same = rw (both, le-leb _ _ e) at (r .same) }
 
-    pub held2-off : p (getD s i 0) (getD t i 0) ≡ false → Held2 p s t (i + 1) false
-    held2-off e = record { within = omega arith; long = r .long; same = rw (both, e, and-false) at (r .same) }
+    pub held-off : getD s i 0 < getD t i 0 → Held s t (i + 1) false
+    held-off e = record { within = omega arith; long = r .long; same = rw (both, lt-leb _ _ e, and-false) at (r .same) }
 
-  pub held2-end : (i : ℕ) (ok : Bool) → length s ≤ i → Held2 p s t i ok → ok ≡ all2 p s t
-  held2-end i ok h r = rw (drop-of-length-le s h, and-all) at (r .same)
+  pub held-end : (i : ℕ) (ok : Bool) → length s ≤ i → Held s t i ok → ok ≡ noLess s t
+  held-end i ok h r = rw (drop-of-length-le s h, and-all) at (r .same)
 
-pub ruleset pairs = (held2-none, held2-on, held2-off, held2-end, le-leb, lt-leb)
+pub ruleset pairs = (held-none, held-on, held-off, held-end)
 
--- each byte, then, passes against the one at its place
-all2-at : (p : ℕ → ℕ → Bool) (s t : List ℕ) → all2 p s t ≡ true → (i : ℕ) → i < length s → i < length t → p (getD s i 0) (getD t i 0) ≡ true
-all2-at p [] t h i l m = absurd (let z : ⊥ = omega arith in z)
-all2-at p (b ∷ s) [] h i l m = absurd (let z : ⊥ = omega arith in z)
-all2-at p (b ∷ s) (c ∷ t) h zero l m = and-true (p b c) (all2 p s t) h .0
-all2-at p (b ∷ s) (c ∷ t) h (suc i) l m = all2-at p s t (and-true (p b c) (all2 p s t) h .1) i (omega arith) (omega arith)
+-- each byte, then, is at least the one at its place
+no-less-at : (s t : List ℕ) → noLess s t ≡ true → (i : ℕ) → i < length s → i < length t → getD t i 0 ≤ getD s i 0
+no-less-at [] t h i l m = absurd (let z : ⊥ = omega arith in z)
+no-less-at (b ∷ s) [] h i l m = absurd (let z : ⊥ = omega arith in z)
+no-less-at (b ∷ s) (c ∷ t) h zero l m = leb-true c b (and-true (leb c b) (noLess s t) h .0)
+no-less-at (b ∷ s) (c ∷ t) h (suc i) l m = no-less-at s t (and-true (leb c b) (noLess s t) h .1) i (omega arith) (omega arith)
 
 -- ---- a list of six, k times
 
@@ -91,8 +91,8 @@ shaped file y h a b c d e =
     let at : (r : ℕ) → r < 5 → getD (part file y (y + 5)) r 0 ≡ getD file (y + r) 0 = λ r k. rw (n, getD-take 5 (drop y file) r 0 k, getD-drop) in
     rw (eq-eqb _ _ l, at 0 (omega arith), at 1 (omega arith), at 2 (omega arith), at 3 (omega arith), at 4 (omega arith), eq-eqb _ _ b, a, c, d, e)
 
-module _ (file : List ℕ) (x : ℕ) (room : x + 96 ≤ length file) (f : all2 atLeast (part file x (x + 96)) (again 16 low) ≡ true)
-    (g : all2 atMost (part file x (x + 96)) (again 16 high) ≡ true) where
+module _ (file : List ℕ) (x : ℕ) (room : x + 96 ≤ length file) (f : noLess (part file x (x + 96)) (again 16 low) ≡ true)
+    (g : noLess (again 16 high) (part file x (x + 96)) ≡ true) where
   byte : (i : ℕ) → i < 96 → getD (part file x (x + 96)) i 0 ≡ getD file (x + i) 0
   byte i h = let n : x + 96 - x ≡ 96 = omega arith in rw (n, getD-take 96 (drop x file) i 0 h, getD-drop)
 
@@ -101,11 +101,11 @@ module _ (file : List ℕ) (x : ℕ) (room : x + 96 ≤ length file) (f : all2 a
       let i : ℕ = 6 * j + r in
       let n : x + 6 * j + r ≡ x + i = omega arith in
       let m : length (part file x (x + 96)) ≡ 96 = part-length file x (x + 96) room ∙ omega arith in
-      let a = all2-at atLeast (part file x (x + 96)) (again 16 low) f i (omega arith) (omega (arith, again-long 16 low refl)) in
-      let b = all2-at atMost (part file x (x + 96)) (again 16 high) g i (omega arith) (omega (arith, again-long 16 high refl)) in
-      let a₁ : leb (getD low r 0) (getD file (x + i) 0) ≡ true = rw (byte i (omega arith), again-at 16 j r low refl l h) at a in
-      let b₁ : leb (getD file (x + i) 0) (getD high r 0) ≡ true = rw (byte i (omega arith), again-at 16 j r high refl l h) at b in
-      rw n (leb-true _ _ a₁, leb-true _ _ b₁)
+      let a = no-less-at (part file x (x + 96)) (again 16 low) f i (omega arith) (omega (arith, again-long 16 low refl)) in
+      let b = no-less-at (again 16 high) (part file x (x + 96)) g i (omega (arith, again-long 16 high refl)) (omega arith) in
+      let a₁ : getD low r 0 ≤ getD file (x + i) 0 = rw (byte i (omega arith), again-at 16 j r low refl l h) at a in
+      let b₁ : getD file (x + i) 0 ≤ getD high r 0 = rw (byte i (omega arith), again-at 16 j r high refl l h) at b in
+      rw n (a₁, b₁)
 
   all-alike : Alike file x 16
   all-alike j h =
@@ -122,8 +122,8 @@ module _ (file : List ℕ) (x : ℕ) (room : x + 96 ≤ length file) (f : all2 a
 pub unlike : {P : Type 0} → false ≡ true → P
 unlike e = absurd (false≢true e)
 
-pub alike : (file : List ℕ) (x : ℕ) {b c : Bool} → x + 96 ≤ length file → b ≡ all2 atLeast (take (x + 96 - x) (drop x file)) (again 16 low) → not b ≡ false
-    → c ≡ all2 atMost (take (x + 96 - x) (drop x file)) (again 16 high) → c ≡ true → Alike file x 16
+pub alike : (file : List ℕ) (x : ℕ) {b c : Bool} → x + 96 ≤ length file → b ≡ noLess (take (x + 96 - x) (drop x file)) (again 16 low) → not b ≡ false
+    → c ≡ noLess (again 16 high) (take (x + 96 - x) (drop x file)) → c ≡ true → Alike file x 16
 alike file x {b} h e n f t = all-alike file x h (sym e ∙ not-false b n) (sym f ∙ t)
 
 -- the number of such a value

@@ -8,17 +8,11 @@ use lib.Dec.{leb}
 use Rattle.ground.specs.Lists.{part}
 use Rattle.quick.specs.Shapes.{isThousandths}
 
--- every byte of a list passes a test against the byte of another list at its place
-abbrev pub all2 : (ℕ → ℕ → Bool) → List ℕ → List ℕ → Bool
-all2 p [] t = true
-all2 p (b ∷ s) [] = true
-all2 p (b ∷ s) (l ∷ t) = p b l && all2 p s t
-
-abbrev pub atLeast : ℕ → ℕ → Bool
-atLeast b l = leb l b
-
-abbrev pub atMost : ℕ → ℕ → Bool
-atMost b h = leb b h
+-- every byte of a list is at least the byte of another list at its place
+abbrev pub noLess : List ℕ → List ℕ → Bool
+noLess [] t = true
+noLess (b ∷ s) [] = true
+noLess (b ∷ s) (c ∷ t) = leb c b && noLess s t
 
 -- a list k times
 abbrev pub again : ℕ → List ℕ → List ℕ

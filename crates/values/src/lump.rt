@@ -7,38 +7,20 @@ ghost use lib.ListN.{length};
 ghost use Rattle.ground.specs.Lists.{part};
 ghost use Rattle.format.specs.Records.{millionths};
 ghost use Rattle.quick.specs.Shapes.{isThousandths};
-ghost use Rattle.values.specs.Lumps.{all2, atLeast, atMost, Alike};
+ghost use Rattle.values.specs.Lumps.{noLess, Alike};
 
-// Each byte of s is at least the byte of low at its place.
-fn all_from(s: &[u8], low: &[u8]) -> bool
-    requires { ⌜ length (now s) ≡ length (now low) ⌝ }
-    ensures { λ r. ⌜ r ≡ all2 atLeast (now (s .entry)) (now (low .entry)) ⌝ }
+// Each byte of s is at least the byte of t at its place.
+fn no_less(s: &[u8], t: &[u8]) -> bool
+    requires { ⌜ length (now s) ≡ length (now t) ⌝ }
+    ensures { λ r. ⌜ r ≡ noLess (now (s .entry)) (now (t .entry)) ⌝ }
 {
     let mut ok = true;
     let mut i: usize = 0;
     while i < s.len() {
         let b = s[i];
-        let l = low[i];
+        let c = t[i];
         i += 1;
-        if b < l {
-            ok = false;
-        }
-    }
-    ok
-}
-
-// Each byte of s is at most the byte of high at its place.
-fn all_to(s: &[u8], high: &[u8]) -> bool
-    requires { ⌜ length (now s) ≡ length (now high) ⌝ }
-    ensures { λ r. ⌜ r ≡ all2 atMost (now (s .entry)) (now (high .entry)) ⌝ }
-{
-    let mut ok = true;
-    let mut i: usize = 0;
-    while i < s.len() {
-        let b = s[i];
-        let h = high[i];
-        i += 1;
-        if h < b {
+        if b < c {
             ok = false;
         }
     }
@@ -58,15 +40,15 @@ pub fn sixteen(file: &[u8], x: usize) -> bool
     }
     let z = x + 96;
     let s = &file[x..z];
-    if !all_from(
+    if !no_less(
         s,
         b"0.000,0.000,0.000,0.000,0.000,0.000,0.000,0.000,0.000,0.000,0.000,0.000,0.000,0.000,0.000,0.000,",
     ) {
         return false;
     }
-    all_to(
-        s,
+    no_less(
         b"9.999,9.999,9.999,9.999,9.999,9.999,9.999,9.999,9.999,9.999,9.999,9.999,9.999,9.999,9.999,9.999,",
+        s,
     )
 }
 

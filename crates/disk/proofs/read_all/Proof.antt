@@ -1,7 +1,6 @@
 use mathlib.Core.Path.{_≡_}
-use Prim.Native.Nat.{_-_, _+_, _≤_}
-use lib.ListN.{length, length-take, length-set}
-use native.Mathlib.Omega.{arith}
+use Prim.Native.Nat.{_-_}
+use lib.ListN.{length}
 use borrow.Author.Needs.{needs}
 use Rattle.disk.proofs.read_all.Statement.{statement}
 use Rattle.disk.proofs.read_all.Tie as tie

@@ -1,5 +1,4 @@
 -- `examples::main` meets its contract. Assumes nothing.
-use borrow.Author.Needs.{needs}
 use Rattle.page.proofs.Long.{long}
 use Rattle.examples.proofs.main.Statement.{statement}
 use Rattle.examples.proofs.main.Tie as tie

@@ -1,4 +1,4 @@
-use Rattle.page.proofs.Answered.{line-accepted, line-refused}
+use Rattle.page.proofs.Answered.{line-accepted}
 use borrow.Author.Needs.{needs}
 use Rattle.page.proofs.answers.accepted.Statement.{statement}
 use Rattle.page.proofs.answers.accepted.Tie as tie

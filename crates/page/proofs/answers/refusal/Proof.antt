@@ -1,4 +1,4 @@
-use Rattle.page.proofs.Answered.{line-accepted, line-refused}
+use Rattle.page.proofs.Answered.{line-refused}
 use borrow.Author.Needs.{needs}
 use Rattle.page.proofs.answers.refusal.Statement.{statement}
 use Rattle.page.proofs.answers.refusal.Tie as tie

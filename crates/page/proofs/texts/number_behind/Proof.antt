@@ -1,4 +1,4 @@
-use Rattle.page.proofs.Filling.{filled-none, filled-whole, filled-part, filled-then, filled-sign, filled-front, front-within, front-long, part-room, dec-room, value-room}
+use Rattle.page.proofs.Filling.{filled-sign}
 use borrow.Author.Needs.{needs}
 use Rattle.page.proofs.texts.number_behind.Statement.{statement}
 use Rattle.page.proofs.texts.number_behind.Tie as tie

@@ -1,7 +1,6 @@
 use native.Mathlib.Omega.{arith}
 use lib.ListN.{length-take}
-use Rattle.page.proofs.Filling.{filled-none, filled-whole, filled-part, filled-then, filled-sign, filled-front, front-within, front-long, part-room, dec-room, value-room}
-use Rattle.ground.proofs.Lists.{part-long}
+use Rattle.page.proofs.Filling.{filled-none, filled-whole, filled-part, part-room}
 use borrow.Author.Needs.{needs}
 use Rattle.page.proofs.texts.put.Statement.{statement}
 use Rattle.page.proofs.texts.put.Tie as tie

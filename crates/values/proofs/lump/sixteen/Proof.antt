@@ -34,20 +34,20 @@ part-s-start c = search needs
 part-s-end : tie.Need-part-s-end
 part-s-end c = search needs
 
-slice-aggregate-all-from : tie.Need-slice-aggregate-all-from
-slice-aggregate-all-from c = search needs
+slice-aggregate-no-less : tie.Need-slice-aggregate-no-less
+slice-aggregate-no-less c = search needs
 
-all-from-requires : tie.Need-all-from-requires
-all-from-requires c κs = search needs
+no-less-requires : tie.Need-no-less-requires
+no-less-requires c κs = search needs
 
 returns-3 : tie.Need-returns-3
 returns-3 c = λ t. unlike t
 
-slice-aggregate-all-to : tie.Need-slice-aggregate-all-to
-slice-aggregate-all-to c = search needs
+slice-aggregate-no-less-2 : tie.Need-slice-aggregate-no-less-2
+slice-aggregate-no-less-2 c = search needs
 
-all-to-requires : tie.Need-all-to-requires
-all-to-requires c κs = search needs
+no-less-requires-2 : tie.Need-no-less-requires-2
+no-less-requires-2 c κs = search needs
 
 returns-4 : tie.Need-returns-4
 returns-4 c = search alike
@@ -66,9 +66,9 @@ sixteen-spec =
     sub-s
     part-s-start
     part-s-end
-    slice-aggregate-all-from
-    all-from-requires
+    slice-aggregate-no-less
+    no-less-requires
     returns-3
-    slice-aggregate-all-to
-    all-to-requires
+    slice-aggregate-no-less-2
+    no-less-requires-2
     returns-4)

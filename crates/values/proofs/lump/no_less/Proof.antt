@@ -1,17 +1,16 @@
--- `values::lump::all_to` meets its contract. Assumes nothing.
+-- `values::lump::no_less` meets its contract. Assumes nothing.
 use Prim.Native.Nat.{_-_}
-use Rattle.values.proofs.Lumps.{pairs, Held2}
-use Rattle.values.specs.Lumps.{atMost}
+use Rattle.values.proofs.Lumps.{pairs, Held}
 use borrow.Author.Needs.{needs}
 use lib.ListN.{length}
-use Rattle.values.proofs.lump.all_to.Statement.{statement}
-use Rattle.values.proofs.lump.all_to.Tie as tie
+use Rattle.values.proofs.lump.no_less.Statement.{statement}
+use Rattle.values.proofs.lump.no_less.Tie as tie
 
 abbrev Inv-loop : tie.InvT-loop
-Inv-loop s high ok₀ i₀ ok i = Held2 atMost s high i ok
+Inv-loop s t ok₀ i₀ ok i = Held s t i ok
 
 abbrev μ-loop : tie.MeasureT-loop
-μ-loop s high ok₀ i₀ ok i = length s - i
+μ-loop s t ok₀ i₀ ok i = length s - i
 
 loop-holds : tie.Need-loop-holds Inv-loop μ-loop
 loop-holds c = search pairs
@@ -19,8 +18,8 @@ loop-holds c = search pairs
 shared-slice-read-b : tie.Need-shared-slice-read-b Inv-loop μ-loop
 shared-slice-read-b c = search needs
 
-shared-slice-read-h : tie.Need-shared-slice-read-h Inv-loop μ-loop
-shared-slice-read-h c = search needs
+shared-slice-read-c : tie.Need-shared-slice-read-c Inv-loop μ-loop
+shared-slice-read-c c = search needs
 
 add-i : tie.Need-add-i Inv-loop μ-loop
 add-i c = search needs
@@ -40,15 +39,15 @@ loop-again-2 c = search pairs
 returns : tie.Need-returns Inv-loop μ-loop
 returns c = search pairs
 
-pub all-to-spec : {M : Type 1} → statement M
-all-to-spec =
+pub no-less-spec : {M : Type 1} → statement M
+no-less-spec =
     tie.close
     (tie.spec
     Inv-loop
     μ-loop
     loop-holds
     shared-slice-read-b
-    shared-slice-read-h
+    shared-slice-read-c
     add-i
     loop-less
     loop-again
