@@ -245,7 +245,7 @@ by-rule e f = rw (← f) e
 
 -- ---- no comma
 
-digits-of : (p : ℕ → Bool) (k : ℕ) (s : List ℕ) → isNumber (that p (numberOf k k s)) ≡ true → all isDigit s ≡ true
+pub digits-of : (p : ℕ → Bool) (k : ℕ) (s : List ℕ) → isNumber (that p (numberOf k k s)) ≡ true → all isDigit s ≡ true
 digits-of p k s t = one (numberOf k k s) refl t
   where
     one : (n : Number) → numberOf k k s ≡ n → isNumber (that p n) ≡ true → all isDigit s ≡ true

@@ -4,3 +4,4 @@ pub mod Bytes
 pub mod Shapes
 pub mod RegisterReads
 pub mod CommonDates
+pub mod Indicators

@@ -1,5 +1,6 @@
 // Fast answers to the rules that are asked most often. Each has the contract of the simple rule and needs no number, only whether there is one.
 pub mod dates;
+pub mod kinds;
 
 use format::Number;
 use leaf::Class;

@@ -22,7 +22,7 @@ use Rattle.format.specs.Numbers.{isNumber, orEmpty, reasonOf}
 use Rattle.format.specs.Dates.{dateOf, timeOf, nextReadOf, loadOf}
 use Rattle.format.specs.Quality.{standsAlone, qualityOf}
 use Rattle.format.specs.Cut.{fields, field}
-use Rattle.format.specs.Records.{obeys}
+use Rattle.format.specs.Records.{indicatorOf, kindIn, obeys}
 use Rattle.format.specs.declared.Rule.{Rule}
 use Rattle.format.specs.declared.Rule.the-variants as rule
 use Rattle.format.specs.declared.Number.{Number}
@@ -32,10 +32,12 @@ use Rattle.quick.specs.Shapes.{isThousandths}
 use Rattle.quick.proofs.Shapes.{thousandths-value, thousandths-plain}
 use Rattle.quick.proofs.Bytes.{holds-none}
 use Rattle.quick.proofs.CommonDates.{date-plain, time-plain}
+use Rattle.quick.proofs.Indicators.{indicator-plain}
 use Rattle.record.specs.Walk.{Stops, Ended, heldOf}
 use Rattle.record.specs.declared.Held.{Held}
 use Rattle.record.specs.declared.Held.the-variants.{To, Broken}
-use Rattle.record.proofs.Cuts.{first-is}
+use Rattle.record.specs.Places.{Cut}
+use Rattle.record.proofs.Cuts.{first-is, cut-more}
 
 alnum-plain : (f : List ℕ) → all isAlnum f ≡ true → all (other 44) f ≡ true
 unfolding isAlnum isDigit isLetter isCapital
@@ -195,3 +197,29 @@ module _ (file : List ℕ) (a e : ℕ) (le : a ≤ e) (within : e ≤ length fil
       let q : isThousandths (part file a (a + 5)) ≡ true = sym eo ∙ t in
       held-ended 300 rule.Value a (part file a e) (a + 5)
       (ended-at file a e 5 within le (stops-comma file a e 5 within h c) (thousandths-plain _ q) (obeys 300 rule.Value) (thousandths-value _ q))
+
+-- ---- a field by the comma behind it
+
+-- m bytes from a on hold no comma, and one follows
+module _ (file : List ℕ) (a e m : ℕ) (le : a ≤ e) (within : e ≤ length file) (h : m < e - a) (c : getD file (a + m) 0 ≡ 44)
+    (plain : all (other 44) (part file a (a + m)) ≡ true) where
+  span-m : m ≡ spanOf (other 44) (part file a e)
+  span-m = sym (span-is file a e m within le (stops-comma file a e m within h c) plain)
+
+  pub comma-field : part file a (a + m) ≡ field 0 (fields (part file a e))
+  comma-field = first-is file a e m le within span-m
+
+  pub comma-cut : Cut file a e (a + m) (a + m + 1)
+  comma-cut = cut-more file a e m le within span-m (omega arith)
+
+  pub comma-whole : Cut file a e (a + spanOf (other 44) (part file a e)) (a + m + 1)
+  comma-whole = rw (← span-m) comma-cut
+
+-- three bytes that name a kind
+pub kind-tried : (file : List ℕ) (a e : ℕ) {x : Number} {k : ℕ} → a ≤ e → e ≤ length file → 3 < e - a → getD file (a + 3) 0 ≡ 44
+    → x ≡ indicatorOf (take (a + 3 - a) (drop a file)) → x ≡ Is k → k ≡ kindIn (fields (part file a e))
+unfolding kindIn
+kind-tried file a e le within h c ex ek =
+    let i : indicatorOf (part file a (a + 3)) ≡ Is _ = sym ex ∙ ek in
+    let f : part file a (a + 3) ≡ field 0 (fields (part file a e)) = comma-field file a e 3 le within h c (indicator-plain (part file a (a + 3)) (rw i)) in
+    rw (← f, i)

@@ -8,6 +8,7 @@ use field::texts;
 use format::Graded;
 use format::Number;
 use format::Tag;
+use quick::kinds;
 ghost use mathlib.Core.Path.{_≡_};
 ghost use mathlib.Core.Bool.{cond};
 ghost use Prim.Native.Nat.{_≤_, _<_, _^_};
@@ -32,11 +33,21 @@ pub fn number_in(x: Number) -> u64
     }
 }
 
-// The kind of the record, 0 where its first field is no indicator.
+// The kind of the record, 0 where its first field is no indicator. Three bytes with a comma behind them are tried first: where they name a kind, they are the field.
 pub fn kind_at(file: &[u8], at: usize, e: usize) -> u64
     requires { ⌜ (at ≤ e) × (e ≤ length (now file)) ⌝ }
     ensures { λ r. ⌜ r ≡ kindIn (fields (part (now (file .entry)) at e)) ⌝ }
 {
+    if 3 < e - at {
+        let z = at + 3;
+        if file[z] == 44 {
+            let x = kinds::indicator(&file[at..z]);
+            match x {
+                Number::Is(k) => return k,
+                Number::Bad => {}
+            }
+        }
+    }
     number_in(numbers::indicator(first_field(file, at, e)))
 }
 

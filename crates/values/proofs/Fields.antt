@@ -14,26 +14,10 @@ use Rattle.format.proofs.Cut.{field-here}
 use Rattle.quick.specs.Shapes.{isThousandths}
 use Rattle.quick.proofs.Shapes.{thousandths-plain}
 use Rattle.record.specs.Places.{Cut}
-use Rattle.record.proofs.Cuts.{first-is, cut-more}
-use Rattle.record.proofs.Tried.{stops-comma, span-is}
+use Rattle.record.proofs.Tried.{comma-field, comma-whole}
 use Rattle.values.specs.declared.Taken.{Taken}
 use Rattle.values.specs.declared.Taken.the-variants.{Value}
 use Rattle.values.specs.Shapes.{Complete, ValueAt, Shown}
-
--- m bytes from a on hold no comma, and one follows
-module _ (file : List ℕ) (a e m : ℕ) (le : a ≤ e) (within : e ≤ length file) (h : m < e - a) (c : getD file (a + m) 0 ≡ 44)
-    (plain : all (other 44) (part file a (a + m)) ≡ true) where
-  span-m : m ≡ spanOf (other 44) (part file a e)
-  span-m = sym (span-is file a e m within le (stops-comma file a e m within h c) plain)
-
-  pub comma-field : part file a (a + m) ≡ field 0 (fields (part file a e))
-  comma-field = first-is file a e m le within span-m
-
-  pub comma-cut : Cut file a e (a + m) (a + m + 1)
-  comma-cut = cut-more file a e m le within span-m (omega arith)
-
-  pub comma-whole : Cut file a e (a + spanOf (other 44) (part file a e)) (a + m + 1)
-  comma-whole = rw (← span-m) comma-cut
 
 -- o is what `thousandths` answers of the five bytes from a on, which a comma follows
 module _ (file : List ℕ) (a e : ℕ) (le : a ≤ e) (within : e ≤ length file) {o : Bool} (h : 5 < e - a) (c : getD file (a + 5) 0 ≡ 44)
