@@ -28,7 +28,7 @@ use Rattle.record.specs.Places.{LineEnd, Cut, Rest}
 use Rattle.record.proofs.Ends.{line-none, line-more}
 use Rattle.record.proofs.Cuts.{rest-whole, rest-next, rest-on, rest-first}
 use Rattle.values.specs.Lumps.{Alike}
-use Rattle.values.proofs.Fields.{comma-field, comma-cut}
+use Rattle.record.proofs.Tried.{comma-field, comma-cut}
 use Rattle.day.specs.Places.{valuesFrom}
 use Rattle.day.proofs.Values.{values-move}
 use Rattle.channel.specs.declared.Channel.{Channel}
