@@ -11,16 +11,16 @@ use Rattle.format.specs.Cut.{fields, field}
 use Rattle.format.specs.Records.{kindIn, intervalsIn, millionths, quantityIn}
 use Rattle.format.specs.Answers.{Answer, accepted, refusal}
 use Rattle.format.specs.Total.{totalsFrom, totalFirst}
-use Rattle.record.specs.Places.{LineEnd, Rest}
-use Rattle.record.proofs.Cuts.{rest-first}
+use Rattle.record.specs.Places.{LineEnd, Cut, Rest}
+use Rattle.record.proofs.Cuts.{rest-here}
 use Rattle.record.proofs.Ends.{line-none, line-more}
 use Rattle.channel.specs.Places.{sumAt, totalsAt}
 
 -- the quantity is the nineteenth field of a 250
-pub quantity-is : (file : List ℕ) (fs : List (List ℕ)) (p x e v : ℕ) → Rest file fs p 18 x e → v ≡ millionths (field 0 (fields (part file x e)))
+pub quantity-is : (file : List ℕ) (fs : List (List ℕ)) (p x e b y v : ℕ) → Rest file fs p 18 x e → Cut file x e b y → v ≡ millionths (part file x b)
     → v ≡ quantityIn fs
 unfolding quantityIn
-quantity-is file fs p x e v s h = h ∙ ap millionths (rest-first s)
+quantity-is file fs p x e b y v s k h = h ∙ ap millionths (rest-here s k)
 
 total-here : (left v : ℕ) (vs : List ℕ) → left ≡ 0 → totalFirst (drop left (v ∷ vs)) ≡ totalFirst (v ∷ [])
 total-here left v vs z = rw z

@@ -4,8 +4,9 @@ use super::ChannelStart;
 use day::fields::skip;
 use day::walk::intervals_of;
 use record::lines::line_end;
+use record::pieces::field_at;
 use record::says::kind_at;
-use values::value_at;
+use record::says::value_of;
 ghost use mathlib.Core.Path.{_≡_};
 ghost use Prim.Native.Nat.{_≤_, _<_, _^_};
 ghost use lib.ListN.{length, drop};
@@ -22,8 +23,9 @@ fn quantity_of(file: &[u8], a: usize, e: usize) -> u64
     ensures small { λ r. ⌜ r < 10 ^ 13 ⌝ }
 {
     let x = skip(file, a, e, 18);
-    let f = value_at(file, x, e);
-    f.v
+    let f = field_at(file, x, e);
+    let b = f.to;
+    value_of(&file[x..b])
 }
 
 // The channel of a number from 0.

@@ -1,6 +1,6 @@
 -- Indicators by their bytes: each is three digits that name a kind, and holds no comma. Assumes nothing.
 use Prim.Native.Nat.{ℕ, _-_, _*_, _≤_, _<_}
-use mathlib.Core.Path.{_≡_, refl}
+use mathlib.Core.Path.{_≡_}
 use mathlib.Core.Bool.{true}
 use mathlib.Core.List.{List, [], _∷_}
 use native.Mathlib.Omega.{arith}
@@ -11,7 +11,6 @@ use Rattle.ground.proofs.Cases.{same-or}
 use Rattle.format.specs.Bytes.{areAll}
 use Rattle.format.specs.Numbers.{isNumber, numberOf}
 use Rattle.format.specs.Records.{isKind, indicatorOf}
-use Rattle.format.specs.declared.Number.{Number}
 use Rattle.format.specs.declared.Number.the-variants.{Is}
 use Rattle.quick.proofs.Bytes.{digits-plain, spelled}
 use Rattle.quick.proofs.CommonDates.{digits-of}

@@ -67,6 +67,10 @@ pub rest-whole : (file : List ℕ) (a e : ℕ) → a ≤ e → e ≤ length file
 rest-whole file a e h g = record { ends = h; within = g; same = λ j. rw zero-add; place = λ j k. rw zero-add }
 
 module _ {file : List ℕ} {fs : List (List ℕ)} {p i a e b x : ℕ} (s : Rest file fs p i a e) (k : Cut file a e b x) where
+  -- the field that was cut off
+  pub rest-here : part file a b ≡ field i fs
+  rest-here = sym (k .here) ∙ sym (s .same 0) ∙ ap (λ (z : ℕ). field z fs) (add-zero i)
+
   pub rest-next : Rest file fs p (i + 1) x e
   rest-next =
       record {
