@@ -62,8 +62,8 @@ fn fraction(file: &[u8], a: usize, e: usize, q: usize, d: Digits) -> Taken
     ended(file, a, e, q2 + 1, more(d2, b3), 1000)
 }
 
-// Up to q stand digits.
-fn behind(file: &[u8], a: usize, e: usize, q: usize, d: Digits) -> Taken
+// Up to q stand three digits.
+fn behind_three(file: &[u8], a: usize, e: usize, q: usize, d: Digits) -> Taken
     requires { ⌜ Whole (now file) a q (d .n) (d .zeros) × (d .n < 10 ^ 5) × (q + 5 ≤ e) × (e ≤ length (now file)) ⌝ }
     ensures { λ r. ⌜ Shown (now (file .entry)) a e r ⌝ }
 {
@@ -73,7 +73,7 @@ fn behind(file: &[u8], a: usize, e: usize, q: usize, d: Digits) -> Taken
     ended(file, a, e, q, d, 1000000)
 }
 
-// The value at a, if it is such a one.
+// The value at a, if it is such a one. A point is looked for before a digit, since most values have one behind their first digits.
 fn short_at(file: &[u8], a: usize, e: usize) -> Taken
     requires { ⌜ (a + 8 ≤ e) × (e ≤ length (now file)) ⌝ }
     ensures { λ r. ⌜ Shown (now (file .entry)) a e r ⌝ }
@@ -85,16 +85,22 @@ fn short_at(file: &[u8], a: usize, e: usize) -> Taken
     let d1 = more(Digits { n: 0, zeros: 0 }, b1);
     let q1 = a + 1;
     let b2 = file[q1];
+    if b2 == 46 {
+        return fraction(file, a, e, q1 + 1, d1);
+    }
     if !is_digit(b2) {
-        return behind(file, a, e, q1, d1);
+        return ended(file, a, e, q1, d1, 1000000);
     }
     let d2 = more(d1, b2);
     let q2 = q1 + 1;
     let b3 = file[q2];
-    if !is_digit(b3) {
-        return behind(file, a, e, q2, d2);
+    if b3 == 46 {
+        return fraction(file, a, e, q2 + 1, d2);
     }
-    behind(file, a, e, q2 + 1, more(d2, b3))
+    if !is_digit(b3) {
+        return ended(file, a, e, q2, d2, 1000000);
+    }
+    behind_three(file, a, e, q2 + 1, more(d2, b3))
 }
 
 // The first place of which fewer than eight bytes are left of a record that ends at e. It is asked for once for all values of a record.

@@ -1,9 +1,9 @@
--- `values::short::behind` meets its contract. Assumes nothing.
+-- `values::short::behind_three` meets its contract. Assumes nothing.
 use Rattle.values.proofs.Shorts.{whole-low, whole-complete, whole-point}
 use borrow.Author.Needs.{needs}
 use native.Mathlib.Omega.{arith}
-use Rattle.values.proofs.short.behind.Statement.{statement}
-use Rattle.values.proofs.short.behind.Tie as tie
+use Rattle.values.proofs.short.behind_three.Statement.{statement}
+use Rattle.values.proofs.short.behind_three.Tie as tie
 
 shared-slice-read-if1 : tie.Need-shared-slice-read-if1
 shared-slice-read-if1 c = search needs
@@ -23,8 +23,8 @@ ended-requires c κs = (whole-complete (c .before .before .before .pre .0) (omeg
 returns-2 : tie.Need-returns-2
 returns-2 c = search needs
 
-pub behind-spec : {M : Type 1} → statement M
-behind-spec =
+pub behind-three-spec : {M : Type 1} → statement M
+behind-three-spec =
     tie.close
     (tie.spec
     shared-slice-read-if1
