@@ -113,7 +113,7 @@ pub fn short_stop(e: usize) -> usize
     e - 7
 }
 
-// What `value_at` answers. A loop over values of many shapes asks this one, which the compiler writes into the loop; `value_at` stays out of it.
+// What `value_at` answers, by the pass where it can. One loop asks this, over values of many shapes, and the compiler writes it into that loop.
 pub fn value_in_pass(file: &[u8], a: usize, e: usize, stop: usize) -> Valued
     requires { ⌜ (a ≤ e) × (e ≤ length (now file)) × (stop ≡ e - 7) ⌝ }
     ensures is { λ r. ⌜ r .v ≡ millionths (field 0 (fields (part (now (file .entry)) a e))) ⌝ }
