@@ -1,4 +1,4 @@
-// The values of a channel's days, added up, sixteen at a time; each sum is tested before it is taken, so that none wraps.
+// The values of a channel's days, added up, sixteen at a time. Sixteen can't pass 64 bits; a sum of more is tested before it is taken, so that none wraps.
 use day::fields::skip;
 use format::Number;
 use record::lines::line_end;

@@ -1,4 +1,5 @@
-// Fast answers to the rules that are asked most often. Each has the contract of the simple rule and needs no number, only whether there is one.
+// Fast answers to the rules that are asked most often. Each has the contract of the simple rule. But for kinds, only whether there is a
+// number is answered, and none is made.
 pub mod dates;
 pub mod kinds;
 

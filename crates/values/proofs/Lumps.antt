@@ -1,7 +1,7 @@
 -- Sixteen values at once: the loops that compare two lists byte by byte, and what two such comparisons say of the values. Assumes nothing.
 use Prim.Native.Nat.{ℕ, zero, suc, _+_, _-_, _*_, _≤_, _<_}
 use mathlib.Core.Path.{_≡_, refl, sym, _∙_}
-use mathlib.Core.List.{List, [], _∷_}
+use mathlib.Core.List.{List, [], _∷_, _++_}
 use mathlib.Core.Bool.{Bool, true, false, not, _&&_, false≢true}
 use native.Mathlib.Omega.{arith}
 use lib.ListN.{length, getD, take, drop, drop-of-length-le, length-append, List·getD-append}
@@ -17,7 +17,7 @@ use Rattle.ground.proofs.Spans.{part-length}
 use Rattle.format.specs.Records.{millionths}
 use Rattle.quick.specs.Shapes.{isThousandths}
 use Rattle.quick.proofs.Shapes.{thousandths-number}
-use Rattle.values.specs.Lumps.{noLess, again, Alike}
+use Rattle.values.specs.Lumps.{noLess, Alike}
 
 -- ---- two lists, byte by byte
 
@@ -58,6 +58,10 @@ no-less-at (b ∷ s) (c ∷ t) h zero l m = leb-true c b (and-true (leb c b) (no
 no-less-at (b ∷ s) (c ∷ t) h (suc i) l m = no-less-at s t (and-true (leb c b) (noLess s t) h .1) i (omega arith) (omega arith)
 
 -- ---- a list of six, k times
+
+abbrev pub again : ℕ → List ℕ → List ℕ
+again zero s = []
+again (suc k) s = s ++ again k s
 
 again-long : (k : ℕ) (s : List ℕ) → length s ≡ 6 → length (again k s) ≡ 6 * k
 again-long zero s e = refl

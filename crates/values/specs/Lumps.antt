@@ -1,7 +1,7 @@
 -- Values of the commonest shape in a row, and what a test of all their bytes at once asks.
-use Prim.Native.Nat.{ℕ, zero, suc, _+_, _*_, _<_}
+use Prim.Native.Nat.{ℕ, _+_, _*_, _<_}
 use mathlib.Core.Path.{_≡_}
-use mathlib.Core.List.{List, [], _∷_, _++_}
+use mathlib.Core.List.{List, [], _∷_}
 use mathlib.Core.Bool.{Bool, true, _&&_}
 use lib.ListN.{getD}
 use lib.Dec.{leb}
@@ -13,11 +13,6 @@ abbrev pub noLess : List ℕ → List ℕ → Bool
 noLess [] t = true
 noLess (b ∷ s) [] = true
 noLess (b ∷ s) (c ∷ t) = leb c b && noLess s t
-
--- a list k times
-abbrev pub again : ℕ → List ℕ → List ℕ
-again zero s = []
-again (suc k) s = s ++ again k s
 
 -- k values of the commonest shape stand at x, with a comma behind each
 abbrev pub Alike : List ℕ → ℕ → ℕ → Type 0

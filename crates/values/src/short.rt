@@ -103,7 +103,7 @@ fn short_at(file: &[u8], a: usize, e: usize) -> Taken
     behind_three(file, a, e, q2 + 1, more(d2, b3))
 }
 
-// The first place of which fewer than eight bytes are left of a record that ends at e. It is asked for once for all values of a record.
+// The first place of which fewer than eight bytes are left of a record that ends at e. It is asked for once for the values of a loop.
 pub fn short_stop(e: usize) -> usize
     ensures { λ r. ⌜ r ≡ e - 7 ⌝ }
 {
