@@ -8,7 +8,6 @@ use native.Mathlib.Omega.{arith}
 use lib.ListN.{length, replicate, length-replicate, length-append}
 use lib.Dec.{leb, ltb, eqb}
 use borrow.Author.Tests.{leb-true, leb-false, eqb-true, eq-eqb, le-leb, not-false}
-use Rattle.ground.specs.Lists.{all}
 use Rattle.ground.proofs.Tests.{and-true}
 use Rattle.format.specs.Cut.{Lines, line, rest, lines, fields}
 use Rattle.format.specs.Records.{kindIn, rowOf, countOf, versionIn, intervalsIn, firstIn, lastIn}
@@ -16,12 +15,12 @@ use Rattle.format.specs.Order.{Due, begun, between, inDay, mayCome, isVaried, o
 use Rattle.format.specs.Faults.{f3, f10, f4, f5, f6, f7, f8, f9, size, isOpen, covers, isOff, faultAt, faultOf}
 use Rattle.format.specs.Answers.{Answer, accepted, refused}
 use Rattle.format.specs.File.{after, orGoOn, walkOf, most, checkOf}
-use Rattle.format.specs.Day.{rowAt, DayRows, runsFrom, daysFrom, daysOf}
+use Rattle.format.specs.Day.{Row, rowAt, BlockRows, runsFrom, daysFrom, noChannel, daysOf}
 use Rattle.format.specs.declared.Rule.the-variants.{Quality, Value, Reason, Description, Time, Load}
 use Rattle.format.specs.declared.Fault.{Fault}
 use Rattle.format.specs.declared.Fault.the-variants.{Fine, Stop}
 use Rattle.format.proofs.Faults.{both-fine, stop-fine}
-use Rattle.bridge.specs.Sound.{coversFrom, isSound}
+use Rattle.bridge.specs.Sound.{coversFrom, isSound, areSound}
 
 -- ---- one step of an accepted walk
 
@@ -183,13 +182,13 @@ count-300 : (n : ℕ) → countOf 300 n ≡ n + 7
 unfolding countOf rowOf
 count-300 n = omega (arith, length-append (replicate n Value) (Quality ∷ Reason ∷ Description ∷ Time ∷ Load ∷ []), length-replicate n Value)
 
--- the day whose 300 is the record r at place q
-abbrev dayAt : ℕ → ℕ → List ℕ → Lines → DayRows
-dayAt q n r ls = record { n = n; top = rowAt q r; runs = runsFrom (q + length r + 2) ls }
+-- the block of n intervals whose 300 is the record r at place q
+abbrev blockAt : ℕ → ℕ → List ℕ → Lines → BlockRows
+blockAt q n r ls = record { n = n; top = rowAt q r; runs = runsFrom (q + length r + 2) ls }
 
 -- behind a 300 that the walk passed
 after-300 : (st : Due) (p k q : ℕ) (r : List ℕ) (ls : Lines) (xs : List ℕ) → kindIn (fields r) ≡ 300 → Goes st r p k ls xs
-    → isSound (dayAt q (st .n) r ls) ≡ true
+    → isSound (blockAt q (st .n) r ls) ≡ true
 unfolding isSound afterOf
 after-300 st p k q r ls xs z g = rw (eq-eqb _ _ count, covered (isVaried (st .n) (fields r)) refl)
   where
@@ -205,30 +204,42 @@ after-300 st p k q r ls xs z g = rw (eq-eqb _ _ count, covered (isVaried (st .n)
         rw v (covers-on (on300 st (fields r)) (p + length r + 2) (k + 1) (q + length r + 2) 0 ls xs x refl (omega arith) (rw now at (g .on)))
     covered false v = rw v
 
-sound-days : (st : Due) (p k q n : ℕ) (ls : Lines) (xs : List ℕ) → Held st n → walkOf st p k ls ≡ accepted xs → all isSound (daysFrom q n ls) ≡ true
+-- n of the 200 behind a record of the kind k
+channel-on : (k q : ℕ) (c : Row) (r : List ℕ) → intervalsIn (cond (eqb k 200) (rowAt q r) c .cells) ≡ cond (eqb k 200) (intervalsIn (fields r)) (intervalsIn (c .cells))
+channel-on k q c r = by (eqb k 200)
+  where
+    by : (b : Bool) → intervalsIn (cond b (rowAt q r) c .cells) ≡ cond b (intervalsIn (fields r)) (intervalsIn (c .cells))
+    by true = refl
+    by false = refl
+
+sound-days : (st : Due) (p k q : ℕ) (c : Row) (ls : Lines) (xs : List ℕ) → Held st (intervalsIn (c .cells)) → walkOf st p k ls ≡ accepted xs
+    → areSound (daysFrom q c ls) ≡ true
 unfolding daysFrom
-sound-days st p k q n (rest t) xs h a = refl
-sound-days st p k q n (line r ls) xs h a =
-    by (eqb (kindIn (fields r)) 300) refl (goes st p k r ls xs a) (λ n₁ h₁ a₁. sound-days (after st r) (p + length r + 2) (k + 1) (q + length r + 2) n₁ ls xs h₁ a₁)
+sound-days st p k q c (rest t) xs h a = refl
+sound-days st p k q c (line r ls) xs h a =
+    by (eqb (kindIn (fields r)) 300) refl (goes st p k r ls xs a) (λ c₁ h₁ a₁. sound-days (after st r) (p + length r + 2) (k + 1) (q + length r + 2) c₁ ls xs h₁ a₁)
   where
     by : (b : Bool) → eqb (kindIn (fields r)) 300 ≡ b → Goes st r p k ls xs
-        → ((n₁ : ℕ) → Held (after st r) n₁ → walkOf (after st r) (p + length r + 2) (k + 1) ls ≡ accepted xs
-        → all isSound (daysFrom (q + length r + 2) n₁ ls) ≡ true)
-        → all isSound (daysFrom q n (line r ls)) ≡ true
+        → ((c₁ : Row) → Held (after st r) (intervalsIn (c₁ .cells)) → walkOf (after st r) (p + length r + 2) (k + 1) ls ≡ accepted xs
+        → areSound (daysFrom (q + length r + 2) c₁ ls) ≡ true)
+        → areSound (daysFrom q c (line r ls)) ≡ true
     by true i g ih =
         let z : kindIn (fields r) ≡ 300 = eqb-true _ _ i in
         let m : mayCome (st .expect) 300 ≡ true = rw z at (g .here .may) in
-        let e : st .n ≡ n = h (may-300 (st .expect) m) in
+        let e : st .n ≡ intervalsIn (c .cells) = h (may-300 (st .expect) m) in
         let t : eqb (kindIn (fields r)) 200 ≡ false = rw z in
-        let o : Held (after st r) n = rw t at (held-on st n (kindIn (fields r)) (fields r) (g .here .may) h) in
-        let s : isSound (dayAt q n r ls) ≡ true = rw e at (after-300 st p k q r ls xs z g) in
-        rw (i, s) (ih n o (g .on))
-    by false i g ih = rw i (ih _ (held-on st n (kindIn (fields r)) (fields r) (g .here .may) h) (g .on))
+        let o : Held (after st r) (intervalsIn (c .cells)) = rw t at (held-on st (intervalsIn (c .cells)) (kindIn (fields r)) (fields r) (g .here .may) h) in
+        let s : isSound (blockAt q (intervalsIn (c .cells)) r ls) ≡ true = rw e at (after-300 st p k q r ls xs z g) in
+        rw (i, s) (ih c o (g .on))
+    by false i g ih =
+        let o : Held (after st r) (intervalsIn (cond (eqb (kindIn (fields r)) 200) (rowAt q r) c .cells)) =
+        rw (channel-on (kindIn (fields r)) q c r) (held-on st (intervalsIn (c .cells)) (kindIn (fields r)) (fields r) (g .here .may) h) in
+        rw i (ih _ o (g .on))
 
 -- each day of a file that is accepted
-pub checked-days : (file xs : List ℕ) → checkOf file ≡ accepted xs → all isSound (daysOf file) ≡ true
+pub checked-days : (file xs : List ℕ) → checkOf file ≡ accepted xs → areSound (daysOf file) ≡ true
 unfolding checkOf daysOf
-checked-days file xs e = sound-days begun 0 0 0 0 (lines file) xs (λ b. nowhere b) (goes-on (ltb most (length file)) 1 0 0 _ xs e)
+checked-days file xs e = sound-days begun 0 0 0 noChannel (lines file) xs (λ b. nowhere b) (goes-on (ltb most (length file)) 1 0 0 _ xs e)
 
 -- a record that has no fault may come
 pub fine-may : (st : Due) (r : List ℕ) → faultOf st r ≡ Fine → mayCome (st .expect) (kindIn (fields r)) ≡ true

@@ -12,7 +12,7 @@ use Rattle.ground.specs.Lists.{all}
 use Rattle.ground.proofs.Tests.{and-true}
 use Rattle.format.specs.Records.{valuesIn, millionths, firstIn, lastIn}
 use Rattle.format.specs.Order.{isVaried}
-use Rattle.format.specs.Day.{Row, DayRows, coverOf, eachOf, valuesOf}
+use Rattle.format.specs.Day.{Row, BlockRows, coverOf, eachOf, valuesOf}
 use Rattle.bridge.specs.Sound.{coversFrom, isSound}
 
 -- what a cover says of its first 400
@@ -41,7 +41,7 @@ cover-length f k n (x ∷ xs) e =
     let i = cover-length f (lastIn (x .cells)) n xs (a .left) in
     omega (arith, length-append (replicate m (f x)) (coverOf f xs), length-replicate m (f x), a .first, a .order)
 
-module _ (d : DayRows) (s : isSound d ≡ true) where
+module _ (d : BlockRows) (s : isSound d ≡ true) where
   pub sound-fields : length (d .top .cells) ≡ d .n + 7
   unfolding isSound
   sound-fields = eqb-true _ _ (and-true (eqb (length (d .top .cells)) (d .n + 7)) _ s .0)

@@ -7,5 +7,6 @@ pub mod NumberText
 pub mod ValueText
 pub mod MarkText
 pub mod CoverText
+pub mod Settled
 pub mod Refusals
 pub mod Faults

@@ -6,6 +6,8 @@ use mathlib.Core.List.{List, [], _∷_}
 use Rattle.format.specs.declared.Refusal.{Refusal}
 use Rattle.format.specs.declared.Checked.{Checked}
 use Rattle.format.specs.declared.Checked.the-variants as checked
+use Rattle.format.specs.declared.BlockChecked.{BlockChecked}
+use Rattle.format.specs.declared.BlockChecked.the-variants as blockChecked
 use Rattle.format.specs.declared.DayRead.{DayRead}
 use Rattle.format.specs.declared.DayRead.the-variants as dayRead
 use Rattle.format.specs.declared.Totalled.{Totalled}
@@ -29,6 +31,11 @@ refusedAs x = refused (x .number) (x .place) (x .«record») (x .field)
 abbrev pub checkedAs : Checked → Answer
 checkedAs (checked.Accepted v c d) = accepted (v ∷ c ∷ d ∷ [])
 checkedAs (checked.Refused x) = refusedAs x
+
+-- date, n, update time, load time, records
+abbrev pub blockCheckedAs : BlockChecked → Answer
+blockCheckedAs (blockChecked.Accepted t n u l k) = accepted (t ∷ n ∷ u ∷ l ∷ k ∷ [])
+blockCheckedAs (blockChecked.Refused x) = refusedAs x
 
 -- date, n, update time, load time
 abbrev pub dayReadAs : DayRead → Answer

@@ -7,10 +7,9 @@ use mathlib.Core.Bool.{Bool, cond, _&&_}
 use lib.ListN.{length, drop, replicate}
 use lib.Dec.{leb, eqb}
 use Rattle.format.specs.Numbers.{numberIn, reasonOf}
-use Rattle.format.specs.Dates.{timeOf, loadOf}
 use Rattle.format.specs.Quality.{qualityOf, flagIn, methodIn, Mark}
 use Rattle.format.specs.Cut.{Lines, line, rest, lines, fields, field, startOf}
-use Rattle.format.specs.Records.{kindIn, intervalsIn, dateIn, valuesIn, firstIn, lastIn, markAt}
+use Rattle.format.specs.Records.{kindIn, intervalsIn, dateIn, valuesIn, updateIn, loadIn, firstIn, lastIn, quality300, quality400, markAt}
 use Rattle.format.specs.Order.{isVaried}
 use Rattle.format.specs.Answers.{Answer, accepted, refused, refusal}
 use Rattle.format.specs.File.{checkOf}
@@ -26,28 +25,41 @@ pub record Row : Type 0 where
 abbrev pub rowAt : ℕ → List ℕ → Row
 rowAt p r = record { place = p; cells = fields r }
 
--- a day of n intervals: its 300, and the 400s under it
-pub record DayRows : Type 0 where
+-- a day block of n intervals: its 300, and the 400s under it
+pub record BlockRows : Type 0 where
   pub n : ℕ
   pub top : Row
   pub runs : List Row
+
+-- a day of a file: the 200 that it stands under, and its block, whose n is that of the 200
+pub record DayRows : Type 0 where
+  pub channel : Row
+  pub block : BlockRows
 
 -- the 400s at place p, up to the first other record
 unfoldable pub runsFrom : ℕ → Lines → List Row
 runsFrom p (rest t) = []
 runsFrom p (line r ls) = cond (eqb (kindIn (fields r)) 400) (rowAt p r ∷ runsFrom (p + length r + 2) ls) []
 
--- the days from place p on, where n is that of the 200 before
-unfoldable pub daysFrom : ℕ → ℕ → Lines → List DayRows
-daysFrom p n (rest t) = []
-daysFrom p n (line r ls) =
+-- the day under the 200 c whose 300 is the record r at place p, with the lines behind it
+abbrev pub dayFrom : ℕ → Row → List ℕ → Lines → DayRows
+dayFrom p c r ls = record { channel = c; block = record { n = intervalsIn (c .cells); top = rowAt p r; runs = runsFrom (p + length r + 2) ls } }
+
+-- the days from place p on, where c is the 200 before
+unfoldable pub daysFrom : ℕ → Row → Lines → List DayRows
+daysFrom p c (rest t) = []
+daysFrom p c (line r ls) =
     cond (eqb (kindIn (fields r)) 300)
-    (record { n = n; top = rowAt p r; runs = runsFrom (p + length r + 2) ls } ∷ daysFrom (p + length r + 2) n ls)
-    (daysFrom (p + length r + 2) (cond (eqb (kindIn (fields r)) 200) (intervalsIn (fields r)) n) ls)
+    (dayFrom p c r ls ∷ daysFrom (p + length r + 2) c ls)
+    (daysFrom (p + length r + 2) (cond (eqb (kindIn (fields r)) 200) (rowAt p r) c) ls)
+
+-- before the first 200
+abbrev pub noChannel : Row
+noChannel = rowAt 0 []
 
 -- "each numbered from 0 in file order"
 unfoldable pub daysOf : List ℕ → List DayRows
-daysOf file = daysFrom 0 0 (lines file)
+daysOf file = daysFrom 0 noChannel (lines file)
 
 -- ---- what they say
 
@@ -57,9 +69,9 @@ coverOf f [] = []
 coverOf f (x ∷ xs) = replicate (lastIn (x .cells) + 1 - firstIn (x .cells)) (f x) ++ coverOf f xs
 
 -- what f says of each interval, by the record's kind, the record and the number of its quality field from 0: on a V day of its 400, else of the 300
-unfoldable pub eachOf : {X : Type 0} → (ℕ → Row → ℕ → X) → DayRows → List X
+unfoldable pub eachOf : {X : Type 0} → (ℕ → Row → ℕ → X) → BlockRows → List X
 eachOf f d =
-    cond (isVaried (d .n) (d .top .cells)) (coverOf (λ x. f 400 x 3) (d .runs)) (replicate (d .n) (f 300 (d .top) (d .n + 2)))
+    cond (isVaried (d .n) (d .top .cells)) (coverOf (λ x. f 400 x quality400) (d .runs)) (replicate (d .n) (f 300 (d .top) (quality300 (d .n))))
 
 -- the mark with its description's place in the file
 unfoldable pub tagAt : ℕ → Row → ℕ → Tag
@@ -72,19 +84,13 @@ tagAt k x i =
       length = length (field (i + 2) (x .cells));
     }
 
-unfoldable pub tagsOf : DayRows → List Tag
+unfoldable pub tagsOf : BlockRows → List Tag
 tagsOf d = eachOf tagAt d
 
-unfoldable pub valuesOf : DayRows → List ℕ
+unfoldable pub valuesOf : BlockRows → List ℕ
 valuesOf d = valuesIn (d .n) (d .top .cells)
 
-unfoldable pub updateIn : ℕ → List (List ℕ) → ℕ
-updateIn n fs = numberIn (timeOf (field (n + 5) fs))
-
-unfoldable pub loadIn : ℕ → List (List ℕ) → ℕ
-loadIn n fs = numberIn (loadOf (field (n + 6) fs))
-
--- a day, whatever bytes it was read from: two days are the same when these are equal (n stands for the interval length, of which it is 1440 parts)
+-- a day, whatever bytes it was read from: two days are the same when these are equal (n stands for the interval length: it is 1440 divided by it)
 pub record Day : Type 0 where
   pub date : ℕ
   pub n : ℕ
@@ -93,10 +99,10 @@ pub record Day : Type 0 where
   pub values : List ℕ
   pub marks : List Mark
 
-unfoldable pub marksOf : DayRows → List Mark
+unfoldable pub marksOf : BlockRows → List Mark
 marksOf d = eachOf (λ k x i. markAt k i (x .cells)) d
 
-unfoldable pub dayOf : DayRows → Day
+unfoldable pub dayOf : BlockRows → Day
 dayOf d =
     record {
       date = dateIn (d .top .cells);
@@ -150,7 +156,7 @@ roomFor n vs ms =
     enoughFor n (length vs) (length (ms .flags)) (length (ms .methods)) (length (ms .reasons)) (length (ms .starts)) (length (ms .lengths))
 
 -- the day is read: its answer, and each list with its n places filled
-unfoldable pub readInto : DayRows → List ℕ → Five → Outcome
+unfoldable pub readInto : BlockRows → List ℕ → Five → Outcome
 readInto d vs ms =
     outcome
     (accepted (dateIn (d .top .cells) ∷ d .n ∷ updateIn (d .n) (d .top .cells) ∷ loadIn (d .n) (d .top .cells) ∷ []))
@@ -161,7 +167,7 @@ readInto d vs ms =
 -- The days that are left from the one that is asked for: none is 14.
 abbrev pub readFirst : List DayRows → List ℕ → Five → Outcome
 readFirst [] vs ms = outcome (refusal 14) vs ms
-readFirst (d ∷ ds) vs ms = cond (roomFor (d .n) vs ms) (readInto d vs ms) (outcome (refusal 15) vs ms)
+readFirst (d ∷ ds) vs ms = cond (roomFor (d .block .n) vs ms) (readInto (d .block) vs ms) (outcome (refusal 15) vs ms)
 
 abbrev pub afterCheck : Answer → Outcome → List ℕ → Five → Outcome
 afterCheck (accepted xs) o vs ms = o

@@ -8,7 +8,7 @@ use lib.Dec.{leb, ltb, eqb}
 use Rattle.ground.specs.Lists.{spanOf}
 use Rattle.format.specs.Bytes.{plain}
 use Rattle.format.specs.Cut.{fields, startOf}
-use Rattle.format.specs.Records.{kindIn, countOf, ruleOf, obeys, dateIn, firstIn, lastIn, readTimeIn, qualitiesOf, firstBroken}
+use Rattle.format.specs.Records.{kindIn, countOf, ruleOf, obeys, dateField, dateIn, firstField, firstIn, lastIn, readTimeField, readTimeIn, qualitiesOf, firstBroken}
 use Rattle.format.specs.Order.{Due, mayCome, alikeWith}
 use Rattle.format.specs.declared.Fault.{Fault}
 use Rattle.format.specs.declared.Fault.the-variants.{Fine, Stop}
@@ -62,11 +62,11 @@ abbrev pub f7 : ℕ → ℕ → List (List ℕ) → Fault
 f7 k n fs = stop (not (eqb (brokenIn k n fs) 0)) 7 (startOf (brokenIn k n fs - 1) fs) (brokenIn k n fs)
 
 -- "date not later than the day before it in this 200": date field
-unfoldable pub isLate : Due → ℕ → List (List ℕ) → Bool
-isLate st k fs = eqb k 300 && leb (dateIn fs) (st .date)
+unfoldable pub isNotLater : Due → ℕ → List (List ℕ) → Bool
+isNotLater st k fs = eqb k 300 && leb (dateIn fs) (st .date)
 
 abbrev pub f8 : Due → ℕ → List (List ℕ) → Fault
-f8 st k fs = stop (isLate st k fs) 8 (startOf 1 fs) 2
+f8 st k fs = stop (isNotLater st k fs) 8 (startOf dateField fs) (dateField + 1)
 
 -- "a 400's start or end breaks the cover rule": "the first starts at 1, each next at the last end plus 1, none ends before it starts or after n"
 unfoldable pub covers : Due → List (List ℕ) → Bool
@@ -76,7 +76,7 @@ unfoldable pub isOff : Due → ℕ → List (List ℕ) → Bool
 isOff st k fs = eqb k 400 && not (covers st fs)
 
 abbrev pub f9 : Due → ℕ → List (List ℕ) → Fault
-f9 st k fs = stop (isOff st k fs) 9 (startOf 1 fs) 2
+f9 st k fs = stop (isOff st k fs) 9 (startOf firstField fs) (firstField + 1)
 
 -- "the 400 that completes the cover leaves the whole day alike"
 unfoldable pub isAlike : Due → ℕ → List (List ℕ) → Bool
@@ -93,7 +93,7 @@ unfoldable pub isElsewhere : Due → ℕ → List (List ℕ) → Bool
 isElsewhere st k fs = eqb k 500 && not (onDay (st .date) (readTimeIn fs))
 
 abbrev pub f12 : Due → ℕ → List (List ℕ) → Fault
-f12 st k fs = stop (isElsewhere st k fs) 12 (startOf 3 fs) 4
+f12 st k fs = stop (isElsewhere st k fs) 12 (startOf readTimeField fs) (readTimeField + 1)
 
 -- the first fault of a record of the kind k with these fields, whose bytes are plain
 unfoldable pub faultAt : Due → ℕ → List (List ℕ) → Fault

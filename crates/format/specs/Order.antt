@@ -5,9 +5,9 @@ use Prim.Native.Nat.{ℕ, _+_}
 use mathlib.Core.List.{List}
 use mathlib.Core.Bool.{Bool, true, false, cond, _&&_, _||_}
 use lib.Dec.{leb, eqb}
-use Rattle.format.specs.Quality.{flagIn, qualityOf, Mark, noMark, sameMark}
+use Rattle.format.specs.Quality.{flagV, flagIn, qualityOf, Mark, noMark, sameMark}
 use Rattle.format.specs.Cut.{field}
-use Rattle.format.specs.Records.{versionIn, intervalsIn, dateIn, lastIn, markIn}
+use Rattle.format.specs.Records.{versionIn, intervalsIn, dateIn, lastIn, quality300, markIn}
 
 -- ---- what may come next
 
@@ -61,7 +61,7 @@ mayCome x k =
 
 -- a 300 of n intervals has quality V
 unfoldable pub isVaried : ℕ → List (List ℕ) → Bool
-isVaried n fs = eqb (flagIn (qualityOf 300 (field (n + 2) fs))) 86
+isVaried n fs = eqb (flagIn (qualityOf 300 (field (quality300 n) fs))) flagV
 
 -- with this 400, every 400 of the day has one mark
 unfoldable pub alikeWith : Due → List (List ℕ) → Bool

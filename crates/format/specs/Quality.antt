@@ -14,13 +14,29 @@ use Rattle.format.specs.declared.Graded.the-variants.{Of}
 
 -- ---- a quality
 
--- the flags that stand alone in a record of the kind k: 'A', and in a 300 'V'
-unfoldable pub standsAlone : ℕ → ℕ → Bool
-standsAlone k q = eqb q 65 || (eqb q 86 && eqb k 300)
+-- "The flag is held as its letter's byte."
+abbrev pub flagA : ℕ
+flagA = 65
 
--- those that take a method: 'E', 'F', 'S'
+abbrev pub flagE : ℕ
+flagE = 69
+
+abbrev pub flagF : ℕ
+flagF = 70
+
+abbrev pub flagS : ℕ
+flagS = 83
+
+abbrev pub flagV : ℕ
+flagV = 86
+
+-- the flags that stand alone in a record of the kind k: A, and in a 300 V
+unfoldable pub standsAlone : ℕ → ℕ → Bool
+standsAlone k q = eqb q flagA || (eqb q flagV && eqb k 300)
+
+-- those that take a method
 unfoldable pub takesMethod : ℕ → Bool
-takesMethod q = eqb q 69 || eqb q 70 || eqb q 83
+takesMethod q = eqb q flagE || eqb q flagF || eqb q flagS
 
 -- "method (255 if none)"
 abbrev pub noMethod : ℕ
@@ -53,14 +69,14 @@ methodIn Graded.Bad = noMethod
 -- ---- the rules across fields
 
 unfoldable pub needsReason : ℕ → Bool
-needsReason q = eqb q 83 || eqb q 70
+needsReason q = eqb q flagS || eqb q flagF
 
 -- a flag, a reason and a description of so many bytes may stand together
 unfoldable pub across : ℕ → ℕ → ℕ → Bool
 across flag reason described =
     not (needsReason flag && eqb reason noReason)
     && not (eqb reason 0 && eqb described 0)
-    && not (eqb flag 86 && not (eqb reason noReason && eqb described 0))
+    && not (eqb flag flagV && not (eqb reason noReason && eqb described 0))
 
 -- ---- quality, reason and description of an interval
 

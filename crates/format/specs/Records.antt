@@ -109,41 +109,90 @@ obeys k RegisterRead s = isRead s
 -- ---- what single fields say, by the field's number from 0
 
 -- a 100's version
+abbrev pub versionField : ℕ
+versionField = 1
+
 unfoldable pub versionIn : List (List ℕ) → ℕ
-versionIn fs = numberIn (versionOf (field 1 fs))
+versionIn fs = numberIn (versionOf (field versionField fs))
 
 -- a 200's n
-unfoldable pub intervalsIn : List (List ℕ) → ℕ
-intervalsIn fs = intervalsOf (numberIn (lengthOf (field 8 fs)))
+abbrev pub lengthField : ℕ
+lengthField = 8
 
--- a 300's date and values
+unfoldable pub intervalsIn : List (List ℕ) → ℕ
+intervalsIn fs = intervalsOf (numberIn (lengthOf (field lengthField fs)))
+
+-- a 300's date, values, update time and load time, where it has n intervals
+abbrev pub dateField : ℕ
+dateField = 1
+
+abbrev pub firstValue : ℕ
+firstValue = 2
+
+abbrev pub updateField : ℕ → ℕ
+updateField n = n + 5
+
+abbrev pub loadField : ℕ → ℕ
+loadField n = n + 6
+
 unfoldable pub dateIn : List (List ℕ) → ℕ
-dateIn fs = numberIn (dateOf (field 1 fs))
+dateIn fs = numberIn (dateOf (field dateField fs))
 
 unfoldable pub millionths : List ℕ → ℕ
 millionths s = numberIn (valueOf decimals s)
 
 unfoldable pub valuesIn : ℕ → List (List ℕ) → List ℕ
-valuesIn n fs = map millionths (take n (drop 2 fs))
+valuesIn n fs = map millionths (take n (drop firstValue fs))
+
+unfoldable pub updateIn : ℕ → List (List ℕ) → ℕ
+updateIn n fs = numberIn (timeOf (field (updateField n) fs))
+
+unfoldable pub loadIn : ℕ → List (List ℕ) → ℕ
+loadIn n fs = numberIn (loadOf (field (loadField n) fs))
 
 -- a 400's first and last interval
+abbrev pub firstField : ℕ
+firstField = 1
+
+abbrev pub lastField : ℕ
+lastField = 2
+
 unfoldable pub firstIn : List (List ℕ) → ℕ
-firstIn fs = numberIn (intervalOf (field 1 fs))
+firstIn fs = numberIn (intervalOf (field firstField fs))
 
 unfoldable pub lastIn : List (List ℕ) → ℕ
-lastIn fs = numberIn (intervalOf (field 2 fs))
+lastIn fs = numberIn (intervalOf (field lastField fs))
 
 -- a 500's read time, 0 if it has none
+abbrev pub readTimeField : ℕ
+readTimeField = 3
+
 unfoldable pub readTimeIn : List (List ℕ) → ℕ
-readTimeIn fs = numberIn (readTimeOf (field 3 fs))
+readTimeIn fs = numberIn (readTimeOf (field readTimeField fs))
 
 -- a 250's quantity
-unfoldable pub quantityIn : List (List ℕ) → ℕ
-quantityIn fs = millionths (field 18 fs)
+abbrev pub quantityField : ℕ
+quantityField = 18
 
--- the numbers from 0 of the quality fields; a reason and a description stand behind each
+unfoldable pub quantityIn : List (List ℕ) → ℕ
+quantityIn fs = millionths (field quantityField fs)
+
+-- the quality of a 300 of n intervals, of a 400, and of a 250's previous and current read; a reason and a description stand behind each
+abbrev pub quality300 : ℕ → ℕ
+quality300 n = n + 2
+
+abbrev pub quality400 : ℕ
+quality400 = 3
+
+abbrev pub previousQuality : ℕ
+previousQuality = 10
+
+abbrev pub currentQuality : ℕ
+currentQuality = 15
+
 unfoldable pub qualitiesOf : ℕ → ℕ → List ℕ
-qualitiesOf k n = cond (eqb k 300) ((n + 2) ∷ []) (cond (eqb k 400) (3 ∷ []) (cond (eqb k 250) (10 ∷ 15 ∷ []) []))
+qualitiesOf k n =
+    cond (eqb k 300) (quality300 n ∷ []) (cond (eqb k 400) (quality400 ∷ []) (cond (eqb k 250) (previousQuality ∷ currentQuality ∷ []) []))
 
 -- quality, reason and description of a record of the kind k, where the quality is field i
 unfoldable pub markAt : ℕ → ℕ → List (List ℕ) → Mark
@@ -157,7 +206,7 @@ markAt k i fs =
 
 -- the mark of a 400
 abbrev pub markIn : List (List ℕ) → Mark
-markIn fs = markAt 400 3 fs
+markIn fs = markAt 400 quality400 fs
 
 -- a mark keeps the rules across fields
 unfoldable pub agrees : Mark → Bool

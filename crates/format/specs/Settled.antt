@@ -1,22 +1,14 @@
--- 01, Settled cases: "Those with a star are proved together as rows of one statement about the definitions." Each row is closed by computation.
+-- 01, Settled cases: "Those with a star are proved together as rows of one statement about the definitions."
 use Prim.Native.Nat.{ℕ}
 use Prim.Native.String.{String}
-use mathlib.Core.Path.{_≡_, refl}
+use mathlib.Core.Path.{_≡_}
 use mathlib.Core.List.{List, [], _∷_, _++_}
-use Rattle.ground.specs.Lists.{spanOf, same}
 use Rattle.ground.specs.Text.{bytes}
-use Rattle.ground.specs.Digits.{isDigit}
-use Rattle.format.specs.Bytes.{isCapital, isLetter, isAlnum, endSpace, isText, areAll}
-use Rattle.format.specs.Texts.{isNmi, isSuffix, isStream, isParty, isConfiguration, isRegister, isSerial, isUnit, isDescription, versionOf}
-use Rattle.format.specs.Numbers.{numberOf, leadingZero, smallOf, intervalOf, isLength, lengthOf, intervalsOf, reasonOf, decimals, fractionOf, valueOf}
-use Rattle.format.specs.Dates.{isLeap, daysIn, isDay, isDate, isTime, isMinute, dateOf, timeOf, createdOf, nextReadOf, loadOf}
-use Rattle.format.specs.Quality.{standsAlone, takesMethod, qualityOf, needsReason, across, sameMark}
-use Rattle.format.specs.Cut.{lines, fields, startOf}
-use Rattle.format.specs.Records.{isKind, indicatorOf, kindIn, rowOf, countOf, ruleOf, obeys, versionIn, intervalsIn, dateIn, firstIn, lastIn, readTimeIn, qualitiesOf, markAt, agrees, firstBroken}
-use Rattle.format.specs.Order.{mayCome, isVaried, alikeWith, afterOf}
-use Rattle.format.specs.Faults.{isOpen, faultIn, brokenIn, isLate, covers, isOff, isAlike, onDay, isElsewhere, faultAt, faultOf}
+use Rattle.format.specs.Numbers.{decimals, valueOf}
+use Rattle.format.specs.Dates.{dateOf}
+use Rattle.format.specs.Quality.{qualityOf}
 use Rattle.format.specs.Answers.{accepted, refused}
-use Rattle.format.specs.File.{walkOf, checkOf}
+use Rattle.format.specs.File.{checkOf}
 use Rattle.format.specs.declared.Number.the-variants.{Is, Bad}
 use Rattle.format.specs.declared.Graded.{Graded}
 use Rattle.format.specs.declared.Graded.the-variants.{Of}
@@ -56,26 +48,3 @@ pub record Settled : Type 0 where
   pub gap : checkOf (varied ("400,1,31,A,," ∷ "400,33,48,E52,," ∷ [])) ≡ refused 9 228 4 2
   -- record 3 starts at 210
   pub past-the-end : checkOf (varied ("400,1,49,A,," ∷ [])) ≡ refused 9 214 3 2
-
-pub settled : Settled
-unfolding spanOf same isDigit isCapital isLetter isAlnum endSpace isText areAll isNmi isSuffix isStream isParty isConfiguration isRegister isSerial isUnit isDescription versionOf numberOf leadingZero smallOf intervalOf isLength lengthOf intervalsOf reasonOf fractionOf valueOf isLeap daysIn isDay isDate isTime isMinute dateOf timeOf createdOf nextReadOf loadOf standsAlone takesMethod qualityOf needsReason across sameMark lines fields startOf isKind indicatorOf kindIn rowOf countOf ruleOf obeys versionIn intervalsIn dateIn firstIn lastIn readTimeIn qualitiesOf markAt agrees firstBroken mayCome isVaried alikeWith afterOf isOpen faultIn brokenIn isLate covers isOff isAlike onDay isElsewhere faultAt faultOf walkOf checkOf
-settled =
-    record {
-      held = refl;
-      leading-zeros = refl;
-      nought = refl;
-      largest = refl;
-      no-whole = refl;
-      no-fraction = refl;
-      eight-digits = refl;
-      eight-before-point = refl;
-      leap = refl;
-      no-leap = refl;
-      e52 = λ k. refl;
-      small-v = λ k. refl;
-      a14 = λ k. refl;
-      s14 = refl;
-      covered = refl;
-      gap = refl;
-      past-the-end = refl;
-    }

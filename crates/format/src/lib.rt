@@ -18,6 +18,18 @@ pub enum Checked {
     Refused(Refusal),
 }
 
+// What a check of a block on its own answers: what its 300 says of the day, and how many records it has.
+pub enum BlockChecked {
+    Accepted {
+        date: u32,
+        n: usize,
+        update: u64,
+        load: u64,
+        records: usize,
+    },
+    Refused(Refusal),
+}
+
 // What a reading of a day answers, beside the lists that it fills. A load time of 0 says that there is none.
 pub enum DayRead {
     Read {

@@ -13,7 +13,7 @@ use Rattle.format.specs.Bytes.{plain}
 use Rattle.format.specs.Cut.{fields}
 use Rattle.format.specs.Records.{kindIn, rowOf, countOf, qualitiesOf, firstBroken}
 use Rattle.format.specs.Order.{Due, mayCome, on100, on200, afterOf}
-use Rattle.format.specs.Faults.{size, isOpen, brokenIn, isLate, isOff, isAlike, isElsewhere, faultIn, faultAt, faultOf}
+use Rattle.format.specs.Faults.{size, isOpen, brokenIn, isNotLater, isOff, isAlike, isElsewhere, faultIn, faultAt, faultOf}
 use Rattle.format.specs.declared.Fault.the-variants.{Fine, Stop}
 use Rattle.format.specs.declared.Tag.{Tag}
 use Rattle.record.specs.Places.{Looked}
@@ -68,7 +68,7 @@ module _ (st : Due) (k : ℕ) (fs : List (List ℕ)) where
 
   -- a kind with no refusal behind 6
   quiet : (k ≡ 300 → ⊥) → (k ≡ 400 → ⊥) → (k ≡ 500 → ⊥) → (k ≡ 250 → ⊥) → goes (afterOf st k fs) ≡ lastOf st k fs
-  unfolding brokenIn qualitiesOf firstBroken isLate isOff isAlike isElsewhere
+  unfolding brokenIn qualitiesOf firstBroken isNotLater isOff isAlike isElsewhere
   quiet a b c d =
       late-none st k fs (rw (ne-eqb _ _ a, ne-eqb _ _ b, ne-eqb _ _ d)) (rw (ne-eqb _ _ a)) (rw (ne-eqb _ _ b)) (rw (ne-eqb _ _ b)) (rw (ne-eqb _ _ c))
 

@@ -16,7 +16,7 @@ use Rattle.format.specs.Quality.{across}
 use Rattle.format.specs.Cut.{fields, field, startOf}
 use Rattle.format.specs.Records.{versionIn, intervalsIn, dateIn, lastIn, readTimeIn, qualitiesOf, firstBroken}
 use Rattle.format.specs.Order.{Due, isVaried, alikeWith, on100, on200, afterOf}
-use Rattle.format.specs.Faults.{size, brokenIn, isLate, covers, isOff, isAlike, onDay, isElsewhere}
+use Rattle.format.specs.Faults.{size, brokenIn, isNotLater, covers, isOff, isAlike, onDay, isElsewhere}
 use Rattle.format.specs.Day.{rowAt, tagAt}
 use Rattle.format.specs.declared.Tag.{Tag}
 use Rattle.record.specs.Walk.{Ran}
@@ -36,11 +36,11 @@ module _ (st : Due) (k : ℕ) (fs : List (List ℕ)) where
       rw (e, ne-eqb _ _ ne, m)
 
   module _ (e₇ : brokenIn k (size st k) fs ≡ 0) where
-    late-8 : isLate st k fs ≡ true → stops 8 (startOf 1 fs) 2 ≡ lastOf st k fs
+    late-8 : isNotLater st k fs ≡ true → stops 8 (startOf 1 fs) 2 ≡ lastOf st k fs
     unfolding lastOf lateOf
     late-8 e = rw (e₇, e)
 
-    module _ (e₈ : isLate st k fs ≡ false) where
+    module _ (e₈ : isNotLater st k fs ≡ false) where
       late-9 : isOff st k fs ≡ true → stops 9 (startOf 1 fs) 2 ≡ lastOf st k fs
       unfolding lastOf lateOf
       late-9 e = rw (e₇, e₈, e)
@@ -86,13 +86,13 @@ module _ (file : List ℕ) (at e p : ℕ) (st : State) (t : Tag) {b : Bool} (h :
     four = omega (arith, h .place)
 
     pub on300-8 : d ≤ st .date → stops 8 4 2 ≡ lastOf (seen file st) 300 (cells file at e)
-    unfolding isLate
+    unfolding isNotLater
     on300-8 l = rw four (late-8 (seen file st) 300 (cells file at e) fine-300 (rw (← date, le-leb _ _ l)))
 
     pub on300-on : (x : ℕ) (m : Tag) (s : Due) → st .date < d → x ≡ cond (eqb (t .flag) 86) 4 3 → m ≡ noTag
         → s ≡ record { expect = x; version = st .version; n = st .n; date = d; next = 1; mark = markOf file m; alike = false; channels = st .channels; days = st .days + 1 }
         → goes s ≡ lastOf (seen file st) 300 (cells file at e)
-    unfolding isLate isOff isAlike isElsewhere afterOf isVaried
+    unfolding isNotLater isOff isAlike isElsewhere afterOf isVaried
     on300-on x m s l ex em es =
         rw (es, em, ex, date, flag-of file at e 300 (st .n + 2) p t g et)
         (late-none (seen file st) 300 (cells file at e) fine-300 (rw (← date, lt-leb _ _ l)) refl refl refl)
@@ -143,7 +143,7 @@ module _ (file : List ℕ) (at e from to q : ℕ) (st : State) (t : Tag) {b : Bo
         leb-true to (st .n) (and-true (leb from to) (leb to (st .n)) (a .1) .1)
 
     pub on400-9 : not o ≡ true → stops 9 4 2 ≡ lastOf (seen file st) 400 (cells file at e)
-    unfolding isLate
+    unfolding isNotLater
     on400-9 n =
         let z : 4 ≡ startOf 1 (cells file at e) = omega (arith, h .place) in
         rw z (late-9 (seen file st) 400 (cells file at e) fine-400 refl (off ∙ n))
@@ -158,13 +158,13 @@ module _ (file : List ℕ) (at e from to q : ℕ) (st : State) (t : Tag) {b : Bo
       whole = rw (← last, ← alike) ew
 
       pub on400-11 : w ≡ true → stops 11 0 0 ≡ lastOf (seen file st) 400 (cells file at e)
-      unfolding isLate
+      unfolding isNotLater
       on400-11 v = late-11 (seen file st) 400 (cells file at e) fine-400 refl (off ∙ on) (sym whole ∙ v)
 
       pub on400-on : (m : Tag) (s : Due) → w ≡ false → m ≡ cond (eqb (st .next) 1) t (st .mark)
           → s ≡ record { expect = 4; version = st .version; n = st .n; date = st .date; next = to + 1; mark = markOf file m; alike = a; channels = st .channels; days = st .days }
           → goes s ≡ lastOf (seen file st) 400 (cells file at e)
-      unfolding isLate isElsewhere afterOf
+      unfolding isNotLater isElsewhere afterOf
       on400-on m s v em es =
           rw (es, em, mark-picked file (eqb (st .next) 1) t (st .mark), mark-of file at e 400 3 q t (r .quality) et, last, alike)
           (late-none (seen file st) 400 (cells file at e) fine-400 refl (off ∙ on) (sym whole ∙ v) refl)
@@ -178,14 +178,14 @@ module _ (file : List ℕ) (at e p x : ℕ) (st : State) {o : Bool} (h : Here fi
   elsewhere = rw (← says-of readTimeOf ex h, ← eo)
 
   pub on500-12 : not o ≡ true → stops 12 (p - at) 4 ≡ lastOf (seen file st) 500 (cells file at e)
-  unfolding brokenIn qualitiesOf firstBroken isLate isOff isAlike
+  unfolding brokenIn qualitiesOf firstBroken isNotLater isOff isAlike
   on500-12 n =
       let z : p - at ≡ startOf 3 (cells file at e) = omega (arith, h .place) in
       rw z (late-12 (seen file st) 500 (cells file at e) refl refl refl refl (elsewhere ∙ n))
 
   pub on500-on : (s : State) → not o ≡ false → s ≡ closed 5 (st .version) (st .n) (st .date) (st .channels) (st .days)
       → goes (seen file s) ≡ lastOf (seen file st) 500 (cells file at e)
-  unfolding brokenIn qualitiesOf firstBroken isLate isOff isAlike afterOf
+  unfolding brokenIn qualitiesOf firstBroken isNotLater isOff isAlike afterOf
   on500-on s n es = rw es (late-none (seen file st) 500 (cells file at e) refl refl refl refl (elsewhere ∙ n))
 
 -- ---- a 250
@@ -212,7 +212,7 @@ module _ (file : List ℕ) (at e p q : ℕ) (st : State) (s : Tag) {b : Bool} (h
 
     pub on250-on : (s : State) → not c ≡ false → s ≡ closed 7 (st .version) 0 0 (st .channels + 1) (st .days)
         → goes (seen file s) ≡ lastOf (seen file st) 250 (cells file at e)
-    unfolding isLate isOff isAlike isElsewhere afterOf
+    unfolding isNotLater isOff isAlike isElsewhere afterOf
     on250-on s n es = rw es (late-none (seen file st) 250 (cells file at e) (rw (not-false c n) at broken-250) refl refl refl refl)
 
 -- ---- the state is kept

@@ -20,7 +20,7 @@ use Rattle.format.specs.Cut.{Lines, line, rest, lines, fields}
 use Rattle.format.specs.Records.{isKind, indicatorOf, kindIn, rowOf, countOf, ruleOf, obeys, intervalsIn, qualitiesOf, firstBroken}
 use Rattle.format.specs.Order.{Due, begun, mayCome, isVaried, on300, afterOf}
 use Rattle.format.specs.Answers.{accepted, refused}
-use Rattle.format.specs.Faults.{isOpen, faultIn, brokenIn, isLate, isOff, isAlike, isElsewhere, faultOf}
+use Rattle.format.specs.Faults.{isOpen, faultIn, brokenIn, isNotLater, isOff, isAlike, isElsewhere, faultOf}
 use Rattle.format.specs.File.{after, orGoOn, walkOf, most, checkOf}
 use Rattle.format.specs.Day.{Row, rowAt, DayRows, runsFrom, daysFrom, daysOf, tagsOf, Day, marksOf, dayOf}
 use Rattle.format.specs.declared.Fault.{Fault}
@@ -217,7 +217,7 @@ abbrev nine : List ℕ
 nine = bytes "900"
 
 nine-fine : (st : Due) → 3 ≤ st .expect → st .expect ≤ 5 → isOpen st 300 ≡ false → faultOf st nine ≡ Fine
-unfolding fields kindIn indicatorOf isKind numberOf areAll isDigit mayCome countOf rowOf faultIn obeys ruleOf brokenIn qualitiesOf firstBroken isLate isOff isAlike isElsewhere
+unfolding fields kindIn indicatorOf isKind numberOf areAll isDigit mayCome countOf rowOf faultIn obeys ruleOf brokenIn qualitiesOf firstBroken isNotLater isOff isAlike isElsewhere
 nine-fine st l h f =
     fit-fine st nine
     (record {

@@ -13,7 +13,7 @@ use Rattle.ground.proofs.Cases.{by}
 use Rattle.format.specs.Cut.{Lines, line, rest, lines, fields}
 use Rattle.format.specs.Records.{kindIn, dateIn, firstIn, lastIn}
 use Rattle.format.specs.Order.{Due, due, mayCome, isVaried, alikeWith, on300, on400, on500, afterOf}
-use Rattle.format.specs.Faults.{size, isOpen, isLate, covers, isOff, isAlike, isElsewhere, faultOf}
+use Rattle.format.specs.Faults.{size, isOpen, isNotLater, covers, isOff, isAlike, isElsewhere, faultOf}
 use Rattle.format.specs.File.{after}
 use Rattle.format.specs.Day.{Row, DayRows, runsFrom, daysFrom, Day, dayOf}
 use Rattle.format.specs.declared.Fault.the-variants.{Fine}
@@ -45,7 +45,7 @@ lines-cut (fs ∷ rows) h = lines-row (join fs) (text rows) (fields-of fs (h .0)
 record Tests (st : Due) (k : ℕ) (fs : Record) : Type 0 where
   free : isOpen st k ≡ false
   may : mayCome (st .expect) k ≡ true
-  rises : isLate st k fs ≡ false
+  rises : isNotLater st k fs ≡ false
   cover : isOff st k fs ≡ false
   apart : isAlike st k fs ≡ false
   day : isElsewhere st k fs ≡ false
@@ -80,12 +80,12 @@ module _ (st : Due) (k : ℕ) (fs : Record) (h : IsRecord k (size st k) fs) wher
 
 module _ (st : Due) (fs : Record) where
   tests-300 : Free st → st .date < dateIn fs → Tests st 300 fs
-  unfolding isLate isOff isAlike isElsewhere
+  unfolding isNotLater isOff isAlike isElsewhere
   tests-300 f l =
       record { free = f .1; may = f .0; rises = lt-leb _ _ l; cover = refl; apart = refl; day = refl }
 
   tests-400 : st .expect ≡ 4 → firstIn fs ≡ st .next → firstIn fs ≤ lastIn fs → lastIn fs ≤ st .n → (lastIn fs ≡ st .n → alikeWith st fs ≡ false) → Tests st 400 fs
-  unfolding mayCome isLate isOff covers isAlike isElsewhere
+  unfolding mayCome isNotLater isOff covers isAlike isElsewhere
   tests-400 x s o w al =
       record {
         free = free-400 st;
@@ -97,7 +97,7 @@ module _ (st : Due) (fs : Record) where
       }
 
   tests-500 : Extra (st .date) fs → 3 ≤ st .expect → st .expect ≤ 5 → (st .expect ≡ 4 → st .n < st .next) → Tests st 500 fs
-  unfolding mayCome isLate isOff isAlike isElsewhere
+  unfolding mayCome isNotLater isOff isAlike isElsewhere
   tests-500 x l h f =
       record {
         free = free-if st 500 f;

@@ -13,7 +13,7 @@ use Rattle.format.specs.Quality.{Mark, sameMark}
 use Rattle.format.specs.Cut.{fields}
 use Rattle.format.specs.Records.{kindIn, markIn}
 use Rattle.format.specs.Order.{Due, between, mayCome, alikeWith, on400}
-use Rattle.format.specs.Faults.{_▹_, stop, f3, isOpen, f10, f4, size, f5, f6, f7, isLate, f8, isOff, f9, isAlike, f11, isElsewhere, f12, faultAt, faultOf}
+use Rattle.format.specs.Faults.{_▹_, stop, f3, isOpen, f10, f4, size, f5, f6, f7, isNotLater, f8, isOff, f9, isAlike, f11, isElsewhere, f12, faultAt, faultOf}
 use Rattle.format.specs.declared.Fault.{Fault}
 use Rattle.format.specs.declared.Fault.the-variants.{Fine, Stop}
 use Rattle.theorems.specs.Grammar.{Record, Covers, Marked, Alike}
@@ -40,7 +40,7 @@ module _ (st : Due) (r : List ℕ) where
     pub free : isOpen st (kindIn (fields r)) ≡ false
     pub may : mayCome (st .expect) (kindIn (fields r)) ≡ true
     pub ok : Ok (kindIn (fields r)) (size st (kindIn (fields r))) (fields r)
-    pub rises : isLate st (kindIn (fields r)) (fields r) ≡ false
+    pub rises : isNotLater st (kindIn (fields r)) (fields r) ≡ false
     pub cover : isOff st (kindIn (fields r)) (fields r) ≡ false
     pub apart : isAlike st (kindIn (fields r)) (fields r) ≡ false
     pub day : isElsewhere st (kindIn (fields r)) (fields r) ≡ false

@@ -11,7 +11,8 @@ use Rattle.format.specs.Cut.{lines}
 use Rattle.format.specs.Answers.{Answer, accepted, refusal}
 use Rattle.format.specs.Order.{begun}
 use Rattle.format.specs.File.{walkOf, checkOf}
-use Rattle.format.specs.Settled.{varied, settled}
+use Rattle.format.specs.Settled.{varied}
+use Rattle.format.proofs.Settled.{settled}
 use Rattle.theorems.specs.Grammar.{InFormat}
 use Rattle.theorems.proofs.Tests.{by}
 use Rattle.theorems.proofs.Takes.{takes-file}

@@ -14,7 +14,7 @@ use Rattle.format.specs.Bytes.{plain}
 use Rattle.format.specs.Cut.{fields, field, startOf}
 use Rattle.format.specs.Records.{kindIn, countOf, ruleOf, obeys, dateIn, firstIn, lastIn, readTimeIn, qualitiesOf, markAt, agrees, firstBroken}
 use Rattle.format.specs.Order.{Due, between, mayCome, alikeWith}
-use Rattle.format.specs.Faults.{_▹_, stop, f3, isOpen, f10, f4, size, f5, faultIn, f6, brokenIn, f7, isLate, f8, covers, isOff, f9, isAlike, f11, onDay, isElsewhere, f12, faultAt, faultOf}
+use Rattle.format.specs.Faults.{_▹_, stop, f3, isOpen, f10, f4, size, f5, faultIn, f6, brokenIn, f7, isNotLater, f8, covers, isOff, f9, isAlike, f11, onDay, isElsewhere, f12, faultAt, faultOf}
 use Rattle.format.specs.declared.Fault.{Fault}
 use Rattle.format.specs.declared.Fault.the-variants.{Fine, Stop}
 use Rattle.theorems.specs.Grammar.{Record, Together}
@@ -87,9 +87,9 @@ module _ (st : Due) (k n : ℕ) (fs : Record) where
       (λ t o i g. g .0 (eqb-true _ _ (not-false _ t)))
 
   link-8 : Link (f8 st k fs) (entry8 st k n fs)
-  unfolding isLate
+  unfolding isNotLater
   link-8 =
-      test-link (isLate st k fs) (startOf 1 fs) 2 (entry8 st k n fs)
+      test-link (isNotLater st k fs) (startOf 1 fs) 2 (entry8 st k n fs)
       (λ t. let a = and-true (eqb k 300) (leb (dateIn fs) (st .date)) t in (eqb-true _ _ (a .0), leb-true _ _ (a .1), refl, refl))
       (λ t o i g. true≢false (let z : true ≡ false = (rw (eq-eqb _ _ (g .0), le-leb _ _ (g .1)) at t) in z))
 

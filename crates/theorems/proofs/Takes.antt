@@ -12,7 +12,7 @@ use Rattle.format.specs.Bytes.{plain}
 use Rattle.format.specs.Cut.{lines, fields}
 use Rattle.format.specs.Records.{kindIn, versionIn, intervalsIn, dateIn, firstIn, lastIn}
 use Rattle.format.specs.Order.{Due, begun, between, mayCome, isVaried, alikeWith, on100, on200, on300, on400, on500, on250, on550, afterOf}
-use Rattle.format.specs.Faults.{isOpen, size, isLate, covers, isOff, isAlike, isElsewhere}
+use Rattle.format.specs.Faults.{isOpen, size, isNotLater, covers, isOff, isAlike, isElsewhere}
 use Rattle.format.specs.Answers.{accepted}
 use Rattle.format.specs.File.{walkOf}
 use Rattle.theorems.specs.Grammar.{Each, Rising, Record, join, text, IsRecord, Block, Covers, Marked, Extra, IsBlock, datesOf, Channel, IsChannel, Reading, IsReading, Content, nem12, nem13, IsContent, blocksThen, channelsThen, readingsThen, contentThen, channelsIn, blocksIn, daysIn, InFormat}
@@ -36,7 +36,7 @@ record Passes (st : Due) (fs : Record) : Type 0 where
   free : isOpen st (kindIn fs) ≡ false
   may : mayCome (st .expect) (kindIn fs) ≡ true
   ok : Ok (kindIn fs) (size st (kindIn fs)) fs
-  rises : isLate st (kindIn fs) fs ≡ false
+  rises : isNotLater st (kindIn fs) fs ≡ false
   cover : isOff st (kindIn fs) fs ≡ false
   apart : isAlike st (kindIn fs) fs ≡ false
   day : isElsewhere st (kindIn fs) fs ≡ false
@@ -58,7 +58,7 @@ ok-of st fs k e h = subst (λ (x : ℕ). Ok x (cond (eqb x 300) (st .n) 0) fs) (
 
 pass : (st : Due) (fs : Record) (k : ℕ) → IsRecord k 0 fs → (k ≡ 300 → ⊥) → (k ≡ 400 → ⊥) → (k ≡ 500 → ⊥)
     → mayCome (st .expect) k ≡ true → (st .expect ≡ 4 → st .n < st .next) → Passes st fs
-unfolding isLate isOff isAlike isElsewhere
+unfolding isNotLater isOff isAlike isElsewhere
 pass st fs k h n₃ n₄ n₅ m f =
     record {
       free = free-if st (kindIn fs) f;
@@ -75,7 +75,7 @@ in-between a b x h k = rw (le-leb a x h, le-leb x b k)
 
 module _ (st : Due) (fs : Record) where
   pass-300 : IsRecord 300 (st .n) fs → st .date < dateIn fs → 2 ≤ st .expect → st .expect ≤ 5 → (st .expect ≡ 4 → st .n < st .next) → Passes st fs
-  unfolding mayCome isLate isOff isAlike isElsewhere
+  unfolding mayCome isNotLater isOff isAlike isElsewhere
   pass-300 h r a b f =
       record {
         free = free-if st (kindIn fs) f;
@@ -88,7 +88,7 @@ module _ (st : Due) (fs : Record) where
       }
 
   pass-500 : Extra (st .date) fs → 3 ≤ st .expect → st .expect ≤ 5 → (st .expect ≡ 4 → st .n < st .next) → Passes st fs
-  unfolding mayCome isLate isOff isAlike isElsewhere
+  unfolding mayCome isNotLater isOff isAlike isElsewhere
   pass-500 h a b f =
       record {
         free = free-if st (kindIn fs) f;
@@ -102,7 +102,7 @@ module _ (st : Due) (fs : Record) where
 
   pass-400 : IsRecord 400 0 fs → st .expect ≡ 4 → firstIn fs ≡ st .next → firstIn fs ≤ lastIn fs → lastIn fs ≤ st .n
       → (lastIn fs ≡ st .n → alikeWith st fs ≡ false) → Passes st fs
-  unfolding mayCome isLate isOff covers isAlike isElsewhere
+  unfolding mayCome isNotLater isOff covers isAlike isElsewhere
   pass-400 h x s o w al =
       record {
         free = rw (h .indicator) (free-400 st);

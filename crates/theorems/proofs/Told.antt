@@ -10,7 +10,7 @@ use borrow.Author.Tests.{eqb-true, eqb-false, eq-eqb, ne-eqb, leb-true, leb-fals
 use Rattle.format.specs.Cut.{Lines, line, rest, lines, fields}
 use Rattle.format.specs.Records.{kindIn, versionIn, dateIn, firstIn, lastIn, readTimeIn}
 use Rattle.format.specs.Order.{Due, begun, isVaried, alikeWith, on100, on200, on300, on400, on500, on250, on550, on900, afterOf}
-use Rattle.format.specs.Faults.{isLate, covers, isOff, isAlike, onDay, isElsewhere, faultOf}
+use Rattle.format.specs.Faults.{isNotLater, covers, isOff, isAlike, onDay, isElsewhere, faultOf}
 use Rattle.format.specs.Answers.{accepted, refused}
 use Rattle.format.specs.File.{after, orGoOn, walkOf}
 use Rattle.format.specs.declared.Fault.{Fault}
@@ -67,7 +67,7 @@ fit-rec st r k f e z n =
     is-record k 0 (fields r) z (fit-fields st r f) e (subst (λ (b : Bool). Ok k (cond b (st .n) 0) (fields r)) (ne-eqb k 300 n) o)
 
 fit-300 : (st : Due) (r : List ℕ) → Fit st r → kindIn (fields r) ≡ 300 → IsRecord 300 (st .n) (fields r) × (st .date < dateIn (fields r))
-unfolding isLate
+unfolding isNotLater
 fit-300 st r f e = (
   is-record 300 (st .n) (fields r) (λ z. omega arith) (fit-fields st r f) e (subst (λ (x : ℕ). Ok x (cond (eqb x 300) (st .n) 0) (fields r)) e (f .ok)),
   leb-false _ _ (rw e at (f .rises)),
