@@ -1,20 +1,26 @@
 -- The walk to the day of a number. Assumes nothing.
-use Prim.Native.Nat.{ℕ, zero, suc, _+_, _-_, _<_}
+use Prim.Native.Nat.{ℕ, zero, suc, _+_, _-_, _≤_, _<_}
 use mathlib.Core.Path.{_≡_, refl, sym, ap, _∙_}
 use mathlib.Core.List.{List, [], _∷_}
 use native.Mathlib.Omega.{arith}
 use lib.ListN.{length, drop}
-use lib.Seq.{drop-nil}
+use lib.Seq.{drop-nil, drop-length}
 use borrow.Author.Tests.{ne-eqb}
 use Rattle.ground.specs.Lists.{part}
-use Rattle.format.specs.Numbers.{numberIn, lengthOf, intervalsOf}
-use Rattle.format.specs.Cut.{fields, field}
+use Rattle.ground.specs.Digits.{isDigit}
+use Rattle.format.specs.Bytes.{areAll}
+use Rattle.format.specs.Numbers.{numberIn, numberOf, leadingZero, smallOf, isLength, lengthOf, intervalsOf}
+use Rattle.format.specs.Cut.{lines, fields, field}
 use Rattle.format.specs.Records.{kindIn, intervalsIn}
 use Rattle.format.specs.Day.{DayRows, daysFrom}
 use Rattle.record.specs.Places.{LineEnd, Rest}
 use Rattle.record.proofs.Cuts.{rest-first}
 use Rattle.record.proofs.Ends.{line-none, line-more, line-room, line-long}
-use Rattle.day.specs.Places.{dayAt, daysAt}
+use Rattle.day.specs.Places.{Heads, dayAt, daysAt, inside, Behind}
+use Rattle.day.specs.declared.Under.{Under}
+use Rattle.day.specs.declared.DayStart.{DayStart}
+use Rattle.day.specs.declared.Place.{Place}
+use Rattle.day.specs.declared.Place.the-variants.{At, Missing}
 
 -- n is in the ninth field of a 200
 pub intervals-is : (file : List ℕ) (fs : List (List ℕ)) (p x e n : ℕ) → Rest file fs p 8 x e
@@ -33,8 +39,8 @@ drop-next : (left : ℕ) (d : DayRows) (ds : List DayRows) → (left ≡ 0 → �
 drop-next zero d ds z = absurd (z refl)
 drop-next (suc k) d ds z = let m : suc k - 1 ≡ k = omega arith in rw m
 
--- the record at a place ends at e; `left` days are to be passed, and n is that of the 200 before
-module _ (file : List ℕ) (at e n left : ℕ) (s : LineEnd file at e) (ds : List DayRows) (inv : ds ≡ drop left (daysAt file at n)) where
+-- the record at a place ends at e; `left` days are to be passed, and u is the 200 before
+module _ (file : List ℕ) (at e left : ℕ) (u : Under) (s : LineEnd file at e) (ds : List DayRows) (inv : ds ≡ drop left (daysAt file at u)) where
   pub find-none : e ≡ length file → [] ≡ ds
   unfolding daysFrom
   find-none h = rw (inv, line-none file at e s h, drop-nil)
@@ -43,22 +49,43 @@ module _ (file : List ℕ) (at e n left : ℕ) (s : LineEnd file at e) (ds : Lis
     behind : at + length (part file at e) + 2 ≡ e + 2
     behind = omega (arith, line-long file at e s, s .order)
 
-    is-day : k ≡ 300 → daysAt file at n ≡ dayAt file at e n ∷ daysAt file (e + 2) n
+    is-day : k ≡ 300 → daysAt file at u ≡ dayAt file at e u ∷ daysAt file (e + 2) u
     unfolding daysFrom
     is-day h = rw (line-more file at e s go, ← ek, h, behind)
 
-    pub find-here : k ≡ 300 → left ≡ 0 → dayAt file at e n ∷ daysAt file (e + 2) n ≡ ds
-    find-here h z = sym (inv ∙ rw (is-day h) (drop-here left (dayAt file at e n) (daysAt file (e + 2) n) z))
+    pub find-here : k ≡ 300 → left ≡ 0 → dayAt file at e u ∷ daysAt file (e + 2) u ≡ ds
+    find-here h z = sym (inv ∙ rw (is-day h) (drop-here left (dayAt file at e u) (daysAt file (e + 2) u) z))
 
-    pub find-next : k ≡ 300 → (left ≡ 0 → ⊥) → ds ≡ drop (left - 1) (daysAt file (e + 2) n)
-    find-next h z = inv ∙ rw (is-day h) (drop-next left (dayAt file at e n) (daysAt file (e + 2) n) z)
+    pub find-next : k ≡ 300 → (left ≡ 0 → ⊥) → ds ≡ drop (left - 1) (daysAt file (e + 2) u)
+    find-next h z = inv ∙ rw (is-day h) (drop-next left (dayAt file at e u) (daysAt file (e + 2) u) z)
 
-    pub find-channel : {m : ℕ} → (k ≡ 300 → ⊥) → k ≡ 200 → m ≡ intervalsIn (fields (part file at e)) → ds ≡ drop left (daysAt file (e + 2) m)
+    pub find-channel : (k ≡ 300 → ⊥) → k ≡ 200 → (v : Under) → v .at ≡ at → v .end ≡ e → ds ≡ drop left (daysAt file (e + 2) v)
     unfolding daysFrom
-    find-channel h z em = rw (inv, line-more file at e s go, ← ek, z, ← em, behind)
+    find-channel h z v va ve = rw (inv, line-more file at e s go, ← ek, z, va, ve, behind)
 
-    pub find-other : (k ≡ 300 → ⊥) → (k ≡ 200 → ⊥) → ds ≡ drop left (daysAt file (e + 2) n)
+    pub find-other : (k ≡ 300 → ⊥) → (k ≡ 200 → ⊥) → ds ≡ drop left (daysAt file (e + 2) u)
     unfolding daysFrom
     find-other h z = rw (inv, line-more file at e s go, ← ek, ne-eqb _ _ h, ne-eqb _ _ z, behind)
 
 pub ruleset finds = (find-none, find-here, find-next, find-channel, find-other)
+
+-- ---- behind a day
+
+-- before the first 200
+pub no-heads : (file : List ℕ) (u : Under) → u .at ≡ 0 → u .end ≡ 0 → u .n ≡ 0 → Heads file u
+unfolding intervalsIn fields lengthOf smallOf leadingZero numberOf areAll intervalsOf isLength
+no-heads file u a e n = record { order = omega arith; within = omega arith; size = rw (a, e, n) }
+
+pub room-behind : (file : List ℕ) (p : Place) (a e : ℕ) (u : Under) → p ≡ At a e u → inside file p → e + 2 ≤ length file
+room-behind file p a e u h i = let w : (a ≤ e) × (e + 2 ≤ length file) × Heads file u = rw h at i in w .1
+
+pub behind-day : (file : List ℕ) (p : Place) (a e : ℕ) (u : Under) → p ≡ At a e u → inside file p → (r : DayStart) → r .at ≡ e + 2 → r .left ≡ 0 → r .under ≡ u
+    → Behind file p r
+behind-day file p a e u h i r ra rl ru =
+    let w : (a ≤ e) × (e + 2 ≤ length file) × Heads file u = rw h at i in
+    record { within = rw ra (w .1); heads = rw ru (w .2); is = rw (h, ra, rl, ru) }
+
+pub behind-none : (file : List ℕ) (p : Place) → p ≡ Missing → (r : DayStart) → r .at ≡ length file → r .left ≡ 0 → Heads file (r .under) → Behind file p r
+unfolding daysFrom lines
+behind-none file p h r ra rl u = record { within = omega arith; heads = u; is = rw (h, ra, rl, drop-length file) }
+

@@ -9,7 +9,7 @@ use Rattle.ground.specs.Lists.{part}
 use Rattle.format.specs.Numbers.{numberIn}
 use Rattle.format.specs.Dates.{dateOf, timeOf, loadOf}
 use Rattle.format.specs.Cut.{fields, field}
-use Rattle.format.specs.Records.{dateIn}
+use Rattle.format.specs.Records.{dateIn, updateIn, loadIn}
 use Rattle.format.specs.Day.{rowAt, tagAt}
 use Rattle.format.specs.declared.Tag.{Tag}
 use Rattle.record.specs.Places.{Cut, Rest}

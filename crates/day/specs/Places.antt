@@ -6,12 +6,15 @@ use mathlib.Core.Bool.{Bool, true, cond}
 use lib.ListN.{length, drop, replicate}
 use lib.Dec.{eqb}
 use Rattle.ground.specs.Lists.{part}
-use Rattle.format.specs.Cut.{lines, field}
-use Rattle.format.specs.Records.{millionths}
-use Rattle.format.specs.Day.{Row, rowAt, DayRows, runsFrom, daysFrom, daysOf, coverOf, tagAt}
+use Rattle.format.specs.Answers.{accepted}
+use Rattle.format.specs.Cut.{lines, fields, field}
+use Rattle.format.specs.Records.{intervalsIn, millionths}
+use Rattle.format.specs.File.{checkOf}
+use Rattle.format.specs.Day.{Row, rowAt, BlockRows, DayRows, runsFrom, daysFrom, daysOf, coverOf, tagAt}
 use Rattle.format.specs.declared.Tag.{Tag}
 use Rattle.bridge.specs.Sound.{coversFrom}
 use Rattle.day.specs.declared.DayStart.{DayStart}
+use Rattle.day.specs.declared.Under.{Under}
 use Rattle.day.specs.declared.Place.{Place}
 use Rattle.day.specs.declared.Place.the-variants.{At, Missing}
 
@@ -36,26 +39,51 @@ tagsFor t n xs = cond (eqb (t .flag) 86) (runTags xs) (replicate n t)
 unfoldable pub isCovered : Tag → ℕ → List Row → Bool
 isCovered t n xs = cond (eqb (t .flag) 86) (coversFrom 0 n xs) true
 
--- the day of n intervals whose 300 stands from a to e
-abbrev pub dayAt : List ℕ → ℕ → ℕ → ℕ → DayRows
-dayAt file a e n = record { n = n; top = rowAt a (part file a e); runs = runsAt file (e + 2) }
+-- the block of n intervals whose 300 stands from a to e
+abbrev pub blockAt : List ℕ → ℕ → ℕ → ℕ → BlockRows
+blockAt file a e n = record { n = n; top = rowAt a (part file a e); runs = runsAt file (e + 2) }
 
 -- ---- where a day stands
 
--- the days from place p on, where n is that of the 200 before
-abbrev pub daysAt : List ℕ → ℕ → ℕ → List DayRows
-daysAt file p n = daysFrom p n (lines (drop p file))
+-- the 200 lies in the file, and n is its own
+pub record Heads (file : List ℕ) (u : Under) : Type 0 where
+  pub order : u .at ≤ u .end
+  pub within : u .end ≤ length file
+  pub size : u .n ≡ intervalsIn (fields (part file (u .at) (u .end)))
+
+abbrev pub channelAt : List ℕ → Under → Row
+channelAt file u = rowAt (u .at) (part file (u .at) (u .end))
+
+-- the day under it whose 300 stands from a to e
+abbrev pub dayAt : List ℕ → ℕ → ℕ → Under → DayRows
+dayAt file a e u = record { channel = channelAt file u; block = blockAt file a e (intervalsIn (channelAt file u .cells)) }
+
+-- the days from place p on, with the 200 before
+abbrev pub daysAt : List ℕ → ℕ → Under → List DayRows
+daysAt file p u = daysFrom p (channelAt file u) (lines (drop p file))
 
 -- the day of a number is found from there
 pub record DayAhead (file : List ℕ) (day : ℕ) (from : DayStart) : Type 0 where
   pub within : from .at ≤ length file
-  pub is : drop day (daysOf file) ≡ drop (from .left) (daysAt file (from .at) (from .n))
+  pub heads : Heads file (from .under)
+  pub is : drop day (daysOf file) ≡ drop (from .left) (daysAt file (from .at) (from .under))
 
 -- the days from the one that was found
 abbrev pub located : List ℕ → Place → List DayRows
-located file (At a e n) = dayAt file a e n ∷ daysAt file (e + 2) n
+located file (At a e u) = dayAt file a e u ∷ daysAt file (e + 2) u
 located file Missing = []
 
 abbrev pub inside : List ℕ → Place → Type 0
-inside file (At a e n) = (a ≤ e) × (e + 2 ≤ length file)
+inside file (At a e u) = (a ≤ e) × (e + 2 ≤ length file) × Heads file u
 inside file Missing = Unit
+
+-- and the day behind it is found from there
+pub record Behind (file : List ℕ) (p : Place) (from : DayStart) : Type 0 where
+  pub within : from .at ≤ length file
+  pub heads : Heads file (from .under)
+  pub is : drop 1 (located file p) ≡ drop (from .left) (daysAt file (from .at) (from .under))
+
+-- ---- a file that was checked
+
+abbrev pub IsAccepted : List ℕ → Type 0
+IsAccepted file = (xs : List ℕ) × (checkOf file ≡ accepted xs)

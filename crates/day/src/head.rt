@@ -15,7 +15,7 @@ ghost use Rattle.ground.specs.Lists.{part};
 ghost use Rattle.format.specs.Numbers.{numberIn};
 ghost use Rattle.format.specs.Dates.{timeOf, loadOf};
 ghost use Rattle.format.specs.Cut.{fields, field};
-ghost use Rattle.format.specs.Records.{dateIn};
+ghost use Rattle.format.specs.Records.{dateIn, updateIn, loadIn};
 ghost use Rattle.format.specs.Day.{rowAt, tagAt};
 ghost use Rattle.record.specs.Places.{Rest};
 ghost use Rattle.day.specs.Places.{valuesFrom};

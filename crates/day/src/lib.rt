@@ -4,15 +4,22 @@ pub mod fields;
 pub mod head;
 pub mod walk;
 
-// From where a day is found: it stands behind `left` more days from the record at `at` on, and n is that of the 200 before.
-pub struct DayStart {
+// The 200 that days stand under, from its first byte to its CR LF, and how many intervals they have. Before the first 200 it is empty, and n is 0.
+pub struct Under {
     pub at: usize,
-    pub left: usize,
+    pub end: usize,
     pub n: usize,
 }
 
-// Where a day's 300 stands, from its first byte to its CR LF, and how many intervals it has.
+// From where a day is found: it stands behind `left` more days from the record at `at` on, and the 200 before that record is given.
+pub struct DayStart {
+    pub at: usize,
+    pub left: usize,
+    pub under: Under,
+}
+
+// Where a day's 300 stands, from its first byte to its CR LF, and the 200 that it stands under.
 pub enum Place {
-    At(usize, usize, usize),
+    At(usize, usize, Under),
     Missing,
 }

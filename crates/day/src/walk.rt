@@ -1,6 +1,7 @@
 // The walk to a day.
 use super::DayStart;
 use super::Place;
+use super::Under;
 use super::fields::skip;
 use record::lines::scan;
 use record::says::intervals_at;
@@ -12,7 +13,7 @@ ghost use Rattle.ground.specs.Lists.{part};
 ghost use Rattle.format.specs.Cut.{fields};
 ghost use Rattle.format.specs.Records.{intervalsIn};
 ghost use Rattle.format.specs.Day.{daysOf};
-ghost use Rattle.day.specs.Places.{DayAhead, located, inside};
+ghost use Rattle.day.specs.Places.{Heads, DayAhead, located, inside, Behind};
 
 // How many intervals the days of a 200 have.
 pub fn intervals_of(file: &[u8], a: usize, e: usize) -> usize
@@ -23,7 +24,20 @@ pub fn intervals_of(file: &[u8], a: usize, e: usize) -> usize
     intervals_at(file, x, e)
 }
 
-// The day of a number from 0, with the n of the last 200 before it. A walk that came by has noted from where it is found.
+// The 200 that goes from a to e.
+fn under_at(file: &[u8], a: usize, e: usize) -> Under
+    requires { ⌜ (a ≤ e) × (e ≤ length (now file)) ⌝ }
+    ensures is { λ r. ⌜ (r .at ≡ a) × (r .end ≡ e) ⌝ }
+    ensures heads { λ r. ⌜ Heads (now (file .entry)) r ⌝ }
+{
+    Under {
+        at: a,
+        end: e,
+        n: intervals_of(file, a, e),
+    }
+}
+
+// The day of a number from 0, with the last 200 before it. A walk that came by has noted from where it is found.
 pub fn find_day(file: &[u8], day: usize, from: DayStart) -> Place
     requires { ⌜ DayAhead (now file) day from ⌝ }
     ensures is { λ r. ⌜ located (now (file .entry)) r ≡ drop day (daysOf (now (file .entry))) ⌝ }
@@ -31,7 +45,7 @@ pub fn find_day(file: &[u8], day: usize, from: DayStart) -> Place
 {
     let mut at = from.at;
     let mut left = from.left;
-    let mut n = from.n;
+    let mut under = from.under;
     loop {
         let s = scan(file, at);
         let e = s.end;
@@ -43,11 +57,34 @@ pub fn find_day(file: &[u8], day: usize, from: DayStart) -> Place
         let k = kind_at(file, a, e);
         if k == 300 {
             if left == 0 {
-                return Place::At(a, e, n);
+                return Place::At(a, e, under);
             }
             left -= 1;
         } else if k == 200 {
-            n = intervals_of(file, a, e);
+            under = under_at(file, a, e);
         }
+    }
+}
+
+// From where the day behind one is found: behind its 300, or at the end of the file where there was none.
+pub fn behind(file: &[u8], p: Place) -> DayStart
+    requires { ⌜ inside (now file) p ⌝ }
+    ensures { λ r. ⌜ Behind (now (file .entry)) p r ⌝ }
+{
+    match p {
+        Place::At(_, e, under) => DayStart {
+            at: e + 2,
+            left: 0,
+            under,
+        },
+        Place::Missing => DayStart {
+            at: file.len(),
+            left: 0,
+            under: Under {
+                at: 0,
+                end: 0,
+                n: 0,
+            },
+        },
     }
 }

@@ -1,17 +1,19 @@
 -- The cases of a reading: no such day, a list too short, the day filled. Assumes nothing.
-use Prim.Native.Nat.{ℕ, _+_, _≤_}
-use mathlib.Core.Path.{_≡_, sym, ap, _∙_}
-use mathlib.Core.List.{List}
+use Prim.Native.Nat.{ℕ, zero, suc, _+_, _≤_}
+use mathlib.Core.Path.{_≡_, refl, sym, _∙_}
+use mathlib.Core.List.{List, [], _∷_}
 use mathlib.Core.Bool.{Bool, true, false, not}
 use lib.ListN.{length, drop}
+use lib.Seq.{drop-drop}
 use borrow.Author.Tests.{leb-true, not-true, not-false}
-use Rattle.ground.specs.Lists.{all}
 use Rattle.ground.proofs.Tests.{and-true}
 use Rattle.format.specs.Answers.{Answer, refusal}
-use Rattle.format.specs.Day.{daysOf, Five, outcome, enoughFor, roomFor, readInto, readFirst}
-use Rattle.bridge.specs.Sound.{isSound}
-use Rattle.bridge.proofs.Sound.{all-drop}
-use Rattle.day.specs.Places.{dayAt, daysAt, located, inside}
+use Rattle.format.specs.Day.{DayRows, daysOf, Five, outcome, enoughFor, roomFor, readInto, readFirst, readOf}
+use Rattle.bridge.specs.Sound.{isSound, areSound}
+use Rattle.bridge.proofs.Bridge.{checked-days}
+use Rattle.day.specs.Places.{blockAt, Heads, dayAt, DayAhead, located, inside, Behind, IsAccepted}
+use Rattle.day.specs.declared.Under.{Under}
+use Rattle.day.specs.declared.DayStart.{DayStart}
 use Rattle.day.specs.declared.Place.{Place}
 use Rattle.day.specs.declared.Place.the-variants.{At, Missing}
 use Rattle.filling.specs.Ready.{Here, Ready, dayInto}
@@ -39,24 +41,46 @@ module _ (file : List ℕ) (a e n : ℕ) (vs : List ℕ) (ms : Five) {b : Bool} 
             };
       }
 
-  pub at-15 : (r : Answer) → not b ≡ true → r ≡ refusal 15 → outcome r vs ms ≡ dayInto (dayAt file a e n) vs ms
+  pub at-15 : (r : Answer) → not b ≡ true → r ≡ refusal 15 → outcome r vs ms ≡ dayInto (blockAt file a e n) vs ms
   at-15 r h er = rw (← eb, not-true b h, er)
 
-  pub at-filled : (r : Answer) (vs₁ : List ℕ) (ms₁ : Five) → not b ≡ false → outcome r vs₁ ms₁ ≡ readInto (dayAt file a e n) vs ms
-      → outcome r vs₁ ms₁ ≡ dayInto (dayAt file a e n) vs ms
+  pub at-filled : (r : Answer) (vs₁ : List ℕ) (ms₁ : Five) → not b ≡ false → outcome r vs₁ ms₁ ≡ readInto (blockAt file a e n) vs ms
+      → outcome r vs₁ ms₁ ≡ dayInto (blockAt file a e n) vs ms
   at-filled r vs₁ ms₁ h q = rw (← eb, not-false b h) q
 
--- p is what the walk to the day answers
-module _ (file : List ℕ) (day : ℕ) (p : Place) (ep : located file p ≡ drop day (daysOf file)) where
-  pub day-here : (a e n : ℕ) → p ≡ At a e n → inside file p → all isSound (daysOf file) ≡ true → Here file a e n
-  day-here a e n h i s =
-      let w : (a ≤ e) × (e + 2 ≤ length file) = rw h at i in
-      record { order = w .0; within = w .1; sound = all-drop isSound day (daysOf file) (dayAt file a e n) (daysAt file (e + 2) n) s (sym ep ∙ ap (located file) h) }
+-- what stands at the place p that the walk to a day answers
+module _ (file : List ℕ) (p : Place) where
+  pub day-here : (a e : ℕ) (u : Under) → p ≡ At a e u → inside file p → areSound (located file p) ≡ true → Here file a e (u .n)
+  day-here a e u h i s =
+      let w : (a ≤ e) × (e + 2 ≤ length file) × Heads file u = rw h at i in
+      let t : areSound (located file (At a e u)) ≡ true = rw h at s in
+      record { order = w .0; within = w .1; sound = rw (w .2 .size) (and-true (isSound (dayAt file a e u .block)) _ t .0) }
 
   module _ (vs : List ℕ) (ms : Five) where
-    pub day-missing : (r : Answer) → p ≡ Missing → r ≡ refusal 14 → outcome r vs ms ≡ readFirst (drop day (daysOf file)) vs ms
-    day-missing r h er = rw (← ep, h, er)
+    pub day-missing : (r : Answer) → p ≡ Missing → r ≡ refusal 14 → outcome r vs ms ≡ readFirst (located file p) vs ms
+    day-missing r h er = rw (h, er)
 
-    pub day-found : (a e n : ℕ) (r : Answer) (vs₁ : List ℕ) (ms₁ : Five) → p ≡ At a e n → outcome r vs₁ ms₁ ≡ dayInto (dayAt file a e n) vs ms
-        → outcome r vs₁ ms₁ ≡ readFirst (drop day (daysOf file)) vs ms
-    day-found a e n r vs₁ ms₁ h q = rw (← ep, h) q
+    pub day-found : (a e : ℕ) (u : Under) (r : Answer) (vs₁ : List ℕ) (ms₁ : Five) → p ≡ At a e u → inside file p
+        → outcome r vs₁ ms₁ ≡ dayInto (blockAt file a e (u .n)) vs ms → outcome r vs₁ ms₁ ≡ readFirst (located file p) vs ms
+    day-found a e u r vs₁ ms₁ h i q =
+        let w : (a ≤ e) × (e + 2 ≤ length file) × Heads file u = rw h at i in
+        rw h (rw (w .2 .size) at q)
+
+-- ---- a file that was accepted
+
+areSound-drop : (k : ℕ) (ds : List DayRows) → areSound ds ≡ true → areSound (drop k ds) ≡ true
+areSound-drop zero ds h = h
+areSound-drop (suc k) [] h = refl
+areSound-drop (suc k) (d ∷ ds) h = areSound-drop k ds (and-true (isSound (d .block)) _ h .1)
+
+module _ (file : List ℕ) (day : ℕ) (p : Place) (ep : located file p ≡ drop day (daysOf file)) where
+  pub place-sound : IsAccepted file → areSound (located file p) ≡ true
+  place-sound a = rw ep (areSound-drop day (daysOf file) (checked-days file (a .0) (a .1)))
+
+  pub next-noted : (r : DayStart) → Behind file p r → DayAhead file (day + 1) r
+  next-noted r b = record { within = b .within; heads = b .heads; is = sym (drop-drop 1 day (daysOf file)) ∙ rw (← ep) (b .is) }
+
+  pub noted-is : IsAccepted file → (r : Answer) (vs vs₁ : List ℕ) (ms ms₁ : Five) → outcome r vs₁ ms₁ ≡ readFirst (located file p) vs ms
+      → outcome r vs₁ ms₁ ≡ readOf file day vs ms
+  unfolding readOf
+  noted-is a r vs vs₁ ms ms₁ q = rw (a .1, ← ep) q

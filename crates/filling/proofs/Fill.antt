@@ -10,16 +10,16 @@ use lib.Dec.{eqb}
 use Rattle.ground.specs.Lists.{part}
 use Rattle.ground.proofs.Tests.{and-true}
 use Rattle.format.specs.Cut.{fields}
-use Rattle.format.specs.Records.{dateIn}
+use Rattle.format.specs.Records.{dateIn, updateIn, loadIn}
 use Rattle.format.specs.Order.{isVaried}
 use Rattle.format.specs.Answers.{accepted}
-use Rattle.format.specs.Day.{rowAt, eachOf, tagAt, tagsOf, valuesOf, updateIn, loadIn, Five, over, overFive, outcome, readInto}
+use Rattle.format.specs.Day.{rowAt, eachOf, tagAt, tagsOf, valuesOf, Five, over, overFive, outcome, readInto}
 use Rattle.format.specs.declared.Tag.{Tag}
 use Rattle.lists.specs.Lists.{stored, Roomy}
 use Rattle.bridge.specs.Sound.{isSound}
 use Rattle.filling.specs.Ready.{Ready}
 use Rattle.bridge.proofs.Sound.{sound-fields, sound-each, sound-values}
-use Rattle.day.specs.Places.{valuesFrom, runsAt, runTags, tagsFor, isCovered, dayAt}
+use Rattle.day.specs.Places.{valuesFrom, runsAt, runTags, tagsFor, isCovered, blockAt}
 use Rattle.day.proofs.Values.{values-are}
 
 -- ---- stores from place 0 on leave the tail
@@ -48,17 +48,17 @@ module _ (file : List ℕ) (a e n : ℕ) (t : Tag) (et : t ≡ tagAt 300 (rowAt 
   unfolding isSound isCovered isVaried tagAt
   covered-is vs ms r = rw et (and-true (eqb (length (fields (part file a e))) (n + 7)) _ (r .here .sound) .1)
 
-  tags-are : tagsFor t n (runsAt file (e + 2)) ≡ tagsOf (dayAt file a e n)
+  tags-are : tagsFor t n (runsAt file (e + 2)) ≡ tagsOf (blockAt file a e n)
   unfolding tagsFor runTags tagsOf eachOf isVaried tagAt
   tags-are = rw et
 
   pub fill-is : (d u l : ℕ) (vs vs₁ : List ℕ) (ms ms₁ : Five) → d ≡ dateIn (fields (part file a e))
       → u ≡ updateIn n (fields (part file a e)) → l ≡ loadIn n (fields (part file a e))
       → vs₁ ≡ sets vs 0 (valuesFrom n 2 (fields (part file a e))) → ms₁ ≡ stored ms 0 (tagsFor t n (runsAt file (e + 2)))
-      → Ready file a e n vs ms → outcome (accepted (d ∷ n ∷ u ∷ l ∷ [])) vs₁ ms₁ ≡ readInto (dayAt file a e n) vs ms
+      → Ready file a e n vs ms → outcome (accepted (d ∷ n ∷ u ∷ l ∷ [])) vs₁ ms₁ ≡ readInto (blockAt file a e n) vs ms
   unfolding readInto valuesOf tagsOf
   fill-is d u l vs vs₁ ms ms₁ ed eu el ev em r =
-      let w = dayAt file a e n in
+      let w = blockAt file a e n in
       let so = r .here .sound in
       let y : valuesFrom n 2 (fields (part file a e)) ≡ valuesOf w = values-are n (fields (part file a e)) (sound-fields w so) in
       let v₁ : vs₁ ≡ over (valuesOf w) vs = ev ∙ ap (sets vs 0) y ∙ over-one (valuesOf w) vs (omega (arith, sound-values w so, r .values)) in

@@ -5,16 +5,16 @@ use mathlib.Core.List.{List}
 use mathlib.Core.Bool.{true, cond}
 use lib.ListN.{length}
 use Rattle.format.specs.Answers.{refusal}
-use Rattle.format.specs.Day.{DayRows, Five, Outcome, outcome, roomFor, readInto}
+use Rattle.format.specs.Day.{BlockRows, Five, Outcome, outcome, roomFor, readInto}
 use Rattle.lists.specs.Lists.{Roomy}
 use Rattle.bridge.specs.Sound.{isSound}
-use Rattle.day.specs.Places.{dayAt}
+use Rattle.day.specs.Places.{blockAt}
 
 -- a sound day of n intervals has its 300 from a to e
 pub record Here (file : List ℕ) (a e n : ℕ) : Type 0 where
   pub order : a ≤ e
   pub within : e + 2 ≤ length file
-  pub sound : isSound (dayAt file a e n) ≡ true
+  pub sound : isSound (blockAt file a e n) ≡ true
 
 -- and the lists have room for it
 pub record Ready (file : List ℕ) (a e n : ℕ) (vs : List ℕ) (ms : Five) : Type 0 where
@@ -22,6 +22,6 @@ pub record Ready (file : List ℕ) (a e n : ℕ) (vs : List ℕ) (ms : Five) : T
   pub values : n ≤ length vs
   pub marks : Roomy n ms
 
--- a day read into the lists, or 15 and the lists as they were
-abbrev pub dayInto : DayRows → List ℕ → Five → Outcome
+-- a day's block read into the lists, or 15 and the lists as they were
+abbrev pub dayInto : BlockRows → List ℕ → Five → Outcome
 dayInto d vs ms = cond (roomFor (d .n) vs ms) (readInto d vs ms) (outcome (refusal 15) vs ms)

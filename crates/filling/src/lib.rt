@@ -1,8 +1,9 @@
-// Reads the day of a number into six lent lists, where the file was accepted.
+// Reads the day of a number into six lent lists, where the file was accepted; and day after day.
 use day::DayStart;
 use day::Place;
 use day::cover::put_marks;
 use day::head::fill_top;
+use day::walk::behind;
 use day::walk::find_day;
 use format::DayRead;
 use format::Refusal;
@@ -10,12 +11,10 @@ use lists::enough;
 ghost use mathlib.Core.Path.{_≡_};
 ghost use mathlib.Core.Bool.{true};
 ghost use Prim.Native.Nat.{_+_};
-ghost use lib.ListN.{drop};
-ghost use Rattle.ground.specs.Lists.{all};
 ghost use Rattle.format.specs.Answers.{refusal, dayReadAs};
-ghost use Rattle.format.specs.Day.{daysOf, five, outcome, readInto, readFirst};
-ghost use Rattle.bridge.specs.Sound.{isSound};
-ghost use Rattle.day.specs.Places.{DayAhead, dayAt};
+ghost use Rattle.format.specs.Day.{five, outcome, readInto, readFirst, readOf};
+ghost use Rattle.bridge.specs.Sound.{areSound};
+ghost use Rattle.day.specs.Places.{blockAt, DayAhead, located, inside, IsAccepted};
 ghost use Rattle.filling.specs.Ready.{Here, Ready, dayInto};
 
 // A refusal without a place of its own.
@@ -44,7 +43,7 @@ fn fill_day(
     lengths: &mut [usize],
 ) -> DayRead
     requires { ⌜ Ready (now file) a e n (now values) (five (now flags) (now methods) (now reasons) (now starts) (now lengths)) ⌝ }
-    ensures { λ r. ⌜ outcome (dayReadAs r) (now (values .exit)) (five (now (flags .exit)) (now (methods .exit)) (now (reasons .exit)) (now (starts .exit)) (now (lengths .exit))) ≡ readInto (dayAt (now (file .entry)) a e n) (now (values .entry)) (five (now (flags .entry)) (now (methods .entry)) (now (reasons .entry)) (now (starts .entry)) (now (lengths .entry))) ⌝ }
+    ensures { λ r. ⌜ outcome (dayReadAs r) (now (values .exit)) (five (now (flags .exit)) (now (methods .exit)) (now (reasons .exit)) (now (starts .exit)) (now (lengths .exit))) ≡ readInto (blockAt (now (file .entry)) a e n) (now (values .entry)) (five (now (flags .entry)) (now (methods .entry)) (now (reasons .entry)) (now (starts .entry)) (now (lengths .entry))) ⌝ }
 {
     let t = fill_top(file, a, e, n, values);
     let tag = t.tag;
@@ -72,7 +71,7 @@ fn read_at(
     lengths: &mut [usize],
 ) -> DayRead
     requires { ⌜ Here (now file) a e n ⌝ }
-    ensures { λ r. ⌜ outcome (dayReadAs r) (now (values .exit)) (five (now (flags .exit)) (now (methods .exit)) (now (reasons .exit)) (now (starts .exit)) (now (lengths .exit))) ≡ dayInto (dayAt (now (file .entry)) a e n) (now (values .entry)) (five (now (flags .entry)) (now (methods .entry)) (now (reasons .entry)) (now (starts .entry)) (now (lengths .entry))) ⌝ }
+    ensures { λ r. ⌜ outcome (dayReadAs r) (now (values .exit)) (five (now (flags .exit)) (now (methods .exit)) (now (reasons .exit)) (now (starts .exit)) (now (lengths .exit))) ≡ dayInto (blockAt (now (file .entry)) a e n) (now (values .entry)) (five (now (flags .entry)) (now (methods .entry)) (now (reasons .entry)) (now (starts .entry)) (now (lengths .entry))) ⌝ }
 {
     if !enough(
         n,
@@ -99,8 +98,46 @@ fn read_at(
     )
 }
 
-// The day of a number from 0, in a file whose days are sound.
-pub fn read_checked(
+// The day at a place, if there is one.
+fn read_place(
+    file: &[u8],
+    p: Place,
+    values: &mut [u64],
+    flags: &mut [u8],
+    methods: &mut [u8],
+    reasons: &mut [u16],
+    starts: &mut [usize],
+    lengths: &mut [usize],
+) -> DayRead
+    requires { ⌜ inside (now file) p × (areSound (located (now file) p) ≡ true) ⌝ }
+    ensures { λ r. ⌜ outcome (dayReadAs r) (now (values .exit)) (five (now (flags .exit)) (now (methods .exit)) (now (reasons .exit)) (now (starts .exit)) (now (lengths .exit))) ≡ readFirst (located (now (file .entry)) p) (now (values .entry)) (five (now (flags .entry)) (now (methods .entry)) (now (reasons .entry)) (now (starts .entry)) (now (lengths .entry))) ⌝ }
+{
+    match p {
+        Place::Missing => no_day(14),
+        Place::At(a, e, under) => read_at(
+            file,
+            a,
+            e,
+            under.n,
+            values,
+            flags,
+            methods,
+            reasons,
+            starts,
+            lengths,
+        ),
+    }
+}
+
+// What a reading of a day answers, and from where the day behind it is found.
+pub struct DayTurn {
+    pub answer: DayRead,
+    pub next: DayStart,
+}
+
+// The day of a number from 0, in a file that was accepted: what `read_day` answers and leaves. Where it is found was noted by a walk that came by, or by
+// this function at the day before, so that day after day is read and the file is checked once.
+pub fn read_noted(
     file: &[u8],
     day: usize,
     from: DayStart,
@@ -110,24 +147,13 @@ pub fn read_checked(
     reasons: &mut [u16],
     starts: &mut [usize],
     lengths: &mut [usize],
-) -> DayRead
-    requires { ⌜ (all isSound (daysOf (now file)) ≡ true) × DayAhead (now file) day from ⌝ }
-    ensures { λ r. ⌜ outcome (dayReadAs r) (now (values .exit)) (five (now (flags .exit)) (now (methods .exit)) (now (reasons .exit)) (now (starts .exit)) (now (lengths .exit))) ≡ readFirst (drop day (daysOf (now (file .entry)))) (now (values .entry)) (five (now (flags .entry)) (now (methods .entry)) (now (reasons .entry)) (now (starts .entry)) (now (lengths .entry))) ⌝ }
+) -> DayTurn
+    requires { ⌜ IsAccepted (now file) × DayAhead (now file) day from ⌝ }
+    ensures is { λ r. ⌜ outcome (dayReadAs (r .answer)) (now (values .exit)) (five (now (flags .exit)) (now (methods .exit)) (now (reasons .exit)) (now (starts .exit)) (now (lengths .exit))) ≡ readOf (now (file .entry)) day (now (values .entry)) (five (now (flags .entry)) (now (methods .entry)) (now (reasons .entry)) (now (starts .entry)) (now (lengths .entry))) ⌝ }
+    ensures next { λ r. ⌜ DayAhead (now (file .entry)) (day + 1) (r .next) ⌝ }
 {
     let p = find_day(file, day, from);
-    match p {
-        Place::Missing => no_day(14),
-        Place::At(a, e, n) => read_at(
-            file,
-            a,
-            e,
-            n,
-            values,
-            flags,
-            methods,
-            reasons,
-            starts,
-            lengths,
-        ),
-    }
+    let next = behind(file, p);
+    let answer = read_place(file, p, values, flags, methods, reasons, starts, lengths);
+    DayTurn { answer, next }
 }

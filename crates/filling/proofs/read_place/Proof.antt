@@ -1,11 +1,8 @@
--- `filling::read_checked` meets its contract. Assumes nothing.
+-- `filling::read_place` meets its contract. Assumes nothing.
 use Rattle.filling.proofs.Cases.{day-here, day-missing, day-found}
 use borrow.Author.Needs.{needs}
-use Rattle.filling.proofs.read_checked.Statement.{statement}
-use Rattle.filling.proofs.read_checked.Tie as tie
-
-find-day-requires : tie.Need-find-day-requires
-find-day-requires c κs = search needs
+use Rattle.filling.proofs.read_place.Statement.{statement}
+use Rattle.filling.proofs.read_place.Tie as tie
 
 enum-told : tie.Need-enum-told
 enum-told c = search needs
@@ -43,11 +40,10 @@ same-length-6 c = search needs
 returns-2 : tie.Need-returns-2
 returns-2 c = search day-found
 
-pub read-checked-spec : {M : Type 1} → statement M
-read-checked-spec =
+pub read-place-spec : {M : Type 1} → statement M
+read-place-spec =
     tie.close
     (tie.spec
-    find-day-requires
     enum-told
     no-day-requires
     enum-known-p
