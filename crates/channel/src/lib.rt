@@ -1,20 +1,23 @@
-// Totals the channel of a number.
-pub mod add;
+// Totals the channel of a number, where the file was accepted; and channel after channel.
 pub mod walk;
 
-use add::add_days;
+use day::walk::intervals_of;
 use format::Number;
 use format::Refusal;
 use format::Totalled;
+use sums::add_days;
+use walk::behind;
 use walk::find_channel;
+use walk::quantity_of;
 ghost use mathlib.Core.Path.{_≡_};
 ghost use mathlib.Core.List.{[], _∷_};
-ghost use Prim.Native.Nat.{_≤_};
+ghost use Prim.Native.Nat.{_+_, _≤_};
 ghost use lib.ListN.{length, drop};
-ghost use Rattle.format.specs.Cut.{lines};
 ghost use Rattle.format.specs.Answers.{refusal, totalledAs};
-ghost use Rattle.format.specs.Total.{totalsFrom, totalFirst};
-ghost use Rattle.channel.specs.Places.{sumAt, ChannelAhead};
+ghost use Rattle.format.specs.Total.{totalFirst, totalOf};
+ghost use Rattle.sums.specs.Sums.{sumAt};
+ghost use Rattle.day.specs.Places.{IsAccepted};
+ghost use Rattle.channel.specs.Places.{totalsIn, ChannelAhead, totalled, inside};
 
 // From where a channel is found: it stands behind `left` more channels from the record at `at` on.
 pub struct ChannelStart {
@@ -22,10 +25,10 @@ pub struct ChannelStart {
     pub left: usize,
 }
 
-// A channel of a file: its days, which start at a place and have so many intervals each; or its quantity in millionths.
+// A channel of a file, from its first byte to its CR LF: a 200 with days, or a 250 with a quantity.
 pub enum Channel {
     Days(usize, usize),
-    Quantity(u64),
+    Quantity(usize, usize),
     Missing,
 }
 
@@ -53,15 +56,39 @@ fn days_total(file: &[u8], start: usize, n: usize) -> Totalled
     }
 }
 
-// What the channel of a number from 0 adds up to. A walk that came by has noted from where it is found.
-pub fn total_of(file: &[u8], channel: usize, from: ChannelStart) -> Totalled
-    requires { ⌜ ChannelAhead (now file) channel from ⌝ }
-    ensures { λ r. ⌜ totalledAs r ≡ totalFirst (drop channel (totalsFrom (lines (now (file .entry))))) ⌝ }
+// What a channel adds up to, if there is one.
+fn total_place(file: &[u8], c: Channel) -> Totalled
+    requires { ⌜ inside (now file) c ⌝ }
+    ensures { λ r. ⌜ totalledAs r ≡ totalFirst (totalled (now (file .entry)) c) ⌝ }
 {
-    let c = find_channel(file, channel, from);
     match c {
         Channel::Missing => no_total(14),
-        Channel::Quantity(v) => Totalled::Total(v),
-        Channel::Days(at, n) => days_total(file, at, n),
+        Channel::Quantity(a, e) => Totalled::Total(quantity_of(file, a, e)),
+        Channel::Days(a, e) => days_total(file, e + 2, intervals_of(file, a, e)),
+    }
+}
+
+// What a channel adds up to, where it stands, and from where the channel behind it is found.
+pub struct ChannelTurn {
+    pub answer: Totalled,
+    pub place: Channel,
+    pub next: ChannelStart,
+}
+
+// The channel of a number from 0, in a file that was accepted: what `total` answers of it. Where it is found was noted by a walk that came by, or by this
+// function at the channel before, so that channel after channel is totalled and the file is checked once.
+pub fn total_noted(file: &[u8], channel: usize, from: ChannelStart) -> ChannelTurn
+    requires { ⌜ IsAccepted (now file) × ChannelAhead (now file) channel from ⌝ }
+    ensures is { λ r. ⌜ totalledAs (r .answer) ≡ totalOf (now (file .entry)) channel ⌝ }
+    ensures place { λ r. ⌜ totalled (now (file .entry)) (r .place) ≡ drop channel (totalsIn (now (file .entry))) ⌝ }
+    ensures next { λ r. ⌜ ChannelAhead (now (file .entry)) (channel + 1) (r .next) ⌝ }
+{
+    let place = find_channel(file, channel, from);
+    let next = behind(file, place);
+    let answer = total_place(file, place);
+    ChannelTurn {
+        answer,
+        place,
+        next,
     }
 }

@@ -2,7 +2,6 @@
 use super::Channel;
 use super::ChannelStart;
 use day::fields::skip;
-use day::walk::intervals_of;
 use record::lines::line_end;
 use record::pieces::field_at;
 use record::says::kind_at;
@@ -11,13 +10,12 @@ ghost use mathlib.Core.Path.{_≡_};
 ghost use Prim.Native.Nat.{_≤_, _<_, _^_};
 ghost use lib.ListN.{length, drop};
 ghost use Rattle.ground.specs.Lists.{part};
-ghost use Rattle.format.specs.Cut.{lines, fields};
+ghost use Rattle.format.specs.Cut.{fields};
 ghost use Rattle.format.specs.Records.{quantityIn};
-ghost use Rattle.format.specs.Total.{totalsFrom, totalFirst};
-ghost use Rattle.channel.specs.Places.{ChannelAhead, channelAs, within};
+ghost use Rattle.channel.specs.Places.{totalsIn, ChannelAhead, totalled, inside, Behind};
 
 // The quantity of a 250, as its text has it: multiplier and rollover of the two reads aren't in the file.
-fn quantity_of(file: &[u8], a: usize, e: usize) -> u64
+pub fn quantity_of(file: &[u8], a: usize, e: usize) -> u64
     requires { ⌜ (a ≤ e) × (e ≤ length (now file)) ⌝ }
     ensures is { λ r. ⌜ r ≡ quantityIn (fields (part (now (file .entry)) a e)) ⌝ }
     ensures small { λ r. ⌜ r < 10 ^ 13 ⌝ }
@@ -31,8 +29,8 @@ fn quantity_of(file: &[u8], a: usize, e: usize) -> u64
 // The channel of a number from 0.
 pub fn find_channel(file: &[u8], channel: usize, from: ChannelStart) -> Channel
     requires { ⌜ ChannelAhead (now file) channel from ⌝ }
-    ensures is { λ r. ⌜ channelAs (now (file .entry)) r ≡ totalFirst (drop channel (totalsFrom (lines (now (file .entry))))) ⌝ }
-    ensures within { λ r. ⌜ within (now (file .entry)) r ⌝ }
+    ensures is { λ r. ⌜ totalled (now (file .entry)) r ≡ drop channel (totalsIn (now (file .entry))) ⌝ }
+    ensures inside { λ r. ⌜ inside (now (file .entry)) r ⌝ }
 {
     let mut at = from.at;
     let mut left = from.left;
@@ -46,14 +44,29 @@ pub fn find_channel(file: &[u8], channel: usize, from: ChannelStart) -> Channel
         let k = kind_at(file, a, e);
         if k == 200 {
             if left == 0 {
-                return Channel::Days(at, intervals_of(file, a, e));
+                return Channel::Days(a, e);
             }
             left -= 1;
         } else if k == 250 {
             if left == 0 {
-                return Channel::Quantity(quantity_of(file, a, e));
+                return Channel::Quantity(a, e);
             }
             left -= 1;
         }
+    }
+}
+
+// From where the channel behind one is found: behind its record, or at the end of the file where there was none.
+pub fn behind(file: &[u8], c: Channel) -> ChannelStart
+    requires { ⌜ inside (now file) c ⌝ }
+    ensures { λ r. ⌜ Behind (now (file .entry)) c r ⌝ }
+{
+    match c {
+        Channel::Days(_, e) => ChannelStart { at: e + 2, left: 0 },
+        Channel::Quantity(_, e) => ChannelStart { at: e + 2, left: 0 },
+        Channel::Missing => ChannelStart {
+            at: file.len(),
+            left: 0,
+        },
     }
 }

@@ -1,5 +1,5 @@
 -- `channel::days_total` meets its contract. Assumes nothing.
-use Rattle.channel.proofs.Sums.{total-is, total-over}
+use Rattle.channel.proofs.Find.{total-is, total-over}
 use borrow.Author.Needs.{needs}
 use Rattle.channel.proofs.days_total.Statement.{statement}
 use Rattle.channel.proofs.days_total.Tie as tie

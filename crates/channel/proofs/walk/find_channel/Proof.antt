@@ -1,10 +1,8 @@
 -- `channel::walk::find_channel` meets its contract. Assumes nothing.
 use Prim.Native.Nat.{_+_, _≤_, _-_}
 use Rattle.channel.proofs.Find.{finds}
-use Rattle.channel.specs.Places.{totalsAt}
+use Rattle.channel.specs.Places.{totalsIn, totalsAt}
 use Rattle.day.proofs.Find.{line-less}
-use Rattle.format.specs.Cut.{lines}
-use Rattle.format.specs.Total.{totalsFrom, totalFirst}
 use Rattle.record.proofs.Ends.{line-room}
 use borrow.Author.Needs.{needs}
 use lib.ListN.{length, drop}
@@ -14,7 +12,7 @@ use Rattle.channel.proofs.walk.find_channel.Statement.{statement}
 use Rattle.channel.proofs.walk.find_channel.Tie as tie
 
 abbrev Inv-loop : tie.InvT-loop
-Inv-loop file channel at₀ left₀ at left = (at ≤ length file) × (totalFirst (drop channel (totalsFrom (lines file))) ≡ totalFirst (drop left (totalsAt file at)))
+Inv-loop file channel at₀ left₀ at left = (at ≤ length file) × (drop channel (totalsIn file) ≡ drop left (totalsAt file at))
 
 abbrev μ-loop : tie.MeasureT-loop
 μ-loop file channel at₀ left₀ at left = length file - at
@@ -34,11 +32,8 @@ add-at c = let r : c .before .line-end .result + 2 ≤ length (c .before .before
 kind-at-requires : tie.Need-kind-at-requires Inv-loop μ-loop
 kind-at-requires c κs = search needs
 
-intervals-of-requires : tie.Need-intervals-of-requires Inv-loop μ-loop
-intervals-of-requires c κs = search needs
-
 returns-2 : tie.Need-returns-2 Inv-loop μ-loop
-returns-2 c = (search finds, search line-room)
+returns-2 c = (search finds, (search needs, search line-room))
 
 sub-left : tie.Need-sub-left Inv-loop μ-loop
 sub-left c = omega arith
@@ -49,11 +44,8 @@ loop-less c = search line-less
 loop-again : tie.Need-loop-again Inv-loop μ-loop
 loop-again c = (search line-room, search finds)
 
-quantity-of-requires : tie.Need-quantity-of-requires Inv-loop μ-loop
-quantity-of-requires c κs = search needs
-
 returns-3 : tie.Need-returns-3 Inv-loop μ-loop
-returns-3 c = (search finds, search needs)
+returns-3 c = (search finds, (search needs, search line-room))
 
 sub-left-2 : tie.Need-sub-left-2 Inv-loop μ-loop
 sub-left-2 c = omega arith
@@ -81,12 +73,10 @@ find-channel-spec =
     returns
     add-at
     kind-at-requires
-    intervals-of-requires
     returns-2
     sub-left
     loop-less
     loop-again
-    quantity-of-requires
     returns-3
     sub-left-2
     loop-less-2

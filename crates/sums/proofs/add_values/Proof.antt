@@ -1,6 +1,6 @@
--- `channel::add::add_values` meets its contract. Assumes nothing.
+-- `sums::add_values` meets its contract. Assumes nothing.
 use Prim.Native.Nat.{_+_, _≤_, _-_, _<_, _^_}
-use Rattle.channel.proofs.Sums.{sum-on, sum-rest, sum-over, sum-end}
+use Rattle.sums.proofs.Sums.{sum-on, sum-rest, sum-over, sum-end}
 use Rattle.day.specs.Places.{valuesFrom}
 use Rattle.format.specs.Cut.{fields}
 use Rattle.ground.specs.Lists.{part, sum}
@@ -10,8 +10,8 @@ use borrow.Author.Needs.{needs}
 use mathlib.Core.Path.{_≡_}
 use native.Mathlib.Nat.{sub-zero}
 use native.Mathlib.Omega.{arith}
-use Rattle.channel.proofs.add.add_values.Statement.{statement}
-use Rattle.channel.proofs.add.add_values.Tie as tie
+use Rattle.sums.proofs.add_values.Statement.{statement}
+use Rattle.sums.proofs.add_values.Tie as tie
 
 abbrev Inv-loop : tie.InvT-loop
 Inv-loop file a e n before acc₀ x₀ i₀ acc x i = (i ≤ n) × (acc < 2 ^ 64) × Rest file (fields (part file a e)) a i x e × (acc + sum (valuesFrom (n - i) i (fields (part file a e))) ≡ before + sum (valuesFrom n 0 (fields (part file a e))))

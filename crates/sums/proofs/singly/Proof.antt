@@ -1,10 +1,10 @@
--- `channel::add::singly` meets its contract. Assumes nothing.
+-- `sums::singly` meets its contract. Assumes nothing.
 use Prim.Native.Nat.{_-_}
 use mathlib.Core.Path.{_≡_}
-use Rattle.channel.proofs.Sums.{Adding, adding-none, adding-on, adding-end, adding-fits}
+use Rattle.sums.proofs.Sums.{Adding, adding-none, adding-on, adding-end, adding-fits}
 use borrow.Author.Needs.{needs}
-use Rattle.channel.proofs.add.singly.Statement.{statement}
-use Rattle.channel.proofs.add.singly.Tie as tie
+use Rattle.sums.proofs.singly.Statement.{statement}
+use Rattle.sums.proofs.singly.Tie as tie
 
 abbrev Inv-loop : tie.InvT-loop
 Inv-loop file x e m stop acc₀ y₀ i₀ acc y i = Adding file x e m i acc y × (stop ≡ e - 7)

@@ -1,8 +1,8 @@
--- `channel::add::many` meets its contract. Assumes nothing.
+-- `sums::many` meets its contract. Assumes nothing.
 use borrow.Author.Needs.{needs}
 use native.Mathlib.Omega.{arith}
-use Rattle.channel.proofs.add.many.Statement.{statement}
-use Rattle.channel.proofs.add.many.Tie as tie
+use Rattle.sums.proofs.many.Statement.{statement}
+use Rattle.sums.proofs.many.Tie as tie
 
 sub-if1 : tie.Need-sub-if1
 sub-if1 c = search needs

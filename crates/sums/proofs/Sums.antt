@@ -18,8 +18,7 @@ use Rattle.format.specs.Bytes.{areAll}
 use Rattle.format.specs.Numbers.{numberOf, valueOf}
 use Rattle.format.specs.Cut.{fields, field}
 use Rattle.format.specs.Records.{kindIn, millionths, valuesIn}
-use Rattle.format.specs.Answers.{Answer, accepted, refusal}
-use Rattle.format.specs.Total.{sumFrom, totalFirst}
+use Rattle.format.specs.Total.{sumFrom}
 use Rattle.format.specs.declared.Number.{Number}
 use Rattle.format.specs.declared.Number.the-variants.{Is, Bad}
 use Rattle.quick.specs.Shapes.{isThousandths}
@@ -31,9 +30,7 @@ use Rattle.values.specs.Lumps.{Alike}
 use Rattle.record.proofs.Tried.{comma-field, comma-cut}
 use Rattle.day.specs.Places.{valuesFrom}
 use Rattle.day.proofs.Values.{values-move}
-use Rattle.channel.specs.declared.Channel.{Channel}
-use Rattle.channel.specs.declared.Channel.the-variants.{Days, Quantity, Missing}
-use Rattle.channel.specs.Places.{held, sumAt, Adds, channelAs, within}
+use Rattle.sums.specs.Sums.{held, sumAt, Adds}
 
 held-is : (v : ℕ) → v < 2 ^ 64 → Is v ≡ held v
 unfolding held
@@ -43,7 +40,7 @@ held-not : (v : ℕ) → 2 ^ 64 ≤ v → Bad ≡ held v
 unfolding held
 held-not v h = rw (le-ltb _ _ h)
 
-got-is : (v y : ℕ) → held v ≡ Is y → v ≡ y
+pub got-is : (v y : ℕ) → held v ≡ Is y → v ≡ y
 unfolding held
 got-is v y e = by (ltb v (2 ^ 64)) e
   where
@@ -59,7 +56,7 @@ got-fits {x} v {y} e q = by (ltb v (2 ^ 64)) refl (sym e ∙ q)
     by true h r = let z : v ≡ y = cc in rw z at (ltb-true v (2 ^ 64) h)
     by false h r = let z : _≡_ {A = ℕ} 0 1 = cc in absurd (omega arith)
 
-got-bad : (v : ℕ) → held v ≡ Bad → 2 ^ 64 ≤ v
+pub got-bad : (v : ℕ) → held v ≡ Bad → 2 ^ 64 ≤ v
 unfolding held
 got-bad v e = by (ltb v (2 ^ 64)) refl e
   where
@@ -231,31 +228,3 @@ module _ (file : List ℕ) (at e n acc whole : ℕ) (s : LineEnd file at e) (inv
       days-on {y} q = omega (arith, got-is (acc + sum (valuesFrom n 0 (fields (part file v e)))) y (sym ex ∙ q), day-more)
 
 pub ruleset days = (days-none, days-end, days-skip, days-over, days-on)
-
--- ---- the answer
-
-module _ (w : ℕ) {x : Number} (ex : x ≡ held w) where
-  pub total-is : {v : ℕ} → x ≡ Is v → accepted (v ∷ []) ≡ totalFirst (w ∷ [])
-  total-is {v} h =
-      let q : w ≡ v = got-is w v (sym ex ∙ h) in
-      let l : w < 2 ^ 64 = rw (← q) at (got-fits w ex h) in
-      rw (lt-ltb _ _ l, q)
-
-  pub total-over : (r : Answer) → x ≡ Bad → r ≡ refusal 17 → r ≡ totalFirst (w ∷ [])
-  total-over r h er = rw (le-ltb _ _ (got-bad w (sym ex ∙ h))) er
-
--- c is what the walk to the channel answers, and a what is to be answered
-module _ (file : List ℕ) (a : Answer) (c : Channel) (ec : channelAs file c ≡ a) where
-  pub channel-days : (p n : ℕ) (r : Answer) → c ≡ Days p n → r ≡ totalFirst (sumAt file p n ∷ []) → r ≡ a
-  channel-days p n r h er = er ∙ sym (ap (channelAs file) h) ∙ ec
-
-  pub channel-quantity : (v : ℕ) → c ≡ Quantity v → accepted (v ∷ []) ≡ a
-  channel-quantity v h = sym (ap (channelAs file) h) ∙ ec
-
-  pub channel-missing : (r : Answer) → c ≡ Missing → r ≡ refusal 14 → r ≡ a
-  channel-missing r h er = er ∙ sym (ap (channelAs file) h) ∙ ec
-
-  pub channel-inside : (p n : ℕ) → c ≡ Days p n → within file c → p ≤ length file
-  channel-inside p n h i = rw h at i
-
-pub ruleset totals = (total-is, total-over, channel-days, channel-quantity, channel-missing, channel-inside)

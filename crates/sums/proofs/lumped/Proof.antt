@@ -1,11 +1,11 @@
--- `channel::add::lumped` meets its contract. Assumes nothing.
+-- `sums::lumped` meets its contract. Assumes nothing.
 use Prim.Native.Nat.{_-_, _+_, _*_}
-use Rattle.channel.proofs.Sums.{Adding, adding-none, adding-end, lump-shape, lump-fits, lump-on}
+use Rattle.sums.proofs.Sums.{Adding, adding-none, adding-end, lump-shape, lump-fits, lump-on}
 use borrow.Author.Needs.{needs}
 use mathlib.Core.Path.{_≡_}
 use native.Mathlib.Omega.{arith}
-use Rattle.channel.proofs.add.lumped.Statement.{statement}
-use Rattle.channel.proofs.add.lumped.Tie as tie
+use Rattle.sums.proofs.lumped.Statement.{statement}
+use Rattle.sums.proofs.lumped.Tie as tie
 
 abbrev Inv-loop : tie.InvT-loop
 Inv-loop file x e acc₀ y₀ i₀ acc y i = Adding file x e 16 i acc y × (y ≡ x + 6 * i)

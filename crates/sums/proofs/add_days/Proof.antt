@@ -1,7 +1,7 @@
--- `channel::add::add_days` meets its contract. Assumes nothing.
+-- `sums::add_days` meets its contract. Assumes nothing.
 use Prim.Native.Nat.{_+_, _≤_, _-_, _<_, _^_}
-use Rattle.channel.proofs.Sums.{days, got-fits}
-use Rattle.channel.specs.Places.{sumAt}
+use Rattle.sums.proofs.Sums.{days, got-fits}
+use Rattle.sums.specs.Sums.{sumAt}
 use Rattle.day.proofs.Find.{line-less}
 use Rattle.record.proofs.Ends.{line-room}
 use borrow.Author.Needs.{needs}
@@ -9,8 +9,8 @@ use lib.ListN.{length}
 use mathlib.Core.Path.{_≡_}
 use native.Mathlib.Nat.{zero-add}
 use native.Mathlib.Omega.{arith}
-use Rattle.channel.proofs.add.add_days.Statement.{statement}
-use Rattle.channel.proofs.add.add_days.Tie as tie
+use Rattle.sums.proofs.add_days.Statement.{statement}
+use Rattle.sums.proofs.add_days.Tie as tie
 
 abbrev Inv-loop : tie.InvT-loop
 Inv-loop file start n acc₀ at₀ acc at = (at ≤ length file) × (acc < 2 ^ 64) × (acc + sumAt file at n ≡ sumAt file start n)

@@ -1,8 +1,8 @@
--- `channel::add::plus` meets its contract. Assumes nothing.
-use Rattle.channel.proofs.Sums.{plus-not, plus-is}
+-- `sums::plus` meets its contract. Assumes nothing.
+use Rattle.sums.proofs.Sums.{plus-not, plus-is}
 use borrow.Author.Needs.{needs}
-use Rattle.channel.proofs.add.plus.Statement.{statement}
-use Rattle.channel.proofs.add.plus.Tie as tie
+use Rattle.sums.proofs.plus.Statement.{statement}
+use Rattle.sums.proofs.plus.Tie as tie
 
 sub-if1 : tie.Need-sub-if1
 sub-if1 c = search needs

@@ -14,7 +14,7 @@ ghost use Rattle.ground.specs.Lists.{part, sum};
 ghost use Rattle.format.specs.Cut.{fields};
 ghost use Rattle.day.specs.Places.{valuesFrom};
 ghost use Rattle.values.specs.Lumps.{Alike};
-ghost use Rattle.channel.specs.Places.{held, sumAt, Adds};
+ghost use Rattle.sums.specs.Sums.{held, sumAt, Adds};
 
 // The values of some fields from a place on, added up, and where the field behind them starts.
 pub struct Sum {

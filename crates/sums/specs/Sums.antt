@@ -1,0 +1,28 @@
+-- Sums of values from a place of the file on, for the contracts of the inner functions.
+use Prim.Native.Nat.{ℕ, _*_, _^_, _≤_}
+use mathlib.Core.Path.{_≡_}
+use mathlib.Core.List.{List}
+use mathlib.Core.Bool.{cond}
+use lib.ListN.{drop}
+use lib.Dec.{ltb}
+use Rattle.ground.specs.Lists.{sum, part}
+use Rattle.format.specs.Cut.{lines, fields}
+use Rattle.format.specs.Total.{sumFrom}
+use Rattle.format.specs.declared.Number.{Number}
+use Rattle.format.specs.declared.Number.the-variants.{Is, Bad}
+use Rattle.record.specs.Places.{Rest}
+use Rattle.day.specs.Places.{valuesFrom}
+
+-- a sum, if 64 bits hold it
+unfoldable pub held : ℕ → Number
+held v = cond (ltb v (2 ^ 64)) (Is v) Bad
+
+-- the values of m fields from place x on come to v, and the field behind them starts at y
+pub record Adds (file : List ℕ) (x e m v y : ℕ) : Type 0 where
+  pub is : v ≡ sum (valuesFrom m 0 (fields (part file x e)))
+  pub small : v ≤ m * 10 ^ 13
+  pub rest : Rest file (fields (part file x e)) x m y e
+
+-- the values of the days from place p on, up to the next channel
+abbrev pub sumAt : List ℕ → ℕ → ℕ → ℕ
+sumAt file p n = sumFrom n (lines (drop p file))
