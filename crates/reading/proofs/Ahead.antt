@@ -9,13 +9,12 @@ use lib.ListN.{length, drop}
 use lib.Dec.{eqb, leb}
 use borrow.Author.Tests.{eqb-true, eqb-false, leb-true}
 use Rattle.ground.specs.Lists.{part}
-use Rattle.format.specs.Cut.{lines, fields}
+use Rattle.format.specs.Cut.{fields}
 use Rattle.format.specs.Records.{kindIn, versionIn, intervalsIn}
 use Rattle.format.specs.Order.{Due, mayCome, isVaried, afterOf}
 use Rattle.format.specs.Faults.{faultOf}
 use Rattle.format.specs.File.{after}
 use Rattle.format.specs.Day.{daysOf}
-use Rattle.format.specs.Total.{totalsFrom, totalFirst}
 use Rattle.format.specs.declared.Fault.{Fault}
 use Rattle.format.specs.declared.Fault.the-variants.{Fine, Stop}
 use Rattle.bridge.proofs.Bridge.{fine-may}
@@ -30,18 +29,17 @@ use Rattle.order.specs.declared.State.{State}
 use Rattle.order.specs.declared.Step.{Step}
 use Rattle.order.specs.declared.Step.the-variants as step
 use Rattle.order.specs.State.{seen, Next, goes, stops, orStop, nextOf, stepAs}
-use Rattle.day.specs.Places.{daysAt, DayAhead}
+use Rattle.day.specs.Places.{Heads, daysAt, DayAhead}
+use Rattle.day.specs.declared.Under.{Under}
+use Rattle.day.proofs.Find.{no-heads}
 use Rattle.day.specs.declared.DayStart.{DayStart}
 use Rattle.day.proofs.Find as days
-use Rattle.channel.specs.Places.{totalsAt, ChannelAhead}
+use Rattle.channel.specs.Places.{totalsIn, totalsAt, ChannelAhead}
+use Rattle.reading.specs.Tour.{noUnder, firstDay, firstChannel, Counts, Ahead}
 use Rattle.channel.specs.declared.ChannelStart.{ChannelStart}
 use Rattle.channel.proofs.Find as totals
 
 -- ---- what a record does to the counts
-
--- nothing is counted before the 100
-pub record Counts (st : Due) : Type 0 where
-  pub none : st .expect ≡ 0 → (st .days ≡ 0) × (st .channels ≡ 0)
 
 module _ (st : Due) (k : ℕ) (fs : List (List ℕ)) (may : mayCome (st .expect) k ≡ true) (c : Counts st) where
   begins : k ≡ 100 → (st .days ≡ 0) × (st .channels ≡ 0)
@@ -76,20 +74,24 @@ module _ (st : Due) (k : ℕ) (fs : List (List ℕ)) (may : mayCome (st .expect)
       is : Due → Type 0
       is s = s .channels ≡ cond (eqb k 200) (st .channels + 1) (cond (eqb k 250) (st .channels + 1) (st .channels))
 
-  -- n is that of a 200
-  intervals-after : (m : ℕ) → cond (eqb (afterOf st k fs .expect) 2) (afterOf st k fs .n) m ≡ cond (eqb k 200) (intervalsIn fs) m
+  -- a 300 is expected at once behind a 200
+  expects-300 : eqb (afterOf st k fs .expect) 2 ≡ eqb k 200
   unfolding afterOf
-  intervals-after m =
-      by-test is (eqb k 100) (λ t. by-test (λ x. cond (eqb x 2) 0 m ≡ cond (eqb k 200) (intervalsIn fs) m) (eqb (versionIn fs) 12) (λ v. rw (eqb-true k 100 t)) (λ v. rw (eqb-true k 100 t)))
+  expects-300 =
+      by-test is (eqb k 100) (λ t. by-test (λ x. eqb x 2 ≡ eqb k 200) (eqb (versionIn fs) 12) (λ v. rw (eqb-true k 100 t)) (λ v. rw (eqb-true k 100 t)))
       (λ a. by-test is (eqb k 200) (λ t. rw t)
-      (λ b. by-test is (eqb k 300) (λ t. by-test (λ x. cond (eqb x 2) (st .n) m ≡ cond (eqb k 200) (intervalsIn fs) m) (isVaried (st .n) fs) (λ v. rw b) (λ v. rw b))
+      (λ b. by-test is (eqb k 300) (λ t. by-test (λ x. eqb x 2 ≡ eqb k 200) (isVaried (st .n) fs) (λ v. rw b) (λ v. rw b))
       (λ d. by-test is (eqb k 400) (λ t. rw b)
       (λ f. by-test is (eqb k 500) (λ t. rw b)
       (λ g. by-test is (eqb k 250) (λ t. rw b)
       (λ h. by-test is (eqb k 550) (λ t. rw b) (λ t. rw b)))))))
     where
       is : Due → Type 0
-      is s = cond (eqb (s .expect) 2) (s .n) m ≡ cond (eqb k 200) (intervalsIn fs) m
+      is s = eqb (s .expect) 2 ≡ eqb k 200
+
+after-200 : (st : Due) (fs : List (List ℕ)) → afterOf st 200 fs .n ≡ intervalsIn fs
+unfolding afterOf
+after-200 st fs = refl
 
 -- something is expected behind every record
 some-after : (st : Due) (k : ℕ) (fs : List (List ℕ)) → afterOf st k fs .expect ≡ 0 → ⊥
@@ -120,15 +122,9 @@ gone (Stop x o i) d s e = absurd (false≢true (ap going e))
     going (goes x) = true
     going (stops x o i) = false
 
--- the walk stands at a record with so many days and channels before it
-pub record Ahead (file : List ℕ) (day channel at n : ℕ) (st : Due) : Type 0 where
-  pub counts : Counts st
-  pub days : st .days ≤ day → drop day (daysOf file) ≡ drop (day - st .days) (daysAt file at n)
-  pub totals : st .channels ≤ channel → totalFirst (drop channel (totalsFrom (lines file))) ≡ totalFirst (drop (channel - st .channels) (totalsAt file at))
-
--- the record from at to e is passed, and s is the state behind it
-module _ (file : List ℕ) (day channel at n e m : ℕ) (st s : Due) (l : LineEnd file at e) (go : e ≡ length file → ⊥) (a : Ahead file day channel at n st)
-    (next : goes s ≡ nextOf st (part file at e)) (em : m ≡ cond (eqb (s .expect) 2) (s .n) n) where
+-- the record from at to e is passed, and s is the state behind it, v the 200
+module _ (file : List ℕ) (day channel at e : ℕ) (u v : Under) (st s : Due) (l : LineEnd file at e) (go : e ≡ length file → ⊥) (a : Ahead file day channel at u st)
+    (next : goes s ≡ nextOf st (part file at e)) (ev : v ≡ cond (eqb (s .expect) 2) (record { at = at; end = e; n = s .n }) u) where
   abbrev k : ℕ
   k = kindIn (fields (part file at e))
 
@@ -145,34 +141,48 @@ module _ (file : List ℕ) (day channel at n e m : ℕ) (st s : Due) (l : LineEn
   channels-now : s .channels ≡ cond (eqb k 200) (st .channels + 1) (cond (eqb k 250) (st .channels + 1) (st .channels))
   channels-now = rw (both .1) (channels-after st k (fields (part file at e)) may (a .counts))
 
-  n-now : m ≡ cond (eqb k 200) (intervalsIn (fields (part file at e))) n
-  n-now = em ∙ rw (both .1) (intervals-after st k (fields (part file at e)) may (a .counts) n)
+  under-now : v ≡ cond (eqb k 200) (record { at = at; end = e; n = s .n }) u
+  under-now =
+      ev ∙ ap (λ (b : Bool). cond b (record { at = at; end = e; n = s .n }) u)
+      (ap (λ (x : Due). eqb (x .expect) 2) (both .1) ∙ expects-300 st k (fields (part file at e)) may (a .counts))
 
-  days-on : s .days ≤ day → drop day (daysOf file) ≡ drop (day - s .days) (daysAt file (e + 2) m)
+  pub heads-on : Heads file u → Heads file v
+  heads-on h = by (eqb k 200) refl
+    where
+      by : (b : Bool) → eqb k 200 ≡ b → Heads file v
+      by true i =
+          let z : k ≡ 200 = eqb-true k 200 i in
+          let w : v ≡ record { at = at; end = e; n = s .n } = rw i at under-now in
+          let n : s .n ≡ intervalsIn (fields (part file at e)) = rw (both .1, z) (after-200 st (fields (part file at e))) in
+          rw w (record { order = l .order; within = l .within; size = n })
+      by false i = let w : v ≡ u = rw i at under-now in rw w h
+
+  days-on : s .days ≤ day → drop day (daysOf file) ≡ drop (day - s .days) (daysAt file (e + 2) v)
   days-on h = by (eqb k 300) refl (eqb k 200) refl
     where
-      by : (b : Bool) → eqb k 300 ≡ b → (d : Bool) → eqb k 200 ≡ d → drop day (daysOf file) ≡ drop (day - s .days) (daysAt file (e + 2) m)
+      by : (b : Bool) → eqb k 300 ≡ b → (d : Bool) → eqb k 200 ≡ d → drop day (daysOf file) ≡ drop (day - s .days) (daysAt file (e + 2) v)
       by true i d j =
           let z : k ≡ 300 = eqb-true k 300 i in
           let w : s .days ≡ st .days + 1 = rw i at days-now in
           let o : eqb k 200 ≡ false = rw z in
-          let v : m ≡ n = rw o at n-now in
+          let y : v ≡ u = rw o at under-now in
           let q : day - s .days ≡ day - st .days - 1 = omega arith in
-          rw (q, v) (days.find-next file at e n (day - st .days) l (drop day (daysOf file)) (a .days (omega arith)) go refl z (λ y. omega arith))
+          rw (q, y) (days.find-next file at e (day - st .days) u l (drop day (daysOf file)) (a .days (omega arith)) go refl z (λ y. omega arith))
       by false i true j =
           let w : s .days ≡ st .days = rw i at days-now in
-          let v : m ≡ intervalsIn (fields (part file at e)) = rw j at n-now in
-          rw w (days.find-channel file at e n (day - st .days) l (drop day (daysOf file)) (a .days (omega arith)) go refl (eqb-false k 300 i) (eqb-true k 200 j) v)
+          let y : v ≡ record { at = at; end = e; n = s .n } = rw j at under-now in
+          rw w (days.find-channel file at e (day - st .days) u l (drop day (daysOf file)) (a .days (omega arith)) go refl (eqb-false k 300 i) (eqb-true k 200 j) v
+          (ap (λ (x : Under). x .at) y) (ap (λ (x : Under). x .end) y))
       by false i false j =
           let w : s .days ≡ st .days = rw i at days-now in
-          let v : m ≡ n = rw j at n-now in
-          rw (w, v) (days.find-other file at e n (day - st .days) l (drop day (daysOf file)) (a .days (omega arith)) go refl (eqb-false k 300 i) (eqb-false k 200 j))
+          let y : v ≡ u = rw j at under-now in
+          rw (w, y) (days.find-other file at e (day - st .days) u l (drop day (daysOf file)) (a .days (omega arith)) go refl (eqb-false k 300 i) (eqb-false k 200 j))
 
-  totals-on : s .channels ≤ channel → totalFirst (drop channel (totalsFrom (lines file))) ≡ totalFirst (drop (channel - s .channels) (totalsAt file (e + 2)))
+  totals-on : s .channels ≤ channel → drop channel (totalsIn file) ≡ drop (channel - s .channels) (totalsAt file (e + 2))
   totals-on h = by (eqb k 200) refl (eqb k 250) refl
     where
       by : (b : Bool) → eqb k 200 ≡ b → (d : Bool) → eqb k 250 ≡ d
-          → totalFirst (drop channel (totalsFrom (lines file))) ≡ totalFirst (drop (channel - s .channels) (totalsAt file (e + 2)))
+          → drop channel (totalsIn file) ≡ drop (channel - s .channels) (totalsAt file (e + 2))
       by true i d j =
           let w : s .channels ≡ st .channels + 1 = rw i at channels-now in
           let q : channel - s .channels ≡ channel - st .channels - 1 = omega arith in
@@ -185,7 +195,7 @@ module _ (file : List ℕ) (day channel at n e m : ℕ) (st s : Due) (l : LineEn
           let w : s .channels ≡ st .channels = rw (i, j) at channels-now in
           rw w (totals.find-other file at e (channel - st .channels) l _ (a .totals (omega arith)) go refl (eqb-false k 200 i) (eqb-false k 250 j))
 
-  pub ahead-on : Ahead file day channel (e + 2) m s
+  pub ahead-on : Ahead file day channel (e + 2) v s
   ahead-on =
       record {
         counts = record { none = λ h. absurd (some-after st k (fields (part file at e)) (ap (λ (x : Due). x .expect) (sym (both .1)) ∙ h)) };
@@ -195,7 +205,7 @@ module _ (file : List ℕ) (day channel at n e m : ℕ) (st s : Due) (l : LineEn
 
 -- ---- what is noted
 
-pub ahead-first : (file : List ℕ) (day channel : ℕ) (st : Due) → st .days ≡ 0 → st .channels ≡ 0 → Ahead file day channel 0 0 st
+pub ahead-first : (file : List ℕ) (day channel : ℕ) (st : Due) → st .days ≡ 0 → st .channels ≡ 0 → Ahead file day channel 0 noUnder st
 unfolding daysOf
 ahead-first file day channel st d c =
     record {
@@ -204,25 +214,32 @@ ahead-first file day channel st d c =
       totals = λ h. (let q : channel - st .channels ≡ channel = omega arith in rw q);
     }
 
-module _ (file : List ℕ) (day channel at n : ℕ) (st : Due) (within : at ≤ length file) (a : Ahead file day channel at n st) where
-  pub day-noted : (b r : DayStart) → DayAhead file day b → r ≡ cond (leb (st .days) day) (record { at = at; left = day - st .days; n = n }) b → DayAhead file day r
-  day-noted b r h q = rw q (by-test (DayAhead file day) (leb (st .days) day) (λ t. record { within = within; is = a .days (leb-true _ _ t) }) (λ t. h))
+module _ (file : List ℕ) (day channel at : ℕ) (u : Under) (st : Due) (within : at ≤ length file) (heads : Heads file u) (a : Ahead file day channel at u st) where
+  pub day-noted : (b r : DayStart) → DayAhead file day b → r ≡ cond (leb (st .days) day) (record { at = at; left = day - st .days; under = u }) b → DayAhead file day r
+  day-noted b r h q =
+      rw q (by-test (DayAhead file day) (leb (st .days) day) (λ t. record { within = within; heads = heads; is = a .days (leb-true _ _ t) }) (λ t. h))
 
   pub channel-noted : (b r : ChannelStart) → ChannelAhead file channel b → r ≡ cond (leb (st .channels) channel) (record { at = at; left = channel - st .channels }) b
       → ChannelAhead file channel r
   channel-noted b r h q = rw q (by-test (ChannelAhead file channel) (leb (st .channels) channel) (λ t. record { within = within; is = a .totals (leb-true _ _ t) }) (λ t. h))
 
-pub day-first : (file : List ℕ) (day : ℕ) → DayAhead file day (record { at = 0; left = day; n = 0 })
+pub day-first : (file : List ℕ) (day : ℕ) → DayAhead file day (firstDay day)
 unfolding daysOf
-day-first file day = record { within = omega arith; is = refl }
+day-first file day = record { within = omega arith; heads = no-heads file noUnder refl refl refl; is = refl }
 
-pub channel-first : (file : List ℕ) (channel : ℕ) → ChannelAhead file channel (record { at = 0; left = channel })
+pub channel-first : (file : List ℕ) (channel : ℕ) → ChannelAhead file channel (firstChannel channel)
 channel-first file channel = record { within = omega arith; is = refl }
 
 -- the turn, in the terms of the walk's code
-pub ahead-turn : (file : List ℕ) (day channel at n m : ℕ) (st : State) (r : Record) (is : r ≡ recordAt file at) (p : ℕ) (f : Found) (h : r ≡ At p f) (t : Step)
-    → stepAs file t ≡ nextOf (seen file st) (part file at (f .end)) → (s : State) → t ≡ step.On s → Ahead file day channel at n (seen file st)
-    → m ≡ cond (eqb (s .expect) 2) (s .n) n → Ahead file day channel (f .end + 2) m (seen file s)
-ahead-turn file day channel at n m st r is p f h t et s q a em =
-    ahead-on file day channel at n (f .end) m (seen file st) (seen file s) (handed-looked file at r is p f h .ends) (handed-inside file at r is p f h) a
-    (rw q at et) em
+module _ (file : List ℕ) (day channel at : ℕ) (u v : Under) (st : State) (r : Record) (is : r ≡ recordAt file at) (p : ℕ) (f : Found) (h : r ≡ At p f) (t : Step)
+    (et : stepAs file t ≡ nextOf (seen file st) (part file at (f .end))) (s : State) (q : t ≡ step.On s) (a : Ahead file day channel at u (seen file st)) where
+  next-is : goes (seen file s) ≡ nextOf (seen file st) (part file at (f .end))
+  next-is = rw q at et
+
+  pub under-turn : Heads file u → v ≡ cond (eqb (s .expect) 2) (record { at = at; end = f .end; n = s .n }) u → Heads file v
+  under-turn g ev =
+      heads-on file day channel at (f .end) u v (seen file st) (seen file s) (handed-looked file at r is p f h .ends) (handed-inside file at r is p f h) a next-is ev g
+
+  pub ahead-turn : v ≡ cond (eqb (s .expect) 2) (record { at = at; end = f .end; n = s .n }) u → Ahead file day channel (f .end + 2) v (seen file s)
+  ahead-turn ev =
+      ahead-on file day channel at (f .end) u v (seen file st) (seen file s) (handed-looked file at r is p f h .ends) (handed-inside file at r is p f h) a next-is ev

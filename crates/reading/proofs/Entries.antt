@@ -13,8 +13,7 @@ use Rattle.format.specs.Total.{totalsFrom, totalFirst, totalOf}
 use Rattle.format.specs.declared.Refusal.{Refusal}
 use Rattle.format.specs.declared.Checked.{Checked}
 use Rattle.format.specs.declared.Checked.the-variants.{Accepted, Refused}
-use Rattle.bridge.specs.Sound.{isSound}
-use Rattle.bridge.proofs.Bridge.{checked-days}
+use Rattle.day.specs.Places.{IsAccepted}
 
 -- c is what the check answers
 module _ (file : List ℕ) (c : Checked) (ec : checkedAs c ≡ checkOf file) where
@@ -34,14 +33,5 @@ module _ (file : List ℕ) (c : Checked) (ec : checkedAs c ≡ checkOf file) whe
     accepted-is : checkOf file ≡ accepted (v ∷ n ∷ d ∷ [])
     accepted-is = sym ec ∙ ap checkedAs h
 
-    pub read-sound : all isSound (daysOf file) ≡ true
-    read-sound = checked-days file (v ∷ n ∷ d ∷ []) accepted-is
-
-    pub read-accepted : (day : ℕ) (r : Answer) (vs vs₁ : List ℕ) (ms ms₁ : Five) → outcome r vs₁ ms₁ ≡ readFirst (drop day (daysOf file)) vs ms
-        → outcome r vs₁ ms₁ ≡ readOf file day vs ms
-    unfolding readOf
-    read-accepted day r vs vs₁ ms ms₁ q = rw accepted-is q
-
-    pub total-accepted : (channel : ℕ) (r : Answer) → r ≡ totalFirst (drop channel (totalsFrom (lines file))) → r ≡ totalOf file channel
-    unfolding totalOf
-    total-accepted channel r q = rw accepted-is q
+    pub is-accepted : IsAccepted file
+    is-accepted = (v ∷ n ∷ d ∷ [], accepted-is)

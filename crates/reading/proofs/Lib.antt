@@ -1,3 +1,3 @@
+pub mod Ahead
 pub mod Walks
 pub mod Entries
-pub mod Ahead

@@ -1,7 +1,9 @@
 -- The walk over the file: what each way out of a turn answers, and the turn itself. Assumes nothing.
-use Prim.Native.Nat.{ℕ, _+_, _≤_, _<_}
-use mathlib.Core.Path.{_≡_, refl, sym, _∙_}
+use Prim.Native.Nat.{ℕ, _+_, _-_, _≤_, _<_}
+use mathlib.Core.Path.{_≡_, refl, sym, ap, _∙_}
 use mathlib.Core.List.{List, [], _∷_}
+use mathlib.Core.Bool.{cond}
+use lib.Dec.{eqb, leb}
 use native.Mathlib.Omega.{arith}
 use native.Mathlib.Decide.{decLt}
 use lib.ListN.{length, drop, length-drop}
@@ -11,31 +13,45 @@ use Rattle.ground.specs.Lists.{part}
 use Rattle.format.specs.Cut.{lines}
 use Rattle.format.specs.Order.{Due}
 use Rattle.format.specs.Faults.{faultOf}
-use Rattle.format.specs.Answers.{Answer, accepted, refused}
+use Rattle.format.specs.Answers.{Answer, accepted, refused, refusedAs, checkedAs}
+use Rattle.format.specs.declared.Refusal.{Refusal}
+use Rattle.format.specs.declared.Checked.the-variants.{Refused}
 use Rattle.format.specs.File.{after, orGoOn, walkOf, checkOf}
 use Rattle.format.specs.declared.Fault.{Fault}
-use Rattle.format.specs.declared.Fault.the-variants.{Fine, Stop}
+use Rattle.format.specs.declared.Fault.the-variants as fault
 use Rattle.record.specs.Places.{lineLen, LineEnd}
 use Rattle.record.proofs.Ends.{line-at, line-none, line-more, line-long}
 use Rattle.record.specs.declared.lines.Found.{Found}
 use Rattle.walker.specs.Handed.{recordAt}
 use Rattle.walker.specs.declared.Record.{Record}
 use Rattle.walker.specs.declared.Record.the-variants.{At, None}
-use Rattle.walker.proofs.Handed.{handed-none, handed-looked, handed-inside}
+use Rattle.walker.proofs.Handed.{handed-none, handed-looked, handed-inside, handed-order, handed-room}
 use Rattle.order.specs.declared.State.{State}
 use Rattle.order.specs.declared.Step.{Step}
 use Rattle.order.specs.declared.Step.the-variants as step
 use Rattle.order.specs.State.{seen, closed, Kept, Next, goes, stops, orStop, nextOf, stepAs, Holds}
+use Rattle.day.specs.declared.Under.{Under}
+use Rattle.day.specs.declared.DayStart.{DayStart}
+use Rattle.day.specs.Places.{DayAhead}
+use Rattle.day.proofs.Find.{no-heads}
+use Rattle.channel.specs.Places.{ChannelAhead}
+use Rattle.channel.specs.declared.ChannelStart.{ChannelStart}
+use Rattle.reading.specs.declared.tour.Tour.{Tour}
+use Rattle.reading.specs.declared.tour.Noted.{Noted}
+use Rattle.reading.specs.declared.tour.Turn.{Turn}
+use Rattle.reading.specs.declared.tour.Turn.the-variants.{On, Stop}
+use Rattle.reading.specs.Tour.{noUnder, firstDay, firstChannel, firstTour, Touring, Turned}
+use Rattle.reading.proofs.Ahead.{ahead-first, day-first, channel-first, under-turn, ahead-turn, day-noted, channel-noted}
 
 -- ---- a file of at most 1,048,576 bytes
 
-pub too-long : (file : List ℕ) {a : Answer} → 1048576 < length file → a ≡ refused 1 0 0 0 → a ≡ checkOf file
+pub too-long : (file : List ℕ) → 1048576 < length file → checkOf file ≡ refused 1 0 0 0
 unfolding checkOf
-too-long file h e = rw (lt-ltb _ _ h) e
+too-long file h = rw (lt-ltb _ _ h)
 
-pub walk-begins : (file : List ℕ) (s : State) → length file ≤ 1048576 → s ≡ closed 0 0 0 0 0 0 → checkOf file ≡ walkOf (seen file s) 0 0 (lines (drop 0 file))
+walk-begins : (file : List ℕ) → length file ≤ 1048576 → checkOf file ≡ walkOf (seen file (closed 0 0 0 0 0 0)) 0 0 (lines (drop 0 file))
 unfolding checkOf
-walk-begins file s h e = rw (le-ltb _ _ h, e)
+walk-begins file h = rw (le-ltb _ _ h)
 
 -- ---- a turn: the walk stands at `at`, before record k, which ends at e
 
@@ -48,15 +64,15 @@ onward p k w (stops x o i) = refused x (p + o) k i
 behind : List ℕ → ℕ → ℕ → Due → Answer
 behind file e k st = walkOf st (e + 2) (k + 1) (lines (drop (e + 2) file))
 
-turned : (p k : ℕ) (f : Fault) (st : Due) (w : Due → Answer) → orGoOn p k f (w st) ≡ onward p k w (orStop f st)
-turned p k Fine st w = refl
-turned p k (Stop x o i) st w = refl
+onward-is : (p k : ℕ) (f : Fault) (st : Due) (w : Due → Answer) → orGoOn p k f (w st) ≡ onward p k w (orStop f st)
+onward-is p k fault.Fine st w = refl
+onward-is p k (fault.Stop x o i) st w = refl
 
 module _ (file : List ℕ) (at k : ℕ) (st : State) (r : Record) (is : r ≡ recordAt file at) (going : st .expect ≡ 9 → ⊥)
     (inv : checkOf file ≡ walkOf (seen file st) at k (lines (drop at file))) where
-  pub walk-2 : {a : Answer} → r ≡ None → a ≡ refused 2 at k 0 → a ≡ checkOf file
+  pub walk-2 : r ≡ None → checkOf file ≡ refused 2 at k 0
   unfolding walkOf
-  walk-2 h q = q ∙ sym (inv ∙ rw (handed-none file at r is h, ne-eqb _ _ going))
+  walk-2 h = inv ∙ rw (handed-none file at r is h, ne-eqb _ _ going)
 
   module _ (p : ℕ) (f : Found) (h : r ≡ At p f) (t : Step) (et : stepAs file t ≡ nextOf (seen file st) (part file at (f .end))) where
     abbrev e : ℕ
@@ -69,10 +85,10 @@ module _ (file : List ℕ) (at k : ℕ) (st : State) (r : Record) (is : r ≡ re
         let m : at + length (part file at e) + 2 ≡ e + 2 = omega (arith, line-long file at e s, s .order) in
         rw et
         (inv ∙ rw (line-more file at e s (handed-inside file at r is p f h), ne-eqb _ _ going, m)
-        (turned at k (faultOf (seen file st) (part file at e)) (after (seen file st) (part file at e)) (behind file e k)))
+        (onward-is at k (faultOf (seen file st) (part file at e)) (after (seen file st) (part file at e)) (behind file e k)))
 
-    pub walk-stop : {a : Answer} (x o i : ℕ) → t ≡ step.Stop x o i → a ≡ refused x (at + o) k i → a ≡ checkOf file
-    walk-stop x o i q e = e ∙ sym (rw q at turn)
+    pub walk-stop : (x o i : ℕ) → t ≡ step.Stop x o i → checkOf file ≡ refused x (at + o) k i
+    walk-stop x o i q = rw q at turn
 
     pub walk-on : (n : State) → t ≡ step.On n → checkOf file ≡ walkOf (seen file n) (e + 2) (k + 1) (lines (drop (e + 2) file))
     unfolding behind
@@ -100,14 +116,103 @@ module _ (file : List ℕ) (at k : ℕ) (st : State) (done : st .expect ≡ 9) (
 
 -- ---- the state is kept, and a fault's place lies in its record
 
-pub kept-first : (file : List ℕ) (s : State) → s ≡ closed 0 0 0 0 0 0 → Kept file 0 s
-kept-first file s e = rw e record { within = omega arith; small = omega arith; channels = omega arith; days = omega arith }
+kept-first : (file : List ℕ) → Kept file 0 (closed 0 0 0 0 0 0)
+kept-first file = record { within = omega arith; small = omega arith; channels = omega arith; days = omega arith }
 
 module _ (file : List ℕ) (at e : ℕ) (t : Step) (r : Holds file at e t) where
-  pub kept-on : (n : State) → t ≡ step.On n → Kept file (e + 2) n
+  kept-on : (n : State) → t ≡ step.On n → Kept file (e + 2) n
   kept-on n q =
       let h : Kept file (e + 1) n = rw q at r in
       record { within = h .within; small = h .small; channels = omega (arith, h .channels); days = omega (arith, h .days) }
 
   pub stop-within : (x o i : ℕ) → t ≡ step.Stop x o i → at + o ≤ e
   stop-within x o i q = rw q at r
+
+-- ---- the walk on its way
+
+pub touring-first : (file : List ℕ) (day channel : ℕ) (t : Tour) → t ≡ firstTour day channel → length file ≤ 1048576 → Touring file day channel t
+touring-first file day channel t e h =
+    rw e
+    (record {
+      short = h;
+      within = omega arith;
+      few = omega arith;
+      kept = kept-first file;
+      walked = walk-begins file h;
+      heads = no-heads file noUnder refl refl refl;
+      ahead = ahead-first file day channel (seen file (closed 0 0 0 0 0 0)) refl refl;
+      to-day = day-first file day;
+      to-channel = channel-first file channel;
+    })
+
+-- over the record f that it was handed, with the step's answer
+module _ (file : List ℕ) (day channel : ℕ) (t : Tour) (g : Touring file day channel t) (going : t .state .expect ≡ 9 → ⊥) (r : Record)
+    (is : r ≡ recordAt file (t .at)) (p : ℕ) (f : Found) (h : r ≡ At p f) (w : Step) (ew : stepAs file w ≡ nextOf (seen file (t .state)) (part file (t .at) (f .end)))
+    (hw : Holds file (t .at) (f .end) w) (s : State) (q : w ≡ step.On s) (u : Under)
+    (eu : u ≡ cond (eqb (s .expect) 2) (record { at = t .at; end = f .end; n = s .n }) (t .under)) (d : DayStart)
+    (ed : d ≡ cond (leb (s .days) day) (record { at = f .end + 2; left = day - s .days; under = u }) (t .day)) (c : ChannelStart)
+    (ec : c ≡ cond (leb (s .channels) channel) (record { at = f .end + 2; left = channel - s .channels }) (t .channel)) where
+  pub turned-on : Turned file day channel t (On (record { at = f .end + 2; records = t .records + 1; state = s; under = u; day = d; channel = c }))
+  turned-on =
+      let room = handed-room file (t .at) r is p f h in
+      let order = handed-order file (t .at) r is p f h in
+      let b = under-turn file day channel (t .at) (t .under) u (t .state) r is p f h w ew s q (g .ahead) (g .heads) eu in
+      let a = ahead-turn file day channel (t .at) (t .under) u (t .state) r is p f h w ew s q (g .ahead) eu in (
+        record {
+          short = g .short;
+          within = room;
+          few = omega (arith, g .few, order);
+          kept = kept-on file (t .at) (f .end) w hw s q;
+          walked = walk-on file (t .at) (t .records) (t .state) r is going (g .walked) p f h w ew s q;
+          heads = b;
+          ahead = a;
+          to-day = day-noted file day channel (f .end + 2) u (seen file s) room b a (t .day) d (g .to-day) ed;
+          to-channel = channel-noted file day channel (f .end + 2) u (seen file s) room b a (t .channel) c (g .to-channel) ec;
+        },
+        omega (arith, order),
+      )
+
+-- over the record, in the terms of what the walk was handed
+module _ (file : List ℕ) (day channel : ℕ) (t : Tour) (g : Touring file day channel t) (going : t .state .expect ≡ 9 → ⊥) (r : Record)
+    (is : r ≡ recordAt file (t .at)) where
+  pub turned-2 : r ≡ None → checkOf file ≡ refused 2 (t .at) (t .records) 0
+  turned-2 h = walk-2 file (t .at) (t .records) (t .state) r is going (g .walked) h
+
+  pub turned-stop : (p : ℕ) (f : Found) → r ≡ At p f → (w : Step) → stepAs file w ≡ nextOf (seen file (t .state)) (part file (t .at) (f .end)) → (x o i : ℕ)
+      → w ≡ step.Stop x o i → checkOf file ≡ refused x (t .at + o) (t .records) i
+  turned-stop p f h w ew x o i q = walk-stop file (t .at) (t .records) (t .state) r is going (g .walked) p f h w ew x o i q
+
+-- behind the 900
+module _ (file : List ℕ) (day channel : ℕ) (t : Tour) (g : Touring file day channel t) (done : t .state .expect ≡ 9) where
+  pub ended-all : t .at ≡ length file → accepted (t .state .version ∷ t .state .channels ∷ t .state .days ∷ []) ≡ checkOf file
+  ended-all h = walk-end file (t .at) (t .records) (t .state) done (g .walked) _ _ _ h refl refl refl
+
+  pub ended-13 : (t .at ≡ length file → ⊥) → refused 13 (t .at) (t .records) 0 ≡ checkOf file
+  ended-13 h = walk-13 file (t .at) (t .records) (t .state) done (g .walked) (g .within) h refl
+
+-- ---- turn after turn
+
+module _ (file : List ℕ) (day channel : ℕ) (t : Tour) (w : Turn) (g : Turned file day channel t w) where
+  module _ (u : Tour) (h : w ≡ On u) where
+    turned : Touring file day channel u × (t .at < u .at)
+    turned = rw h at g
+
+    pub turned-touring : Touring file day channel u
+    turned-touring = turned .0
+
+    pub turned-less : length file - u .at < length file - t .at
+    turned-less = omega (arith, turned .1, turned .0 .within)
+
+  pub turned-refused : (x : Refusal) → w ≡ Stop x → checkOf file ≡ refusedAs x
+  turned-refused x h = rw h at g
+
+-- a refusal, and what is noted beside it
+module _ (file : List ℕ) (day channel : ℕ) (x : Refusal) (r : Noted) (er : r ≡ record { answer = Refused x; day = firstDay day; channel = firstChannel channel }) where
+  pub refused-answer : checkOf file ≡ refusedAs x → checkedAs (r .answer) ≡ checkOf file
+  refused-answer h = ap (λ (z : Noted). checkedAs (z .answer)) er ∙ sym h
+
+  pub refused-day : DayAhead file day (r .day)
+  refused-day = rw er (day-first file day)
+
+  pub refused-channel : ChannelAhead file channel (r .channel)
+  refused-channel = rw er (channel-first file channel)

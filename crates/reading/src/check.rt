@@ -1,5 +1,5 @@
 // Checks the whole file.
-use super::tour::tour;
+use super::tour::check_and_note;
 use format::Checked;
 ghost use mathlib.Core.Path.{_≡_};
 ghost use Rattle.format.specs.Answers.{checkedAs};
@@ -9,6 +9,6 @@ ghost use Rattle.format.specs.File.{checkOf};
 pub fn check(file: &[u8]) -> Checked
     ensures { λ r. ⌜ checkedAs r ≡ checkOf (now (file .entry)) ⌝ }
 {
-    let t = tour(file, 0, 0);
+    let t = check_and_note(file, 0, 0);
     t.answer
 }

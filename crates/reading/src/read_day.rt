@@ -1,6 +1,6 @@
 // Reads one day.
-use super::tour::tour;
-use filling::read_checked;
+use super::tour::check_and_note;
+use filling::read_noted;
 use format::Checked;
 use format::DayRead;
 ghost use mathlib.Core.Path.{_≡_};
@@ -22,7 +22,7 @@ pub fn read_day(
 ) -> DayRead
     ensures { λ r. ⌜ outcome (dayReadAs r) (now (values .exit)) (five (now (flags .exit)) (now (methods .exit)) (now (reasons .exit)) (now (starts .exit)) (now (lengths .exit))) ≡ readOf (now (file .entry)) day (now (values .entry)) (five (now (flags .entry)) (now (methods .entry)) (now (reasons .entry)) (now (starts .entry)) (now (lengths .entry))) ⌝ }
 {
-    let t = tour(file, day, 0);
+    let t = check_and_note(file, day, 0);
     let c = t.answer;
     match c {
         Checked::Refused(x) => DayRead::Refused(x),
@@ -30,16 +30,19 @@ pub fn read_day(
             version: _,
             channels: _,
             days: _,
-        } => read_checked(
-            file,
-            day,
-            t.day,
-            values,
-            flags,
-            methods,
-            reasons,
-            starts,
-            lengths,
-        ),
+        } => {
+            let r = read_noted(
+                file,
+                day,
+                t.day,
+                values,
+                flags,
+                methods,
+                reasons,
+                starts,
+                lengths,
+            );
+            r.answer
+        }
     }
 }

@@ -1,6 +1,6 @@
 // Totals one channel.
-use super::tour::tour;
-use channel::total_of;
+use super::tour::check_and_note;
+use channel::total_noted;
 use format::Checked;
 use format::Totalled;
 ghost use mathlib.Core.Path.{_≡_};
@@ -12,7 +12,7 @@ ghost use Rattle.format.specs.Total.{totalOf};
 pub fn total(file: &[u8], channel: usize) -> Totalled
     ensures { λ r. ⌜ totalledAs r ≡ totalOf (now (file .entry)) channel ⌝ }
 {
-    let t = tour(file, 0, channel);
+    let t = check_and_note(file, 0, channel);
     let c = t.answer;
     match c {
         Checked::Refused(x) => Totalled::Refused(x),
@@ -20,6 +20,9 @@ pub fn total(file: &[u8], channel: usize) -> Totalled
             version: _,
             channels: _,
             days: _,
-        } => total_of(file, channel, t.channel),
+        } => {
+            let r = total_noted(file, channel, t.channel);
+            r.answer
+        }
     }
 }

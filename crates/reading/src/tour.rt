@@ -2,6 +2,7 @@
 // found, so that nobody has to walk to them again.
 use channel::ChannelStart;
 use day::DayStart;
+use day::Under;
 use format::Checked;
 use format::Refusal;
 use order::State;
@@ -12,10 +13,29 @@ ghost use mathlib.Core.Path.{_≡_};
 ghost use mathlib.Core.Bool.{cond};
 ghost use Prim.Native.Nat.{_-_};
 ghost use lib.Dec.{leb, eqb};
-ghost use Rattle.format.specs.Answers.{checkedAs, refused};
+ghost use Rattle.format.specs.Answers.{checkedAs};
 ghost use Rattle.format.specs.File.{checkOf};
 ghost use Rattle.day.specs.Places.{DayAhead};
 ghost use Rattle.channel.specs.Places.{ChannelAhead};
+ghost use Rattle.reading.specs.Tour.{noUnder, firstDay, firstChannel, firstTour, Touring, Turned};
+ghost use Rattle.format.specs.declared.Checked.the-variants.{Refused};
+
+// The walk before a record: where that starts, how many records are behind, the state, the last 200, and from where the day and the channel that were asked
+// for are found.
+pub struct Tour {
+    pub at: usize,
+    pub records: usize,
+    pub state: State,
+    pub under: Under,
+    pub day: DayStart,
+    pub channel: ChannelStart,
+}
+
+// What comes of a record: the walk behind it, or the refusal that ends it.
+pub enum Turn {
+    On(Tour),
+    Stop(Refusal),
+}
 
 // What the check answers, and from where the day and the channel that were asked for are found.
 pub struct Noted {
@@ -24,26 +44,44 @@ pub struct Noted {
     pub channel: ChannelStart,
 }
 
-fn refuse(number: u64, place: usize, record: usize, field: usize) -> Checked
-    ensures { λ r. ⌜ checkedAs r ≡ refused number place «record» field ⌝ }
+fn no_channel() -> Under
+    ensures { λ r. ⌜ r ≡ noUnder ⌝ }
 {
-    Checked::Refused(Refusal {
-        number,
-        place,
-        record,
-        field,
-    })
+    Under {
+        at: 0,
+        end: 0,
+        n: 0,
+    }
+}
+
+fn first_day(day: usize) -> DayStart
+    ensures { λ r. ⌜ r ≡ firstDay day ⌝ }
+{
+    DayStart {
+        at: 0,
+        left: day,
+        under: no_channel(),
+    }
+}
+
+fn first_channel(channel: usize) -> ChannelStart
+    ensures { λ r. ⌜ r ≡ firstChannel channel ⌝ }
+{
+    ChannelStart {
+        at: 0,
+        left: channel,
+    }
 }
 
 // At a record with so many days before it, as long as the day is not among them.
-fn day_from(before: DayStart, day: usize, days: usize, at: usize, n: usize) -> DayStart
-    ensures { λ r. ⌜ r ≡ cond (leb days day) (record { at = at; left = day - days; n = n }) before ⌝ }
+fn day_from(before: DayStart, day: usize, days: usize, at: usize, under: Under) -> DayStart
+    ensures { λ r. ⌜ r ≡ cond (leb days day) (record { at = at; left = day - days; under = under }) before ⌝ }
 {
     if days <= day {
         return DayStart {
             at,
             left: day - days,
-            n,
+            under,
         };
     }
     before
@@ -61,84 +99,135 @@ fn channel_from(before: ChannelStart, channel: usize, channels: usize, at: usize
     before
 }
 
-// n behind a record: where a 300 is expected at once, the record was a 200.
-fn intervals_from(before: usize, expect: u64, n: usize) -> usize
-    ensures { λ r. ⌜ r ≡ cond (eqb expect 2) n before ⌝ }
+// The last 200 behind a record from at to e: where a 300 is expected at once, the record was a 200.
+fn under_from(before: Under, at: usize, e: usize, expect: u64, n: usize) -> Under
+    ensures { λ r. ⌜ r ≡ cond (eqb expect 2) (record { at = at; end = e; n = n }) before ⌝ }
 {
     if expect == 2 {
-        return n;
+        return Under { at, end: e, n };
     }
     before
 }
 
+impl Tour {
+    // Before the first record.
+    fn new(day: usize, channel: usize) -> Tour
+        ensures { λ r. ⌜ r ≡ firstTour day channel ⌝ }
+    {
+        Tour {
+            at: 0,
+            records: 0,
+            state: State::new(),
+            under: no_channel(),
+            day: first_day(day),
+            channel: first_channel(channel),
+        }
+    }
+
+    // Over the record at which the walk stands.
+    fn turn(self, file: &[u8], day: usize, channel: usize) -> Turn
+        requires { ⌜ Touring (now file) day channel self × (self .state .expect ≡ 9 → ⊥) ⌝ }
+        ensures { λ r. ⌜ Turned (now (file .entry)) day channel self r ⌝ }
+    {
+        let at = self.at;
+        let handed = record_at(file, at);
+        let Record::At(_, found) = handed else {
+            return Turn::Stop(Refusal {
+                number: 2,
+                place: at,
+                record: self.records,
+                field: 0,
+            });
+        };
+        let e = found.end;
+        let st = self.state;
+        let step = st.step(file, at, found);
+        match step {
+            Step::Stop(number, o, field) => Turn::Stop(Refusal {
+                number,
+                place: at + o,
+                record: self.records,
+                field,
+            }),
+            Step::On(s) => {
+                let behind = e + 2;
+                let under = under_from(self.under, at, e, s.expect, s.n);
+                Turn::On(Tour {
+                    at: behind,
+                    records: self.records + 1,
+                    state: s,
+                    under,
+                    day: day_from(self.day, day, s.days, behind, under),
+                    channel: channel_from(self.channel, channel, s.channels, behind),
+                })
+            }
+        }
+    }
+
+    // The end of the file has to stand behind the 900.
+    fn end(self, file: &[u8], day: usize, channel: usize) -> Checked
+        requires { ⌜ Touring (now file) day channel self × (self .state .expect ≡ 9) ⌝ }
+        ensures { λ r. ⌜ checkedAs r ≡ checkOf (now (file .entry)) ⌝ }
+    {
+        if self.at == file.len() {
+            return Checked::Accepted {
+                version: self.state.version,
+                channels: self.state.channels,
+                days: self.state.days,
+            };
+        }
+        Checked::Refused(Refusal {
+            number: 13,
+            place: self.at,
+            record: self.records,
+            field: 0,
+        })
+    }
+}
+
+// A refusal, with the day and the channel to be looked for from the start.
+fn refused(x: Refusal, day: usize, channel: usize) -> Noted
+    ensures { λ r. ⌜ r ≡ (record { answer = Refused x; day = firstDay day; channel = firstChannel channel }) ⌝ }
+{
+    Noted {
+        answer: Checked::Refused(x),
+        day: first_day(day),
+        channel: first_channel(channel),
+    }
+}
+
 // The whole file, up to its first refusal; the day and the channel have numbers from 0.
-pub fn tour(file: &[u8], day: usize, channel: usize) -> Noted
+pub fn check_and_note(file: &[u8], day: usize, channel: usize) -> Noted
     ensures is { λ r. ⌜ checkedAs (r .answer) ≡ checkOf (now (file .entry)) ⌝ }
     ensures day { λ r. ⌜ DayAhead (now (file .entry)) day (r .day) ⌝ }
     ensures channel { λ r. ⌜ ChannelAhead (now (file .entry)) channel (r .channel) ⌝ }
 {
-    let mut to_day = DayStart {
-        at: 0,
-        left: day,
-        n: 0,
-    };
-    let mut to_channel = ChannelStart {
-        at: 0,
-        left: channel,
-    };
     if 1048576 < file.len() {
-        return Noted {
-            answer: refuse(1, 0, 0, 0),
-            day: to_day,
-            channel: to_channel,
-        };
+        return refused(
+            Refusal {
+                number: 1,
+                place: 0,
+                record: 0,
+                field: 0,
+            },
+            day,
+            channel,
+        );
     }
-    let mut at: usize = 0;
-    let mut k: usize = 0;
-    let mut n: usize = 0;
-    let mut st = State::new();
-    while st.expect != 9 {
-        to_day = day_from(to_day, day, st.days, at, n);
-        to_channel = channel_from(to_channel, channel, st.channels, at);
-        let handed = record_at(file, at);
-        let Record::At(_, found) = handed else {
-            return Noted {
-                answer: refuse(2, at, k, 0),
-                day: to_day,
-                channel: to_channel,
-            };
-        };
-        let e = found.end;
-        let next = st.step(file, at, found);
-        match next {
-            Step::Stop(number, o, field) => {
-                return Noted {
-                    answer: refuse(number, at + o, k, field),
-                    day: to_day,
-                    channel: to_channel,
-                };
+    let mut t = Tour::new(day, channel);
+    while t.state.expect != 9 {
+        let turn = t.turn(file, day, channel);
+        match turn {
+            Turn::On(next) => {
+                t = next;
             }
-            Step::On(s) => {
-                n = intervals_from(n, s.expect, s.n);
-                st = s;
-                at = e + 2;
-                k += 1;
-            }
+            Turn::Stop(x) => return refused(x, day, channel),
         }
     }
-    if at == file.len() {
-        return Noted {
-            answer: Checked::Accepted {
-                version: st.version,
-                channels: st.channels,
-                days: st.days,
-            },
-            day: to_day,
-            channel: to_channel,
-        };
-    }
+    let to_day = t.day;
+    let to_channel = t.channel;
     Noted {
-        answer: refuse(13, at, k, 0),
+        answer: t.end(file, day, channel),
         day: to_day,
         channel: to_channel,
     }

@@ -1,11 +1,11 @@
 -- `reading::read_day::read_day` meets its contract. Assumes nothing.
-use Rattle.reading.proofs.Entries.{read-refused, read-sound, read-accepted}
+use Rattle.reading.proofs.Entries.{read-refused, is-accepted}
 use borrow.Author.Needs.{needs}
 use Rattle.reading.proofs.read_day.read_day.Statement.{statement}
 use Rattle.reading.proofs.read_day.read_day.Tie as tie
 
-tour-requires : tie.Need-tour-requires
-tour-requires c κs = search needs
+check-and-note-requires : tie.Need-check-and-note-requires
+check-and-note-requires c κs = search needs
 
 enum-known-c : tie.Need-enum-known-c
 enum-known-c c = search needs
@@ -13,8 +13,8 @@ enum-known-c c = search needs
 enum-told : tie.Need-enum-told
 enum-told c = search needs
 
-read-checked-requires : tie.Need-read-checked-requires
-read-checked-requires c κs = (search read-sound, search needs)
+read-noted-requires : tie.Need-read-noted-requires
+read-noted-requires c κs = (search is-accepted, search needs)
 
 returns : tie.Need-returns
 returns c = search read-refused
@@ -38,16 +38,16 @@ same-length-6 : tie.Need-same-length-6
 same-length-6 c = search needs
 
 returns-2 : tie.Need-returns-2
-returns-2 c = search read-accepted
+returns-2 c = search needs
 
 pub read-day-spec : {M : Type 1} → statement M
 read-day-spec =
     tie.close
     (tie.spec
-    tour-requires
+    check-and-note-requires
     enum-known-c
     enum-told
-    read-checked-requires
+    read-noted-requires
     returns
     same-length
     same-length-2

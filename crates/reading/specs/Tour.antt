@@ -1,0 +1,62 @@
+-- The walk over the file as it stands before a record: what it has found so far, and from where the day and the channel that were asked for are found.
+use Prim.Native.Nat.{ℕ, _-_, _≤_, _<_}
+use mathlib.Core.Path.{_≡_}
+use mathlib.Core.List.{List}
+use lib.ListN.{length, drop}
+use Rattle.format.specs.Cut.{lines}
+use Rattle.format.specs.Order.{Due}
+use Rattle.format.specs.Answers.{refusedAs}
+use Rattle.format.specs.File.{walkOf, most, checkOf}
+use Rattle.format.specs.Day.{daysOf}
+use Rattle.order.specs.State.{seen, closed, Kept}
+use Rattle.day.specs.Places.{Heads, daysAt, DayAhead}
+use Rattle.day.specs.declared.Under.{Under}
+use Rattle.day.specs.declared.DayStart.{DayStart}
+use Rattle.channel.specs.Places.{totalsIn, totalsAt, ChannelAhead}
+use Rattle.channel.specs.declared.ChannelStart.{ChannelStart}
+use Rattle.reading.specs.declared.tour.Tour.{Tour}
+use Rattle.reading.specs.declared.tour.Turn.{Turn}
+use Rattle.reading.specs.declared.tour.Turn.the-variants.{On, Stop}
+
+-- ---- before the first record
+
+abbrev pub noUnder : Under
+noUnder = record { at = 0; end = 0; n = 0 }
+
+abbrev pub firstDay : ℕ → DayStart
+firstDay day = record { at = 0; left = day; under = noUnder }
+
+abbrev pub firstChannel : ℕ → ChannelStart
+firstChannel channel = record { at = 0; left = channel }
+
+abbrev pub firstTour : ℕ → ℕ → Tour
+firstTour day channel = record { at = 0; records = 0; state = closed 0 0 0 0 0 0; under = noUnder; day = firstDay day; channel = firstChannel channel }
+
+-- ---- before any record
+
+-- nothing is counted before the 100
+pub record Counts (st : Due) : Type 0 where
+  pub none : st .expect ≡ 0 → (st .days ≡ 0) × (st .channels ≡ 0)
+
+-- the days and channels that are not counted yet stand from this place on
+pub record Ahead (file : List ℕ) (day channel at : ℕ) (u : Under) (st : Due) : Type 0 where
+  pub counts : Counts st
+  pub days : st .days ≤ day → drop day (daysOf file) ≡ drop (day - st .days) (daysAt file at u)
+  pub totals : st .channels ≤ channel → drop channel (totalsIn file) ≡ drop (channel - st .channels) (totalsAt file at)
+
+-- the walk is on its way: what is left of the check is a walk from here, and what was noted is right
+pub record Touring (file : List ℕ) (day channel : ℕ) (t : Tour) : Type 0 where
+  pub short : length file ≤ most
+  pub within : t .at ≤ length file
+  pub few : t .records ≤ t .at
+  pub kept : Kept file (t .at) (t .state)
+  pub walked : checkOf file ≡ walkOf (seen file (t .state)) (t .at) (t .records) (lines (drop (t .at) file))
+  pub heads : Heads file (t .under)
+  pub ahead : Ahead file day channel (t .at) (t .under) (seen file (t .state))
+  pub to-day : DayAhead file day (t .day)
+  pub to-channel : ChannelAhead file channel (t .channel)
+
+-- behind a record it is on its way, and further; or its refusal is the check's
+abbrev pub Turned : List ℕ → ℕ → ℕ → Tour → Turn → Type 0
+Turned file day channel t (On u) = Touring file day channel u × (t .at < u .at)
+Turned file day channel t (Stop x) = checkOf file ≡ refusedAs x
