@@ -81,6 +81,7 @@ pub fn total_noted(file: &[u8], channel: usize, from: ChannelStart) -> ChannelTu
     requires { ⌜ IsAccepted (now file) × ChannelAhead (now file) channel from ⌝ }
     ensures is { λ r. ⌜ totalledAs (r .answer) ≡ totalOf (now (file .entry)) channel ⌝ }
     ensures place { λ r. ⌜ totalled (now (file .entry)) (r .place) ≡ drop channel (totalsIn (now (file .entry))) ⌝ }
+    ensures inside { λ r. ⌜ inside (now (file .entry)) (r .place) ⌝ }
     ensures next { λ r. ⌜ ChannelAhead (now (file .entry)) (channel + 1) (r .next) ⌝ }
 {
     let place = find_channel(file, channel, from);

@@ -14,7 +14,7 @@ total-place-requires : tie.Need-total-place-requires
 total-place-requires c κs = search needs
 
 returns : tie.Need-returns
-returns c = (search noted-is, (search needs, search next-noted))
+returns c = (search noted-is, (search needs, (search needs, search next-noted)))
 
 pub total-noted-spec : {M : Type 1} → statement M
 total-noted-spec =

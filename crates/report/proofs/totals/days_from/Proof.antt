@@ -16,17 +16,14 @@ abbrev μ-loop : tie.MeasureT-loop
 loop-holds : tie.Need-loop-holds Inv-loop μ-loop
 loop-holds c = search needs
 
-scan-requires : tie.Need-scan-requires Inv-loop μ-loop
-scan-requires c κs = search needs
+line-end-requires : tie.Need-line-end-requires Inv-loop μ-loop
+line-end-requires c κs = search needs
 
 returns : tie.Need-returns Inv-loop μ-loop
 returns c = search needs
 
 kind-at-requires : tie.Need-kind-at-requires Inv-loop μ-loop
 kind-at-requires c κs = search needs
-
-is-channel-requires : tie.Need-is-channel-requires Inv-loop μ-loop
-is-channel-requires c κs = search needs
 
 returns-2 : tie.Need-returns-2 Inv-loop μ-loop
 returns-2 c = search needs
@@ -56,10 +53,9 @@ days-from-spec =
     Inv-loop
     μ-loop
     loop-holds
-    scan-requires
+    line-end-requires
     returns
     kind-at-requires
-    is-channel-requires
     returns-2
     add-at
     wrapping-add-usize-requires

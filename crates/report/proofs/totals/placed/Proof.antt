@@ -1,0 +1,69 @@
+-- `report::totals::placed` meets its contract. Assumes nothing.
+use Prim.Native.Nat.{_+_, _≤_}
+use lib.ListN.{length}
+use native.Mathlib.Omega.{arith}
+use Rattle.channel.proofs.Find.{days-room}
+use borrow.Author.Needs.{needs}
+use Rattle.report.proofs.totals.placed.Statement.{statement}
+use Rattle.report.proofs.totals.placed.Tie as tie
+
+enum-known-place : tie.Need-enum-known-place
+enum-known-place c = search needs
+
+part-requires : tie.Need-part-requires
+part-requires c κs = search needs
+
+add-days-from : tie.Need-add-days-from
+add-days-from c = let r : c .before .before .before .place .given .0 .1 .0 + 2 ≤ length (c .before .before .before .before .before .before .args .file .now) = search days-room in omega arith
+
+days-from-requires : tie.Need-days-from-requires
+days-from-requires c κs = search days-room
+
+known-requires : tie.Need-known-requires
+known-requires c κs = search needs
+
+enum-known-place-2 : tie.Need-enum-known-place-2
+enum-known-place-2 c = search needs
+
+part-requires-2 : tie.Need-part-requires-2
+part-requires-2 c κs = search needs
+
+known-requires-2 : tie.Need-known-requires-2
+known-requires-2 c κs = search needs
+
+enum-told : tie.Need-enum-told
+enum-told c = search needs
+
+same-length : tie.Need-same-length
+same-length c = search needs
+
+returns : tie.Need-returns
+returns c = search needs
+
+same-length-2 : tie.Need-same-length-2
+same-length-2 c = search needs
+
+returns-2 : tie.Need-returns-2
+returns-2 c = search needs
+
+returns-3 : tie.Need-returns-3
+returns-3 c = search needs
+
+pub placed-spec : {M : Type 1} → statement M
+placed-spec =
+    tie.close
+    (tie.spec
+    enum-known-place
+    part-requires
+    add-days-from
+    days-from-requires
+    known-requires
+    enum-known-place-2
+    part-requires-2
+    known-requires-2
+    enum-told
+    same-length
+    returns
+    same-length-2
+    returns-2
+    returns-3)

@@ -1,0 +1,54 @@
+-- `report::totals::show` meets its contract. Assumes nothing.
+use Rattle.reading.proofs.Entries.{is-accepted}
+use borrow.Author.Needs.{needs}
+use Rattle.report.proofs.totals.show.Statement.{statement}
+use Rattle.report.proofs.totals.show.Tie as tie
+
+check-and-note-requires : tie.Need-check-and-note-requires
+check-and-note-requires c κs = search needs
+
+enum-known-answer : tie.Need-enum-known-answer
+enum-known-answer c = search needs
+
+headings-requires : tie.Need-headings-requires
+headings-requires c κs = search needs
+
+say-requires : tie.Need-say-requires
+say-requires c κs = search needs
+
+rows-requires : tie.Need-rows-requires
+rows-requires c κs = (search is-accepted, search needs)
+
+enum-known-answer-2 : tie.Need-enum-known-answer-2
+enum-known-answer-2 c = search needs
+
+explain-requires : tie.Need-explain-requires
+explain-requires c κs = search needs
+
+same-length : tie.Need-same-length
+same-length c = search needs
+
+returns : tie.Need-returns
+returns c = search needs
+
+same-length-2 : tie.Need-same-length-2
+same-length-2 c = search needs
+
+returns-2 : tie.Need-returns-2
+returns-2 c = search needs
+
+pub show-spec : {M : Type 1} → statement M
+show-spec =
+    tie.close
+    (tie.spec
+    check-and-note-requires
+    enum-known-answer
+    headings-requires
+    say-requires
+    rows-requires
+    enum-known-answer-2
+    explain-requires
+    same-length
+    returns
+    same-length-2
+    returns-2)
