@@ -213,5 +213,5 @@ module _ (d : Day) (w : Whole d) where
       let t : dateIn (r .block .top) ≡ d .date = ap (λ (x : Day). x .date) (r .day) in
       record {
         accepted = subst (Accepted st) (r .bytes-are) (block-accepted (r .block) st g (a .free) (rw t (a .earlier)));
-        same = λ p. subst (λ (x : List ℕ). Reads p (st .n) x d) (r .bytes-are) (subst (Reads p (st .n) (text (rowsOf (r .block)))) e (block-reads (r .block) (st .n) g p));
+        same = λ p c n. subst (λ (x : List ℕ). Reads p c x d) (r .bytes-are) (subst (Reads p c (text (rowsOf (r .block)))) e (block-reads (r .block) (st .n) g p c n));
       }

@@ -22,16 +22,17 @@ use Rattle.format.specs.Order.{Due, begun, mayCome, isVaried, on300, afterOf}
 use Rattle.format.specs.Answers.{accepted, refused}
 use Rattle.format.specs.Faults.{isOpen, faultIn, brokenIn, isNotLater, isOff, isAlike, isElsewhere, faultOf}
 use Rattle.format.specs.File.{after, orGoOn, walkOf, most, checkOf}
-use Rattle.format.specs.Day.{Row, rowAt, DayRows, runsFrom, daysFrom, daysOf, tagsOf, Day, marksOf, dayOf}
+use Rattle.format.specs.Day.{Row, rowAt, DayRows, runsFrom, dayFrom, daysFrom, daysOf, tagsOf, Day, marksOf, dayOf}
 use Rattle.format.specs.declared.Fault.{Fault}
 use Rattle.format.specs.declared.Fault.the-variants.{Fine, Stop}
+use Rattle.theorems.specs.Days.{meant}
 use Rattle.theorems.proofs.Bytes.{bytesOf, bytes-lines}
 use Rattle.theorems.proofs.Fit.{fine-fit, fit-fine, free-of, free-if}
 use Rattle.theorems.proofs.Format.{walk-of, of-walk}
 use Rattle.shortest.specs.Blocks.{Passes, kindsOf, Free, Accepted, Reads, Awaits, Leads, markOf, Stands}
-use Rattle.shortest.proofs.Steps.{fit-cover, after-300, after-400, after-500, runs-end, dayFound, days-more, headed}
+use Rattle.shortest.proofs.Steps.{fit-cover, after-300, after-400, after-500, runs-end, days-more, headed}
 use Rattle.shortest.proofs.Tags.{tags-marks, read-is}
-use Rattle.shortest.proofs.Files.{onto, lines-behind, passes-append, walk-append, days-append, runs-lines}
+use Rattle.shortest.proofs.Files.{onto, lines-behind, passes-append, walk-append, Onward, days-append, runs-lines}
 
 -- ---- what a block keeps of the state
 
@@ -78,36 +79,36 @@ record Ended (st end : Due) (d : Day) : Type 0 where
   low : 3 ≤ end .expect
   high : end .expect ≤ 5
 
-may-high : (x : ℕ) → mayCome x 300 ≡ true → x ≤ 5
+may-range : (x : ℕ) → mayCome x 300 ≡ true → (2 ≤ x) × (x ≤ 5)
 unfolding mayCome
-may-high x h = leb-true x 5 (and-true (leb 2 x) (leb x 5) h .1)
+may-range x h = let w = and-true (leb 2 x) (leb x 5) h in (leb-true 2 x (w .0), leb-true x 5 (w .1))
 
 varied-low : (b : Bool) → 3 ≤ cond b 4 3
 varied-low true = omega arith
 varied-low false = omega arith
 
 module _ (st : Due) (b : List ℕ) (a : Accepted st b) where
-  ended : (p : ℕ) (d : Day) → Reads p (st .n) b d → Ended st (a .end) d
+  ended : (p : ℕ) (c : Row) (d : Day) → intervalsIn (c .cells) ≡ st .n → Reads p c b d → Ended st (a .end) d
   unfolding dayOf
-  ended p d h =
+  ended p c d n h =
       let w = headed st b a in
       let k : Kept (on300 st (fields (w .first))) (a .end) =
       subst (λ (x : Due). Kept x (a .end)) (after-300 st (w .first) (w .kind)) (under-kept (after st (w .first)) (a .end) (w .others) (w .under) (w .passes)) in
       record {
         n = k .n;
-        date = k .date ∙ ap (λ (x : Day). x .date) (w .day p d h);
+        date = k .date ∙ ap (λ (x : Day). x .date) (w .day p c d n h);
         version = k .version;
         channels = k .channels;
         days = k .days;
         low = k .under (varied-low (isVaried (st .n) (fields (w .first))));
-        high = may-high (a .end .expect) (a .free .0);
+        high = may-range (a .end .expect) (a .free .0) .1;
       }
 
   -- ---- where a block may stand
 
   -- behind another day of an earlier date
-  pub behind-day : (p : ℕ) (d : Day) → Reads p (st .n) b d → (date : ℕ) → d .date < date → Awaits (a .end) (st .n) date
-  behind-day p d h t l = let w = ended p d h in record { free = a .free; intervals = w .n; earlier = omega (arith, w .date) }
+  pub behind-day : (p : ℕ) (c : Row) (d : Day) → intervalsIn (c .cells) ≡ st .n → Reads p c b d → (date : ℕ) → d .date < date → Awaits (a .end) (st .n) date
+  behind-day p c d n h t l = let w = ended p c d n h in record { free = a .free; intervals = w .n; earlier = omega (arith, w .date) }
 
 -- behind a 200
 pub behind-200 : (st : Due) (r : List ℕ) → kindIn (fields r) ≡ 200 → (date : ℕ) → 1 ≤ date → Awaits (after st r) (intervalsIn (fields r)) date
@@ -147,7 +148,8 @@ none-behind st p k (line r ls) xs f e q = runs-end q r ls (no-run st r f (walk-f
 
 -- ---- the theorems
 
-module _ (before b behind : List ℕ) (st : Due) (d : Day) (h : Leads before st) (a : Accepted st b) (s : Reads (length before) (st .n) b d) where
+module _ (before b behind : List ℕ) (st : Due) (d : Day) (h : Leads before st) (a : Accepted st b) (c : Row) (n : intervalsIn (c .cells) ≡ st .n)
+    (s : Reads (length before) c b d) where
   walks : walkOf begun 0 0 (lines (before ++ b ++ behind)) ≡ walkOf (a .end) (length (before ++ b)) (length (kindsOf (lines (before ++ b)))) (lines behind)
   walks =
       let u : 0 + length (before ++ b) ≡ length (before ++ b) = omega arith in
@@ -158,9 +160,16 @@ module _ (before b behind : List ℕ) (st : Due) (d : Day) (h : Leads before st)
   file : List ℕ
   file = before ++ b ++ behind
 
+  -- what a reading goes on with behind `before`
+  onward : Onward st before (b ++ behind)
+  onward =
+      let w = headed st b a in
+      let m = may-range (st .expect) (rw (w .kind) at (w .fit .may)) in
+      days-append st before (b ++ behind) h (m .0) (m .1)
+
   -- the rows of the block's day
   rows : DayRows
-  rows = let w = headed st b a in dayFound (length before) (w .first) (onto (w .others) (lines behind)) (st .n)
+  rows = let w = headed st b a in dayFrom (length before) (onward .channel) (w .first) (onto (w .others) (lines behind))
 
   cut-there : lines (b ++ behind) ≡ line (headed st b a .first) (onto (headed st b a .others) (lines behind))
   cut-there = lines-behind st (a .end) b behind (a .passes) ∙ ap (λ (l : Lines). onto l (lines behind)) (headed st b a .is)
@@ -169,30 +178,27 @@ module _ (before b behind : List ℕ) (st : Due) (d : Day) (h : Leads before st)
   unfolding file rows
   days-there =
       let w = headed st b a in
-      let m : mayCome (st .expect) 300 ≡ true = rw (w .kind) at (w .fit .may) in
       let p : ℕ = length before in
+      let k : Row = onward .channel in
       let ls : Lines = onto (w .others) (lines behind) in (
-        daysFrom (p + length (w .first) + 2) (st .n) ls,
-        ap (λ (l : List ℕ). drop (st .days) (daysOf l)) (append-assoc before b behind)
-            ∙ days-append st before (b ++ behind) h (may-high (st .expect) m)
-            ∙ ap (daysFrom p (st .n)) cut-there
-            ∙ days-more p (w .first) ls (st .n) (w .kind),
+        daysFrom (p + length (w .first) + 2) k ls,
+        ap (λ (l : List ℕ). drop (st .days) (daysOf l)) (append-assoc before b behind) ∙ onward .is ∙ ap (daysFrom p k) cut-there ∙ days-more p (w .first) ls k (w .kind),
       )
 
-  day-there : ((q : ℕ) → runsFrom q (lines behind) ≡ []) → dayOf rows ≡ d
+  day-there : ((q : ℕ) → runsFrom q (lines behind) ≡ []) → meant rows ≡ d
   unfolding rows
-  day-there n =
+  day-there none =
       let w = headed st b a in
       let p : ℕ = length before in
-      ap (λ (rs : List Row). dayOf (record { n = st .n; top = rowAt p (w .first); runs = rs })) (runs-lines (p + length (w .first) + 2) (w .others) (lines behind) n)
-      ∙ w .day p d s
+      ap₂ (λ (m : ℕ) (rs : List Row). dayOf (record { n = m; top = rowAt p (w .first); runs = rs })) (onward .intervals) (runs-lines (p + length (w .first) + 2) (w .others) (lines behind) none)
+      ∙ w .day p c d n s
 
-  tags-there : map (markOf file) (tagsOf rows) ≡ marksOf rows
+  tags-there : map (markOf file) (tagsOf (rows .block)) ≡ marksOf (rows .block)
   unfolding file rows
   tags-there =
       let w = headed st b a in
       let ls : Lines = onto (w .others) (lines behind) in
-      tags-marks file (length before) (st .n) (w .first) ls
+      tags-marks file (length before) (intervalsIn (onward .channel .cells)) (w .first) ls
       (ap (drop (length before)) (append-assoc before b behind)
       ∙ drop-append-seam before (b ++ behind)
       ∙ sym (bytes-lines (b ++ behind))
@@ -204,11 +210,11 @@ module _ (before b behind : List ℕ) (st : Due) (d : Day) (h : Leads before st)
       record {
         end = a .end;
         goes-on = walks;
-        awaits = behind-day st b a (length before) d s;
+        awaits = behind-day st b a (length before) c d n s;
         reads = λ xs e.
             (let w = walk-of file (accepted xs) e (accepted-not 1 0 0 0 xs) in
-            let n = none-behind (a .end) (length (before ++ b)) (length (kindsOf (lines (before ++ b)))) (lines behind) xs (a .free) (sym walks ∙ w .1) in
-            read-is file (st .days) xs rows (days-there .0) d e (days-there .1) (day-there n) tags-there);
+            let none = none-behind (a .end) (length (before ++ b)) (length (kindsOf (lines (before ++ b)))) (lines behind) xs (a .free) (sym walks ∙ w .1) in
+            read-is file (st .days) xs rows (days-there .0) d e (days-there .1) (day-there none) tags-there);
       }
 
 -- ---- a 900 behind a block
@@ -235,12 +241,13 @@ nine-ends : (st : Due) (p k : ℕ) → faultOf st nine ≡ Fine → (st .expect 
 unfolding walkOf lines afterOf fields kindIn indicatorOf isKind numberOf areAll isDigit
 nine-ends st p k h e = rw (ne-eqb _ _ e, h)
 
-pub closes : (before b : List ℕ) (st : Due) (d : Day) → Leads before st → Accepted st b → Reads (length before) (st .n) b d → length (before ++ b ++ bytes "900\r\n") ≤ most
+pub closes : (before b : List ℕ) (st : Due) (d : Day) → Leads before st → Accepted st b → (c : Row) → intervalsIn (c .cells) ≡ st .n → Reads (length before) c b d
+    → length (before ++ b ++ bytes "900\r\n") ≤ most
     → checkOf (before ++ b ++ bytes "900\r\n") ≡ accepted (st .version ∷ st .channels ∷ (st .days + 1) ∷ [])
-closes before b st d h a s l =
-    let w = ended st b a (length before) d s in
+closes before b st d h a c n s l =
+    let w = ended st b a (length before) c d n s in
     let f = nine-fine (a .end) (w .low) (w .high) (a .free .1) in
     let g : accepted (a .end .version ∷ a .end .channels ∷ a .end .days ∷ []) ≡ accepted (st .version ∷ st .channels ∷ (st .days + 1) ∷ []) =
     rw (w .version, w .channels, w .days) in
     of-walk (before ++ b ++ bytes "900\r\n") (accepted (st .version ∷ st .channels ∷ (st .days + 1) ∷ [])) l
-    (walks before b (bytes "900\r\n") st d h a s ∙ nine-ends (a .end) (length (before ++ b)) (length (kindsOf (lines (before ++ b)))) f (λ z. omega (arith, w .high)) ∙ g)
+    (walks before b (bytes "900\r\n") st d h a c n s ∙ nine-ends (a .end) (length (before ++ b)) (length (kindsOf (lines (before ++ b)))) f (λ z. omega (arith, w .high)) ∙ g)

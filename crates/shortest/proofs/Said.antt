@@ -32,7 +32,7 @@ use Rattle.theorems.proofs.Across.{together-agrees}
 use Rattle.theorems.proofs.Fit.{Fit, fine-fit}
 use Rattle.shortest.specs.Blocks.{Passes, Says}
 use Rattle.shortest.proofs.Shapes.{number-is, said, Marking, Top, top-of, stretch-of}
-use Rattle.shortest.proofs.Steps.{fit-record, dayFound, headed}
+use Rattle.shortest.proofs.Steps.{fit-record, blockFound, headed}
 
 -- ---- single fields
 
@@ -156,7 +156,7 @@ cover-fit p st end (line r ls) h =
 -- ---- the day
 
 module _ (st end : Due) (p : ℕ) (r : List ℕ) (ls : Lines) (k : kindIn (fields r) ≡ 300) (f : Fit st r) (h : Passes (after st r) ls end) where
-  marks-fit : (t : Top (st .n) (fields r)) → all fitMark (marksOf (dayFound p r ls (st .n))) ≡ true
+  marks-fit : (t : Top (st .n) (fields r)) → all fitMark (marksOf (blockFound p r ls (st .n))) ≡ true
   unfolding marksOf eachOf
   marks-fit t =
       let i : IsRecord 300 (st .n) (fields r) = fit-record st r f 300 (λ z. omega arith) k in
@@ -165,7 +165,7 @@ module _ (st end : Due) (p : ℕ) (r : List ℕ) (ls : Lines) (k : kindIn (field
       (λ e. rw e (all-replicate (st .n) (markAt 300 (st .n + 2) (fields r))
       (rw (t .says .mark) (mark-fit 300 (t .quality) (t .reason) (t .text) (t .marking) (eqb-false _ _ (sym (t .says .varied) ∙ e)) (rw (t .says .mark) at (agrees-300 (st .n) (fields r) i))))))
 
-  day-fit : fitDay (dayOf (dayFound p r ls (st .n))) ≡ true
+  day-fit : fitDay (dayOf (blockFound p r ls (st .n))) ≡ true
   unfolding fitDay dayOf valuesOf
   day-fit =
       let t = top-of (st .n) (fields r) (fit-record st r f 300 (λ z. omega arith) k) in
@@ -184,4 +184,4 @@ module _ (st end : Due) (p : ℕ) (r : List ℕ) (ls : Lines) (k : kindIn (field
 pub fit-said : (d : Day) (b : List ℕ) → Says b d → fitDay d ≡ true
 fit-said d b h =
     let w = headed (h .st) b (h .accepted) in
-    ap fitDay (sym (w .day (h .place) d (h .reads))) ∙ day-fit (h .st) (h .accepted .end) (h .place) (w .first) (w .others) (w .kind) (w .fit) (w .passes)
+    ap fitDay (sym (w .day (h .place) (h .channel) d (h .intervals) (h .reads))) ∙ day-fit (h .st) (h .accepted .end) (h .place) (w .first) (w .others) (w .kind) (w .fit) (w .passes)

@@ -14,8 +14,9 @@ use Rattle.format.specs.Records.{kindIn, intervalsIn, firstIn, lastIn}
 use Rattle.format.specs.Order.{Due, on300, on400, on500, afterOf}
 use Rattle.format.specs.Faults.{size, covers, isOff}
 use Rattle.format.specs.File.{after}
-use Rattle.format.specs.Day.{rowAt, DayRows, runsFrom, daysFrom, Day, dayOf}
+use Rattle.format.specs.Day.{Row, rowAt, BlockRows, runsFrom, dayFrom, daysFrom, Day, dayOf}
 use Rattle.theorems.specs.Grammar.{IsRecord}
+use Rattle.theorems.specs.Days.{meant}
 use Rattle.theorems.proofs.Bytes.{fields-some, fields-bytes}
 use Rattle.theorems.proofs.Rows.{Ok, is-record}
 use Rattle.theorems.proofs.Fit.{Fit, fine-fit}
@@ -59,17 +60,17 @@ module _ (p : ℕ) (r : List ℕ) (ls : Lines) where
   unfolding runsFrom
   runs-end e = rw (ne-eqb _ _ e)
 
-  -- the day of a 300
-  abbrev pub dayFound : ℕ → DayRows
-  dayFound n = record { n = n; top = rowAt p r; runs = runsFrom (p + length r + 2) ls }
+  -- the block of a 300
+  abbrev pub blockFound : ℕ → BlockRows
+  blockFound n = record { n = n; top = rowAt p r; runs = runsFrom (p + length r + 2) ls }
 
-  pub days-more : (n : ℕ) → kindIn (fields r) ≡ 300 → daysFrom p n (line r ls) ≡ dayFound n ∷ daysFrom (p + length r + 2) n ls
+  pub days-more : (c : Row) → kindIn (fields r) ≡ 300 → daysFrom p c (line r ls) ≡ dayFrom p c r ls ∷ daysFrom (p + length r + 2) c ls
   unfolding daysFrom
-  days-more n e = rw e
+  days-more c e = rw e
 
-  pub days-skip : (n : ℕ) → kindIn (fields r) ≢ 300 → daysFrom p n (line r ls) ≡ daysFrom (p + length r + 2) (cond (eqb (kindIn (fields r)) 200) (intervalsIn (fields r)) n) ls
+  pub days-skip : (c : Row) → kindIn (fields r) ≢ 300 → daysFrom p c (line r ls) ≡ daysFrom (p + length r + 2) (cond (eqb (kindIn (fields r)) 200) (rowAt p r) c) ls
   unfolding daysFrom
-  days-skip n e = rw (ne-eqb _ _ e)
+  days-skip c e = rw (ne-eqb _ _ e)
 
 -- ---- a block that is accepted
 
@@ -82,7 +83,7 @@ pub record Headed (st end : Due) (bl : Lines) : Type 0 where
   pub fit : Fit st first
   pub passes : Passes (after st first) others end
   pub under : all (λ x. eqb x 400 || eqb x 500) (kindsOf others) ≡ true
-  pub day : (p : ℕ) (d : Day) → map dayOf (daysFrom p (st .n) bl) ≡ d ∷ [] → dayOf (dayFound p first others (st .n)) ≡ d
+  pub day : (p : ℕ) (c : Row) (d : Day) → intervalsIn (c .cells) ≡ st .n → map meant (daysFrom p c bl) ≡ d ∷ [] → dayOf (blockFound p first others (st .n)) ≡ d
 
 pub headed : (st : Due) (b : List ℕ) (a : Accepted st b) → Headed st (a .end) (lines b)
 headed st b a = go (lines b) (a .kinds) (a .passes)
@@ -100,5 +101,5 @@ headed st b a = go (lines b) (a .kinds) (a .passes)
           fit = fine-fit st r (h .0);
           passes = h .1;
           under = w .1;
-          day = λ p d e. head-eq-of-cons-eq (ap (map dayOf) (sym (days-more p r ls (st .n) k)) ∙ e);
+          day = λ p c d n e. ap (λ (x : ℕ). dayOf (blockFound p r ls x)) (sym n) ∙ head-eq-of-cons-eq (ap (map meant) (sym (days-more p r ls c k)) ∙ e);
         }

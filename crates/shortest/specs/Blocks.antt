@@ -9,14 +9,15 @@ use lib.Dec.{eqb}
 use Rattle.ground.specs.Lists.{all}
 use Rattle.format.specs.Quality.{Mark}
 use Rattle.format.specs.Cut.{Lines, line, rest, lines, fields}
-use Rattle.format.specs.Records.{kindIn}
+use Rattle.format.specs.Records.{kindIn, intervalsIn}
 use Rattle.format.specs.Answers.{accepted}
 use Rattle.format.specs.Order.{Due, begun, mayCome}
 use Rattle.format.specs.Faults.{isOpen, faultOf}
 use Rattle.format.specs.File.{after, walkOf, checkOf}
-use Rattle.format.specs.Day.{Day, dayOf, daysFrom, Five, outcome, over, overFive, roomFor, readOf}
+use Rattle.format.specs.Day.{Row, Day, daysFrom, Five, outcome, over, overFive, roomFor, readOf}
 use Rattle.format.specs.declared.Fault.the-variants.{Fine}
 use Rattle.format.specs.declared.Tag.{Tag}
+use Rattle.theorems.specs.Days.{meant}
 
 -- ---- accepted as a block
 
@@ -46,16 +47,18 @@ pub record Accepted (st : Due) (b : List ℕ) : Type 0 where
   pub passes : Passes st (lines b) end
   pub free : Free end
 
--- read at the place p of a file, under a 200 of n intervals, the bytes b are one day, and it is d
-abbrev pub Reads : ℕ → ℕ → List ℕ → Day → Type 0
-Reads p n b d = map dayOf (daysFrom p n (lines b)) ≡ d ∷ []
+-- read at the place p of a file, under the 200 c, the bytes b are one day, and it is d
+abbrev pub Reads : ℕ → Row → List ℕ → Day → Type 0
+Reads p c b d = map meant (daysFrom p c (lines b)) ≡ d ∷ []
 
 -- the bytes b are accepted as a block, wherever that may be, and the day that is read from them is d
 pub record Says (b : List ℕ) (d : Day) : Type 0 where
   pub st : Due
   pub accepted : Accepted st b
   pub place : ℕ
-  pub reads : Reads place (st .n) b d
+  pub channel : Row
+  pub intervals : intervalsIn (channel .cells) ≡ st .n
+  pub reads : Reads place channel b d
 
 -- ---- where a block may stand
 
