@@ -10,7 +10,7 @@ use Rattle.format.specs.Cut.{lines, field}
 use Rattle.format.specs.Records.{millionths}
 use Rattle.format.specs.Day.{Row, rowAt, DayRows, runsFrom, daysFrom, daysOf, coverOf, tagAt}
 use Rattle.format.specs.declared.Tag.{Tag}
-use Rattle.bridge.specs.Sound.{coversFrom}
+use Rattle.passing.specs.Sound.{coversFrom}
 use Rattle.day.specs.declared.DayStart.{DayStart}
 use Rattle.day.specs.declared.Place.{Place}
 use Rattle.day.specs.declared.Place.the-variants.{At, Missing}

@@ -9,8 +9,8 @@ use Rattle.ground.specs.Lists.{all}
 use Rattle.ground.proofs.Tests.{and-true}
 use Rattle.format.specs.Answers.{Answer, refusal}
 use Rattle.format.specs.Day.{daysOf, Five, outcome, enoughFor, roomFor, readInto, readFirst}
-use Rattle.bridge.specs.Sound.{isSound}
-use Rattle.bridge.proofs.Sound.{all-drop}
+use Rattle.passing.specs.Sound.{isSound}
+use Rattle.passing.proofs.Sound.{all-drop}
 use Rattle.day.specs.Places.{dayAt, daysAt, located, inside}
 use Rattle.day.specs.declared.Place.{Place}
 use Rattle.day.specs.declared.Place.the-variants.{At, Missing}

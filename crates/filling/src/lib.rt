@@ -14,7 +14,7 @@ ghost use lib.ListN.{drop};
 ghost use Rattle.ground.specs.Lists.{all};
 ghost use Rattle.format.specs.Answers.{refusal, dayReadAs};
 ghost use Rattle.format.specs.Day.{daysOf, five, outcome, readInto, readFirst};
-ghost use Rattle.bridge.specs.Sound.{isSound};
+ghost use Rattle.passing.specs.Sound.{isSound};
 ghost use Rattle.day.specs.Places.{DayAhead, dayAt};
 ghost use Rattle.filling.specs.Ready.{Here, Ready, dayInto};
 

@@ -10,15 +10,16 @@ use lib.Dec.{eqb, leb}
 use borrow.Author.Tests.{eqb-true, eqb-false, leb-true}
 use Rattle.ground.specs.Lists.{part}
 use Rattle.format.specs.Cut.{lines, fields}
-use Rattle.format.specs.Records.{kindIn, versionIn, intervalsIn}
-use Rattle.format.specs.Order.{Due, mayCome, isVaried, afterOf}
+use Rattle.format.specs.Records.{kindIn, intervalsIn}
+use Rattle.format.specs.Order.{Due}
 use Rattle.format.specs.Faults.{faultOf}
 use Rattle.format.specs.File.{after}
 use Rattle.format.specs.Day.{daysOf}
 use Rattle.format.specs.Total.{totalsFrom, totalFirst}
 use Rattle.format.specs.declared.Fault.{Fault}
 use Rattle.format.specs.declared.Fault.the-variants.{Fine, Stop}
-use Rattle.bridge.proofs.Bridge.{fine-may}
+use Rattle.passing.proofs.Fit.{fine-fit, head}
+use Rattle.passing.proofs.Counts.{Counts, Counted, counted}
 use Rattle.record.specs.Places.{LineEnd}
 use Rattle.record.specs.declared.lines.Found.{Found}
 use Rattle.record.proofs.Turns.{by-test}
@@ -36,75 +37,6 @@ use Rattle.day.proofs.Find as days
 use Rattle.channel.specs.Places.{totalsAt, ChannelAhead}
 use Rattle.channel.specs.declared.ChannelStart.{ChannelStart}
 use Rattle.channel.proofs.Find as totals
-
--- ---- what a record does to the counts
-
--- nothing is counted before the 100
-pub record Counts (st : Due) : Type 0 where
-  pub none : st .expect ≡ 0 → (st .days ≡ 0) × (st .channels ≡ 0)
-
-module _ (st : Due) (k : ℕ) (fs : List (List ℕ)) (may : mayCome (st .expect) k ≡ true) (c : Counts st) where
-  begins : k ≡ 100 → (st .days ≡ 0) × (st .channels ≡ 0)
-  unfolding mayCome
-  begins h = c .none (eqb-true (st .expect) 0 (rw h at may))
-
-  days-after : afterOf st k fs .days ≡ cond (eqb k 300) (st .days + 1) (st .days)
-  unfolding afterOf
-  days-after =
-      by-test is (eqb k 100) (λ t. rw (eqb-true k 100 t) (sym (begins (eqb-true k 100 t) .0)))
-      (λ a. by-test is (eqb k 200) (λ t. rw (eqb-true k 200 t))
-      (λ b. by-test is (eqb k 300) (λ t. rw t)
-      (λ d. by-test is (eqb k 400) (λ t. rw d)
-      (λ f. by-test is (eqb k 500) (λ t. rw d)
-      (λ g. by-test is (eqb k 250) (λ t. rw d)
-      (λ h. by-test is (eqb k 550) (λ t. rw d) (λ t. rw d)))))))
-    where
-      is : Due → Type 0
-      is s = s .days ≡ cond (eqb k 300) (st .days + 1) (st .days)
-
-  channels-after : afterOf st k fs .channels ≡ cond (eqb k 200) (st .channels + 1) (cond (eqb k 250) (st .channels + 1) (st .channels))
-  unfolding afterOf
-  channels-after =
-      by-test is (eqb k 100) (λ t. rw (eqb-true k 100 t) (sym (begins (eqb-true k 100 t) .1)))
-      (λ a. by-test is (eqb k 200) (λ t. rw t)
-      (λ b. by-test is (eqb k 300) (λ t. rw (eqb-true k 300 t))
-      (λ d. by-test is (eqb k 400) (λ t. rw (eqb-true k 400 t))
-      (λ f. by-test is (eqb k 500) (λ t. rw (eqb-true k 500 t))
-      (λ g. by-test is (eqb k 250) (λ t. rw (b, t))
-      (λ h. by-test is (eqb k 550) (λ t. rw (b, h)) (λ t. rw (b, h))))))))
-    where
-      is : Due → Type 0
-      is s = s .channels ≡ cond (eqb k 200) (st .channels + 1) (cond (eqb k 250) (st .channels + 1) (st .channels))
-
-  -- n is that of a 200
-  intervals-after : (m : ℕ) → cond (eqb (afterOf st k fs .expect) 2) (afterOf st k fs .n) m ≡ cond (eqb k 200) (intervalsIn fs) m
-  unfolding afterOf
-  intervals-after m =
-      by-test is (eqb k 100) (λ t. by-test (λ x. cond (eqb x 2) 0 m ≡ cond (eqb k 200) (intervalsIn fs) m) (eqb (versionIn fs) 12) (λ v. rw (eqb-true k 100 t)) (λ v. rw (eqb-true k 100 t)))
-      (λ a. by-test is (eqb k 200) (λ t. rw t)
-      (λ b. by-test is (eqb k 300) (λ t. by-test (λ x. cond (eqb x 2) (st .n) m ≡ cond (eqb k 200) (intervalsIn fs) m) (isVaried (st .n) fs) (λ v. rw b) (λ v. rw b))
-      (λ d. by-test is (eqb k 400) (λ t. rw b)
-      (λ f. by-test is (eqb k 500) (λ t. rw b)
-      (λ g. by-test is (eqb k 250) (λ t. rw b)
-      (λ h. by-test is (eqb k 550) (λ t. rw b) (λ t. rw b)))))))
-    where
-      is : Due → Type 0
-      is s = cond (eqb (s .expect) 2) (s .n) m ≡ cond (eqb k 200) (intervalsIn fs) m
-
--- something is expected behind every record
-some-after : (st : Due) (k : ℕ) (fs : List (List ℕ)) → afterOf st k fs .expect ≡ 0 → ⊥
-unfolding afterOf
-some-after st k fs =
-    by-test is (eqb k 100) (λ t. by-test (λ x. x ≡ 0 → ⊥) (eqb (versionIn fs) 12) (λ v h. omega arith) (λ v h. omega arith))
-    (λ a. by-test is (eqb k 200) (λ t h. omega arith)
-    (λ b. by-test is (eqb k 300) (λ t. by-test (λ x. x ≡ 0 → ⊥) (isVaried (st .n) fs) (λ v h. omega arith) (λ v h. omega arith))
-    (λ d. by-test is (eqb k 400) (λ t h. omega arith)
-    (λ f. by-test is (eqb k 500) (λ t h. omega arith)
-    (λ g. by-test is (eqb k 250) (λ t h. omega arith)
-    (λ h. by-test is (eqb k 550) (λ t h. omega arith) (λ t h. omega arith)))))))
-  where
-    is : Due → Type 0
-    is s = s .expect ≡ 0 → ⊥
 
 -- ---- a turn of the walk
 
@@ -136,17 +68,17 @@ module _ (file : List ℕ) (day channel at n e m : ℕ) (st s : Due) (l : LineEn
   unfolding nextOf
   both = gone (faultOf st (part file at e)) (after st (part file at e)) s (sym next)
 
-  may : mayCome (st .expect) k ≡ true
-  may = fine-may st (part file at e) (both .0)
+  counts-now : Counted st k (fields (part file at e))
+  counts-now = counted st k (fields (part file at e)) (a .counts) (head _ _ (fine-fit st (part file at e) (both .0) .may))
 
   days-now : s .days ≡ cond (eqb k 300) (st .days + 1) (st .days)
-  days-now = rw (both .1) (days-after st k (fields (part file at e)) may (a .counts))
+  days-now = rw (both .1) (counts-now .days)
 
   channels-now : s .channels ≡ cond (eqb k 200) (st .channels + 1) (cond (eqb k 250) (st .channels + 1) (st .channels))
-  channels-now = rw (both .1) (channels-after st k (fields (part file at e)) may (a .counts))
+  channels-now = rw (both .1) (counts-now .channels)
 
   n-now : m ≡ cond (eqb k 200) (intervalsIn (fields (part file at e))) n
-  n-now = em ∙ rw (both .1) (intervals-after st k (fields (part file at e)) may (a .counts) n)
+  n-now = em ∙ rw (both .1) (counts-now .intervals n)
 
   days-on : s .days ≤ day → drop day (daysOf file) ≡ drop (day - s .days) (daysAt file (e + 2) m)
   days-on h = by (eqb k 300) refl (eqb k 200) refl
@@ -188,7 +120,7 @@ module _ (file : List ℕ) (day channel at n e m : ℕ) (st s : Due) (l : LineEn
   pub ahead-on : Ahead file day channel (e + 2) m s
   ahead-on =
       record {
-        counts = record { none = λ h. absurd (some-after st k (fields (part file at e)) (ap (λ (x : Due). x .expect) (sym (both .1)) ∙ h)) };
+        counts = rw (both .1) (counts-now .counts);
         days = days-on;
         totals = totals-on;
       }

@@ -4,7 +4,6 @@ use mathlib.Core.Path.{_≡_, sym, ap, _∙_}
 use mathlib.Core.List.{List, [], _∷_}
 use mathlib.Core.Bool.{true}
 use lib.ListN.{drop}
-use Rattle.ground.specs.Lists.{all}
 use Rattle.format.specs.Cut.{lines}
 use Rattle.format.specs.Answers.{Answer, accepted, refusedAs, checkedAs}
 use Rattle.format.specs.File.{checkOf}
@@ -13,8 +12,8 @@ use Rattle.format.specs.Total.{totalsFrom, totalFirst, totalOf}
 use Rattle.format.specs.declared.Refusal.{Refusal}
 use Rattle.format.specs.declared.Checked.{Checked}
 use Rattle.format.specs.declared.Checked.the-variants.{Accepted, Refused}
-use Rattle.bridge.specs.Sound.{isSound}
-use Rattle.bridge.proofs.Bridge.{checked-days}
+use Rattle.passing.specs.Sound.{areSound}
+use Rattle.passing.proofs.Days.{checked-days}
 
 -- c is what the check answers
 module _ (file : List ℕ) (c : Checked) (ec : checkedAs c ≡ checkOf file) where
@@ -34,7 +33,7 @@ module _ (file : List ℕ) (c : Checked) (ec : checkedAs c ≡ checkOf file) whe
     accepted-is : checkOf file ≡ accepted (v ∷ n ∷ d ∷ [])
     accepted-is = sym ec ∙ ap checkedAs h
 
-    pub read-sound : all isSound (daysOf file) ≡ true
+    pub read-sound : areSound (daysOf file) ≡ true
     read-sound = checked-days file (v ∷ n ∷ d ∷ []) accepted-is
 
     pub read-accepted : (day : ℕ) (r : Answer) (vs vs₁ : List ℕ) (ms ms₁ : Five) → outcome r vs₁ ms₁ ≡ readFirst (drop day (daysOf file)) vs ms

@@ -29,15 +29,18 @@ use Rattle.format.proofs.ValueText.{value-shortest}
 use Rattle.format.proofs.MarkText.{quality-shortest, length-mark}
 use Rattle.format.proofs.CoverText.{length-run, runs-fewest, cover-shortest, runs-spell, runs-are-proper, uniform-is}
 use Rattle.format.specs.declared.Number.the-variants.{Is}
+use Rattle.format.proofs.Cut.{bytesOf, bytes-lines}
+use Rattle.passing.specs.Passes.{Passes, kindsOf}
+use Rattle.passing.proofs.Fit.{Fit, fine-fit, fit-cover}
+use Rattle.passing.proofs.Blocks.{headed}
+use Rattle.passing.proofs.Steps.{after-300, after-400, runs-more, runs-end, blockFound}
 use Rattle.theorems.specs.Grammar.{Each, Record}
-use Rattle.theorems.proofs.Bytes.{bytesOf, bytes-lines}
-use Rattle.theorems.proofs.Fit.{Fit, fine-fit}
-use Rattle.shortest.specs.Blocks.{Passes, kindsOf, Says}
+use Rattle.shortest.specs.Blocks.{Says}
 use Rattle.shortest.specs.Writer.{NoLonger}
 use Rattle.shortest.proofs.Sizes.{size, size-append, length-record}
 use Rattle.shortest.proofs.Shapes.{number-is, graded-is, said, Marking, Top, top-of, Stretch, stretch-of}
 use Rattle.shortest.proofs.Forms.{uniform-top, uniform-tail, varied-top, varied-tail}
-use Rattle.shortest.proofs.Steps.{fit-record, fit-cover, after-300, after-400, runs-more, runs-end, blockFound, headed}
+use Rattle.shortest.proofs.Steps.{fit-record, read-day}
 
 -- ---- how long the written block is
 
@@ -243,7 +246,7 @@ unfolding dayOf
 no-longer d z b h =
     let st : Due = h .st in
     let w = headed st b (h .accepted) in
-    let q : dayOf (blockFound (h .place) (w .first) (w .others) (st .n)) ≡ d = w .day (h .place) (h .channel) d (h .intervals) (h .reads) in
+    let q : dayOf (blockFound (h .place) (w .first) (w .others) (st .n)) ≡ d = read-day (h .st) b (h .accepted) (h .place) (h .channel) d (h .intervals) (h .reads) in
     let n : st .n ≡ d .n = ap (λ (x : Day). x .n) q in
     let l = least st (h .accepted .end) (h .place) (w .first) (w .others) (w .kind) (w .fit) (w .passes) (omega arith) in
     record {

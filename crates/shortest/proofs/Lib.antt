@@ -8,7 +8,6 @@ pub mod Texts
 pub mod Written
 pub mod Back
 pub mod Handed
-pub mod Files
 pub mod Tags
 pub mod Inside
 pub mod Said

@@ -2,13 +2,12 @@
 use Prim.Native.Nat.{ℕ, _+_, _≤_, _<_}
 use mathlib.Core.Path.{_≡_, refl, sym, ap, ap₂, _∙_, subst}
 use mathlib.Core.Logic.{_⊎_, inl, inr}
-use mathlib.Core.Bool.{true, false, _||_}
+use mathlib.Core.Bool.{true, false}
 use mathlib.Core.List.{List, [], _∷_, _++_, map}
 use native.Mathlib.Omega.{arith}
 use lib.ListN.{length}
 use lib.Dec.{eqb}
 use borrow.Author.Tests.{eqb-true, eq-eqb, le-leb, lt-leb}
-use Rattle.ground.specs.Lists.{all}
 use Rattle.ground.proofs.Cases.{by}
 use Rattle.format.specs.Cut.{Lines, line, rest, lines, fields}
 use Rattle.format.specs.Records.{kindIn, intervalsIn, dateIn, firstIn, lastIn}
@@ -17,16 +16,18 @@ use Rattle.format.specs.Faults.{size, isOpen, isNotLater, covers, isOff, isAlik
 use Rattle.format.specs.File.{after, behind200}
 use Rattle.format.specs.Day.{Row, DayRows, runsFrom, dayFrom, daysFrom, Day, dayOf}
 use Rattle.format.specs.declared.Fault.the-variants.{Fine}
+use Rattle.passing.specs.Passes.{Passes, kindsOf, areUnder, isBlock, Free, Accepted}
+use Rattle.passing.proofs.Fit.{Ok, fit-fine, free-if, free-400}
+use Rattle.passing.proofs.Steps.{blockFound, days-more}
 use Rattle.theorems.specs.Grammar.{Each, Record, join, text, IsRecord, Block, Covers, Marked, Extra, IsBlock}
 use Rattle.theorems.specs.Days.{recordAt, rowsAt, rowsOf, blockAt, dayIn, meant}
 use Rattle.theorems.proofs.Bytes.{lines-row}
-use Rattle.theorems.proofs.Rows.{Fields, Ok, record-fields, record-ok}
+use Rattle.theorems.proofs.Rows.{Fields, record-fields, record-ok}
 use Rattle.theorems.proofs.Says.{date-some, day-on}
 use Rattle.theorems.proofs.Meaning.{day-anywhere}
 use Rattle.theorems.proofs.Takes.{fields-of}
-use Rattle.theorems.proofs.Fit.{fit-fine, free-if, free-400, Apart, apart-on, marked-end}
-use Rattle.shortest.specs.Blocks.{Passes, kindsOf, isBlock, Free, Accepted, Reads, Says}
-use Rattle.shortest.proofs.Steps.{blockFound, days-more}
+use Rattle.theorems.proofs.Apart.{Apart, apart-on, marked-end}
+use Rattle.shortest.specs.Blocks.{Reads, Says}
 
 -- ---- records as their fields, and as the lines of a file
 
@@ -179,11 +180,11 @@ under-fields (r ∷ rs) h = (one (h .0), under-fields rs (h .1))
     one (inl i) = record-fields 400 0 r i
     one (inr i) = record-fields 500 0 r i
 
-under-kinds : (rs : List Record) → Under rs → all (λ x. eqb x 400 || eqb x 500) (kindsOf (cut rs)) ≡ true
+under-kinds : (rs : List Record) → Under rs → areUnder (kindsOf (cut rs)) ≡ true
 under-kinds [] h = refl
 under-kinds (r ∷ rs) h = one (h .0) (under-kinds rs (h .1))
   where
-    one : (IsRecord 400 0 r) ⊎ (IsRecord 500 0 r) → all (λ x. eqb x 400 || eqb x 500) (kindsOf (cut rs)) ≡ true → all (λ x. eqb x 400 || eqb x 500) (kindsOf (cut (r ∷ rs))) ≡ true
+    one : (IsRecord 400 0 r) ⊎ (IsRecord 500 0 r) → areUnder (kindsOf (cut rs)) ≡ true → areUnder (kindsOf (cut (r ∷ rs))) ≡ true
     one (inl i) e = rw (kind-of 400 0 r i) e
     one (inr i) e = rw (kind-of 500 0 r i) e
 

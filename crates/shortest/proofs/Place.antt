@@ -20,7 +20,7 @@ use Rattle.format.specs.Order.{due, mayCome, afterOf}
 use Rattle.format.specs.Faults.{isOpen, faultIn, brokenIn, isNotLater, isOff, isAlike, isElsewhere, faultAt, faultOf}
 use Rattle.format.specs.Day.{Row, rowAt}
 use Rattle.format.specs.Settled.{records}
-use Rattle.shortest.specs.Blocks.{Leads}
+use Rattle.passing.specs.Passes.{Leads}
 
 -- a 100, and a 200 that ends so
 abbrev opening : String → List ℕ

@@ -11,6 +11,7 @@ use borrow.Author.Tests.{eqb-true, eqb-false, ne-eqb, lt-ltb}
 use Rattle.ground.specs.Lists.{all}
 use Rattle.ground.proofs.Cases.{by, both}
 use Rattle.ground.proofs.Digits.{all-append}
+use Rattle.ground.proofs.Tests.{or-right}
 use Rattle.format.specs.Numbers.{isNumber, numberIn, that, numberOf, smallOf, noReason, reasonOf, decimals, valueOf}
 use Rattle.format.specs.Dates.{isDate, isTime, dateOf, timeOf, loadOf}
 use Rattle.format.specs.Quality.{standsAlone, takesMethod, noMethod, withMethod, qualityOf, isGraded, flagIn, methodIn, Mark}
@@ -26,13 +27,15 @@ use Rattle.format.specs.declared.Number.{Number}
 use Rattle.format.specs.declared.Number.the-variants.{Is, Bad}
 use Rattle.format.proofs.Numbers.{under, under-is, number-under, small-under, value-below}
 use Rattle.format.proofs.MarkText.{method-flag}
+use Rattle.passing.specs.Passes.{Passes}
+use Rattle.passing.proofs.Fit.{Fit, fine-fit}
+use Rattle.passing.proofs.Blocks.{headed}
+use Rattle.passing.proofs.Steps.{blockFound}
 use Rattle.theorems.specs.Grammar.{Each, Record, IsRecord}
-use Rattle.theorems.proofs.Tests.{or-right}
 use Rattle.theorems.proofs.Across.{together-agrees}
-use Rattle.theorems.proofs.Fit.{Fit, fine-fit}
-use Rattle.shortest.specs.Blocks.{Passes, Says}
+use Rattle.shortest.specs.Blocks.{Says}
 use Rattle.shortest.proofs.Shapes.{number-is, said, Marking, Top, top-of, stretch-of}
-use Rattle.shortest.proofs.Steps.{fit-record, blockFound, headed}
+use Rattle.shortest.proofs.Steps.{fit-record, read-day}
 
 -- ---- single fields
 
@@ -184,4 +187,4 @@ module _ (st end : Due) (p : ℕ) (r : List ℕ) (ls : Lines) (k : kindIn (field
 pub fit-said : (d : Day) (b : List ℕ) → Says b d → fitDay d ≡ true
 fit-said d b h =
     let w = headed (h .st) b (h .accepted) in
-    ap fitDay (sym (w .day (h .place) (h .channel) d (h .intervals) (h .reads))) ∙ day-fit (h .st) (h .accepted .end) (h .place) (w .first) (w .others) (w .kind) (w .fit) (w .passes)
+    ap fitDay (sym (read-day (h .st) b (h .accepted) (h .place) (h .channel) d (h .intervals) (h .reads))) ∙ day-fit (h .st) (h .accepted .end) (h .place) (w .first) (w .others) (w .kind) (w .fit) (w .passes)

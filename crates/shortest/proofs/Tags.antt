@@ -18,11 +18,12 @@ use Rattle.format.specs.Answers.{Answer, accepted}
 use Rattle.format.specs.File.{checkOf}
 use Rattle.format.specs.Day.{rowAt, DayRows, runsFrom, daysOf, coverOf, eachOf, tagAt, tagsOf, Day, marksOf, dayOf, Outcome, outcome, over, overFive, roomFor, readInto, readFirst, afterCheck, readOf}
 use Rattle.format.specs.declared.Tag.{Tag}
+use Rattle.format.proofs.Cut.{bytesOf}
+use Rattle.passing.proofs.Steps.{blockFound}
 use Rattle.theorems.specs.Grammar.{Record, join}
 use Rattle.theorems.specs.Days.{meant}
-use Rattle.theorems.proofs.Bytes.{bytesOf, join-fields}
+use Rattle.theorems.proofs.Bytes.{join-fields}
 use Rattle.shortest.specs.Blocks.{markOf, Read}
-use Rattle.shortest.proofs.Steps.{blockFound}
 
 -- ---- a field in its record
 

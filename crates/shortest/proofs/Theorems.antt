@@ -10,9 +10,10 @@ use Rattle.format.specs.Answers.{accepted}
 use Rattle.format.specs.File.{most, checkOf}
 use Rattle.format.specs.Day.{Day}
 use Rattle.format.specs.Block.{Given, intervalsGiven, dayGiven, blockOf}
+use Rattle.passing.specs.Passes.{Awaits, Leads}
 use Rattle.theorems.specs.Grammar.{Record, text, IsRecord}
 use Rattle.theorems.specs.Days.{recordAt, rowsOf, dayIn, ReadsAs}
-use Rattle.shortest.specs.Blocks.{Says, Awaits, Leads, Stands}
+use Rattle.shortest.specs.Blocks.{Says, Stands}
 use Rattle.shortest.specs.Writer.{Writable, ReadsBack, NoLonger}
 use Rattle.shortest.proofs.Handed.{whole}
 use Rattle.shortest.proofs.Back.{written, back}

@@ -11,7 +11,8 @@ use Rattle.format.specs.Records.{intervalsIn}
 use Rattle.format.specs.Order.{Due}
 use Rattle.format.specs.Day.{Row, Day, enoughFor}
 use Rattle.format.specs.Block.{Given, intervalsGiven, dayGiven, isInside, fitGiven, blockOf, recordsOf}
-use Rattle.shortest.specs.Blocks.{kindsOf, Accepted, Reads, Says}
+use Rattle.passing.specs.Passes.{kindsOf, Accepted}
+use Rattle.shortest.specs.Blocks.{Reads, Says}
 
 -- no list is shorter than n
 abbrev pub enough : Given → Bool

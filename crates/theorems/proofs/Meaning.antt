@@ -7,6 +7,7 @@ use mathlib.Core.List.{List, [], _∷_, _++_, map}
 use native.Mathlib.Omega.{arith}
 use lib.ListN.{length, getD, take, drop, replicate, length-append, length-take, length-drop, length-map, length-replicate, getD-replicate, List·getD-append}
 use lib.Seq.{getD-append-add}
+use Rattle.ground.proofs.Cases.{by}
 use Rattle.format.specs.Cut.{lines}
 use Rattle.format.specs.Quality.{Mark, noMark}
 use Rattle.format.specs.Records.{rowOf, intervalsIn, millionths, valuesIn, firstIn, lastIn, markAt, markIn}
@@ -15,7 +16,6 @@ use Rattle.format.specs.Day.{Row, DayRows, daysOf, coverOf, eachOf, valuesOf, m
 use Rattle.format.specs.Total.{totalsFrom}
 use Rattle.theorems.specs.Grammar.{Each, Record, join, Block, Covers, Marked, IsBlock, Channel, Reading, Content, nem12, nem13, channelsIn, blocksIn, daysIn, InFormat}
 use Rattle.theorems.specs.Days.{behind, recordAt, rowsAt, rowsOf, blockAt, blockDays, behindBlocks, channelDays, contentDays, dayIn, meant, blockMeanings, channelMeanings, meanings, channelTotals, readingTotals, totals}
-use Rattle.theorems.proofs.Tests.{by}
 use Rattle.theorems.proofs.Rows.{meets-length}
 use Rattle.theorems.proofs.Days.{days, channel-totals}
 use Rattle.theorems.proofs.Once.{row-length}

@@ -9,6 +9,7 @@ use native.Mathlib.Numerals.{add-one}
 use lib.ListN.{length, take, drop, length-append, length-take, take-append-drop}
 use lib.Dec.{eqb}
 use borrow.Author.Tests.{eqb-true, eqb-false, eq-eqb, ne-eqb}
+use Rattle.ground.proofs.Cases.{by}
 use Rattle.format.specs.Cut.{Lines, line, rest, lines}
 use Rattle.format.specs.Order.{Due, begun}
 use Rattle.format.specs.Faults.{faultOf}
@@ -16,12 +17,11 @@ use Rattle.format.specs.Answers.{Answer, accepted, refused}
 use Rattle.format.specs.File.{after, orGoOn, walkOf, checkOf}
 use Rattle.format.specs.declared.Fault.{Fault}
 use Rattle.format.specs.declared.Fault.the-variants.{Fine, Stop}
+use Rattle.format.proofs.Cut.{bytesOf}
+use Rattle.passing.proofs.Walk.{walk-of, of-walk}
 use Rattle.theorems.specs.First.{Clear}
 use Rattle.theorems.specs.Places.{placeIn, placeOf, past, stateIn, stateAt}
-use Rattle.theorems.proofs.Tests.{by}
-use Rattle.theorems.proofs.Bytes.{bytesOf}
 use Rattle.theorems.proofs.Cuts.{Has, keep, lines-cut, has-next, keep-next}
-use Rattle.theorems.proofs.Format.{walk-of, of-walk}
 use Rattle.theorems.proofs.Links.{fine-none, fault-number}
 
 -- why a record is refused with x at q and field i, where it would start at p in the state st, and ls are the lines from there on

@@ -10,6 +10,8 @@ use lib.Dec.{eqb}
 use borrow.Author.Tests.{eqb-true, eqb-false, eq-eqb, ne-eqb}
 use Rattle.ground.specs.Lists.{same}
 use Rattle.ground.specs.Text.{bytes}
+use Rattle.ground.proofs.Tests.{or-other, or-right}
+use Rattle.ground.proofs.Cases.{by}
 use Rattle.format.specs.Texts.{versionOf}
 use Rattle.format.specs.Numbers.{isNumber, numberIn, that, numberOf, smallOf, isLength, lengthOf, intervalsOf}
 use Rattle.format.specs.Dates.{isDay, isDate, isTime, dateOf, timeOf, readTimeOf}
@@ -19,7 +21,6 @@ use Rattle.format.specs.Faults.{onDay}
 use Rattle.format.specs.declared.Number.{Number}
 use Rattle.format.specs.declared.Number.the-variants.{Is, Bad}
 use Rattle.theorems.specs.Grammar.{Record, IsRecord, Extra}
-use Rattle.theorems.proofs.Tests.{by, or-true, or-right}
 use Rattle.theorems.proofs.Rows.{meets-at}
 
 -- a number that passes a test
@@ -91,7 +92,7 @@ module _ (t : ℕ) (fs : Record) (h : IsRecord 500 0 fs) where
   on-day d = (
     h,
     λ l. let s : 1 ≤ readTimeIn fs = time-some l in
-        eqb-true _ _ (or-true (eqb (readTimeIn fs) 0) (eqb (readTimeIn fs / 1000000) t) d (ne-eqb (readTimeIn fs) 0 (λ z. omega arith))),
+        eqb-true _ _ (or-other (eqb (readTimeIn fs) 0) (eqb (readTimeIn fs / 1000000) t) d (ne-eqb (readTimeIn fs) 0 (λ z. omega arith))),
   )
 
 pub day-on : (t : ℕ) (fs : Record) → Extra t fs → onDay t (readTimeIn fs) ≡ true

@@ -8,6 +8,8 @@ use lib.ListN.{length}
 use lib.Dec.{eqb}
 use borrow.Author.Tests.{eqb-true, eq-eqb, ne-eqb, le-leb, lt-leb}
 use Rattle.ground.specs.Lists.{all}
+use Rattle.ground.proofs.Tests.{or-right}
+use Rattle.ground.proofs.Cases.{by}
 use Rattle.format.specs.Bytes.{plain}
 use Rattle.format.specs.Cut.{lines, fields}
 use Rattle.format.specs.Records.{kindIn, versionIn, intervalsIn, dateIn, firstIn, lastIn}
@@ -15,12 +17,12 @@ use Rattle.format.specs.Order.{Due, begun, between, mayCome, isVaried, alikeWit
 use Rattle.format.specs.Faults.{isOpen, size, isNotLater, covers, isOff, isAlike, isElsewhere}
 use Rattle.format.specs.Answers.{accepted}
 use Rattle.format.specs.File.{walkOf}
+use Rattle.passing.proofs.Fit.{Ok, Fit, fit-fine, free-if, free-400}
 use Rattle.theorems.specs.Grammar.{Each, Rising, Record, join, text, IsRecord, Block, Covers, Marked, Extra, IsBlock, datesOf, Channel, IsChannel, Reading, IsReading, Content, nem12, nem13, IsContent, blocksThen, channelsThen, readingsThen, contentThen, channelsIn, blocksIn, daysIn, InFormat}
-use Rattle.theorems.proofs.Tests.{by, or-right}
 use Rattle.theorems.proofs.Bytes.{fields-join, plain-join, lines-row}
-use Rattle.theorems.proofs.Rows.{Fields, Ok, record-fields, record-ok}
+use Rattle.theorems.proofs.Rows.{Fields, record-fields, record-ok}
 use Rattle.theorems.proofs.Says.{date-some, day-on}
-use Rattle.theorems.proofs.Fit.{Fit, fit-fine, free-if, free-400, Apart, apart-on, marked-end}
+use Rattle.theorems.proofs.Apart.{Apart, apart-on, marked-end}
 
 -- ---- one record on
 
