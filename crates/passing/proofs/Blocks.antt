@@ -1,10 +1,11 @@
--- A block that is accepted: its 300 and the records under it, what it keeps of the state, and that it is accepted wherever a day of its date may stand.
--- Assumes nothing.
+-- A block that is accepted: its 300 and the records under it, what they keep of the state, the one day in it, and that it is accepted wherever a day of its
+-- date may stand. Assumes nothing.
 use Prim.Native.Nat.{ℕ, _+_, _≤_, _<_}
 use mathlib.Core.Path.{_≡_, refl, sym, ap, _∙_, subst}
 use mathlib.Core.Bool.{true, _||_, false≢true}
-use mathlib.Core.List.{List}
+use mathlib.Core.List.{List, [], _∷_}
 use native.Mathlib.Omega.{arith}
+use lib.ListN.{length}
 use lib.Dec.{eqb}
 use borrow.Author.Tests.{eqb-true, lt-leb}
 use Rattle.ground.proofs.Tests.{and-true, or-other}
@@ -14,9 +15,10 @@ use Rattle.format.specs.Records.{kindIn, dateIn}
 use Rattle.format.specs.Order.{Due, alikeWith, on300}
 use Rattle.format.specs.Faults.{size, isOpen, isNotLater, covers, isOff, isAlike, isElsewhere, faultAt, faultOf}
 use Rattle.format.specs.File.{after}
+use Rattle.format.specs.Day.{Row, DayRows, dayFrom, daysFrom}
 use Rattle.passing.specs.Passes.{Passes, kindsOf, areUnder, isBlock, Free, Accepted, topDate, Awaits}
 use Rattle.passing.proofs.Fit.{Ok, Fit, fine-fit, fit-fine, fit-later}
-use Rattle.passing.proofs.Steps.{after-300, after-400, after-500}
+use Rattle.passing.proofs.Steps.{after-300, after-400, after-500, days-more}
 
 -- ---- its 300, and what is under it
 
@@ -74,6 +76,24 @@ under-kept st end (line r ls) b h =
         under-one (kindIn (fields r)) t
         (λ k. subst (Kept st) (sym (after-400 st r k)) (record { n = refl; date = refl; version = refl; channels = refl; days = refl; under = λ z. omega arith }))
         (λ k. subst (Kept st) (sym (after-500 st r k)) (record { n = refl; date = refl; version = refl; channels = refl; days = refl; under = λ z. omega arith }))
+
+-- ---- what a reading finds
+
+-- no other day under the 300
+under-none : (p : ℕ) (c : Row) (ls : Lines) → areUnder (kindsOf ls) ≡ true → daysFrom p c ls ≡ []
+unfolding daysFrom
+under-none p c (rest t) b = refl
+under-none p c (line r ls) b =
+    let w = and-true (eqb (kindIn (fields r)) 400 || eqb (kindIn (fields r)) 500) (areUnder (kindsOf ls)) b in
+    let i = under-none (p + length r + 2) c ls (w .1) in
+    under-one (kindIn (fields r)) (w .0) (λ k. rw k i) (λ k. rw k i)
+
+pub one-day : (st : Due) (b : List ℕ) (a : Accepted st b) (p : ℕ) (c : Row) → daysFrom p c (lines b) ≡ dayFrom p c (headed st b a .first) (headed st b a .others) ∷ []
+one-day st b a p c =
+    let w = headed st b a in
+    ap (daysFrom p c) (w .is)
+    ∙ days-more p (w .first) (w .others) c (w .kind)
+    ∙ ap (λ (ds : List DayRows). dayFrom p c (w .first) (w .others) ∷ ds) (under-none (p + length (w .first) + 2) c (w .others) (w .under))
 
 -- ---- another place
 

@@ -6,3 +6,4 @@ pub mod Sound
 pub mod Days
 pub mod Files
 pub mod Blocks
+pub mod Alone

@@ -2,15 +2,18 @@
 -- records under it": when bytes are accepted as one, and where one may stand.
 use Prim.Native.Nat.{ℕ, _<_}
 use mathlib.Core.Path.{_≡_}
+use mathlib.Core.Logic.{_≢_}
 use mathlib.Core.Bool.{Bool, true, false, _&&_, _||_}
 use mathlib.Core.List.{List, [], _∷_}
+use lib.ListN.{length}
 use lib.Dec.{eqb}
 use Rattle.ground.specs.Lists.{all}
+use Rattle.format.specs.Numbers.{intervalsOf}
 use Rattle.format.specs.Cut.{Lines, line, rest, lines, fields}
 use Rattle.format.specs.Records.{kindIn, dateIn}
 use Rattle.format.specs.Order.{Due, begun, mayCome}
 use Rattle.format.specs.Faults.{isOpen, faultOf}
-use Rattle.format.specs.File.{after}
+use Rattle.format.specs.File.{after, behind200, topSays}
 use Rattle.format.specs.declared.Fault.the-variants.{Fine}
 
 -- ---- passed
@@ -63,3 +66,14 @@ pub record Awaits (st : Due) (n date : ℕ) : Type 0 where
   pub free : Free st
   pub intervals : st .n ≡ n
   pub earlier : st .date < date
+
+-- ---- a block on its own
+
+-- behind a 200 of this interval length, of n intervals, the bytes b are accepted as a block: its 300 says the date t, the update time u and the load time l, and
+-- it has k records
+pub record Alone (minutes : ℕ) (b : List ℕ) (t n u l k : ℕ) : Type 0 where
+  pub intervals : intervalsOf minutes ≡ n
+  pub known : n ≢ 0
+  pub accepted : Accepted (behind200 n) b
+  pub says : topSays n (lines b) ≡ t ∷ n ∷ u ∷ l ∷ []
+  pub records : length (kindsOf (lines b)) ≡ k

@@ -14,3 +14,4 @@ pub mod Said
 pub mod Refuses
 pub mod Theorems
 pub mod Place
+pub mod Alone

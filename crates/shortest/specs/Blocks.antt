@@ -50,3 +50,12 @@ pub record Stands (before b behind : List ℕ) (st : Due) (d : Day) : Type 0 whe
   pub goes-on : walkOf begun 0 0 (lines (before ++ b ++ behind)) ≡ walkOf end (length (before ++ b)) (length (kindsOf (lines (before ++ b)))) (lines behind)
   pub awaits : (date : ℕ) → d .date < date → Awaits end (st .n) date
   pub reads : (xs : List ℕ) → checkOf (before ++ b ++ behind) ≡ accepted xs → Read (before ++ b ++ behind) (st .days) d
+
+-- so stands a block that was accepted on its own, as a day of the date, the n and the times that its check answered
+pub record StandsAlone (before b behind : List ℕ) (st : Due) (t n u l : ℕ) : Type 0 where
+  pub day : Day
+  pub stands : Stands before b behind st day
+  pub date : day .date ≡ t
+  pub intervals : day .n ≡ n
+  pub update : day .update ≡ u
+  pub load : day .load ≡ l
