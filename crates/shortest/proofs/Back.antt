@@ -24,13 +24,13 @@ use Rattle.format.specs.Block.{fitQuality, fitMark, fitValue, fitDay, valueText
 use Rattle.format.proofs.NumberText.{date-back, time-back, load-back}
 use Rattle.format.proofs.ValueText.{value-back}
 use Rattle.format.proofs.CoverText.{runs-spell, runs-are-proper, uniform-is, uniform}
+use Rattle.format.proofs.Forms.{uniform-top, uniform-tail, varied-top, varied-tail}
 use Rattle.passing.specs.Passes.{Accepted, Awaits}
 use Rattle.theorems.specs.Days.{rowsAt, rowsOf, dayIn}
 use Rattle.theorems.specs.Grammar.{Record, join, text, IsRecord, Block, Covers, IsBlock}
 use Rattle.shortest.specs.Blocks.{Reads}
 use Rattle.shortest.specs.Writer.{ReadsBack}
 use Rattle.shortest.proofs.Shapes.{TopSays, top-says}
-use Rattle.shortest.proofs.Forms.{uniform-top, uniform-tail, varied-top, varied-tail}
 use Rattle.shortest.proofs.Pass.{block-reads, block-accepted}
 use Rattle.shortest.proofs.Texts.{Carried, fit-parts, mark-said, mark-carried, v-carried}
 use Rattle.shortest.proofs.Written.{three, topWritten, top-record, top-text, runWritten, coverWritten, cover-text, Fitting, fitting, written-first, written-last, written-mark, cover-records, cover-covers, cover-alike}

@@ -30,6 +30,7 @@ use Rattle.format.proofs.MarkText.{quality-shortest, length-mark}
 use Rattle.format.proofs.CoverText.{length-run, runs-fewest, cover-shortest, runs-spell, runs-are-proper, uniform-is}
 use Rattle.format.specs.declared.Number.the-variants.{Is}
 use Rattle.format.proofs.Cut.{bytesOf, bytes-lines}
+use Rattle.format.proofs.Forms.{uniform-top, uniform-tail, varied-top, varied-tail}
 use Rattle.passing.specs.Passes.{Passes, kindsOf}
 use Rattle.passing.proofs.Fit.{Fit, fine-fit, fit-cover}
 use Rattle.passing.proofs.Blocks.{headed}
@@ -39,7 +40,6 @@ use Rattle.shortest.specs.Blocks.{Says}
 use Rattle.shortest.specs.Writer.{NoLonger}
 use Rattle.shortest.proofs.Sizes.{size, size-append, length-record}
 use Rattle.shortest.proofs.Shapes.{number-is, graded-is, said, Marking, Top, top-of, Stretch, stretch-of}
-use Rattle.shortest.proofs.Forms.{uniform-top, uniform-tail, varied-top, varied-tail}
 use Rattle.shortest.proofs.Steps.{fit-record, read-day}
 
 -- ---- how long the written block is

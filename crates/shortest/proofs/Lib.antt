@@ -1,6 +1,5 @@
 pub mod Sizes
 pub mod Shapes
-pub mod Forms
 pub mod Steps
 pub mod Least
 pub mod Pass

@@ -12,7 +12,7 @@ use Rattle.ground.specs.Lists.{all}
 use Rattle.ground.proofs.Cases.{by, both}
 use Rattle.ground.proofs.Digits.{all-append}
 use Rattle.ground.proofs.Tests.{or-right}
-use Rattle.format.specs.Numbers.{isNumber, numberIn, that, numberOf, smallOf, noReason, reasonOf, decimals, valueOf}
+use Rattle.format.specs.Numbers.{isNumber, numberIn, numberOf, smallOf, noReason, reasonOf, decimals, valueOf}
 use Rattle.format.specs.Dates.{isDate, isTime, dateOf, timeOf, loadOf}
 use Rattle.format.specs.Quality.{standsAlone, takesMethod, noMethod, withMethod, qualityOf, isGraded, flagIn, methodIn, Mark}
 use Rattle.format.specs.Cut.{Lines, line, rest, fields}
@@ -25,7 +25,7 @@ use Rattle.format.specs.declared.Graded.{Graded}
 use Rattle.format.specs.declared.Graded.the-variants.{Of}
 use Rattle.format.specs.declared.Number.{Number}
 use Rattle.format.specs.declared.Number.the-variants.{Is, Bad}
-use Rattle.format.proofs.Numbers.{under, under-is, number-under, small-under, value-below}
+use Rattle.format.proofs.Numbers.{that-holds, under, under-is, number-under, small-under, value-below}
 use Rattle.format.proofs.MarkText.{method-flag}
 use Rattle.passing.specs.Passes.{Passes}
 use Rattle.passing.proofs.Fit.{Fit, fine-fit}
@@ -38,10 +38,6 @@ use Rattle.shortest.proofs.Shapes.{number-is, said, Marking, Top, top-o
 use Rattle.shortest.proofs.Steps.{fit-record, read-day}
 
 -- ---- single fields
-
-that-holds : (p : ℕ → Bool) (x : Number) → isNumber (that p x) ≡ true → p (numberIn (that p x)) ≡ true
-that-holds p (Is v) h = by (p v) (λ t. rw (t, t)) (λ t. absurd (false≢true (let z : false ≡ true = (rw t at h) in z)))
-that-holds p Bad h = absurd (false≢true h)
 
 date-fit : (s : List ℕ) → isNumber (dateOf s) ≡ true → isDate (numberIn (dateOf s)) ≡ true
 unfolding dateOf

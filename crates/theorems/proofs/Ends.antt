@@ -14,7 +14,7 @@ use Rattle.ground.specs.Digits.{isDigit}
 use Rattle.ground.proofs.Same.{same-sound}
 use Rattle.ground.proofs.Tests.{and-true, or-other}
 use Rattle.ground.proofs.Cases.{by, both}
-use Rattle.ground.proofs.Digits.{all-map}
+use Rattle.ground.proofs.Digits.{digit-not, all-map}
 use Rattle.format.specs.Bytes.{isCapital, isLetter, isAlnum, endSpace, isText, areAll}
 use Rattle.format.specs.Texts.{isNmi, isSuffix, isStream, isParty, isConfiguration, isRegister, isSerial, isUnit, isServiceOrder, isDescription, isDirection, isTransCode, versionOf}
 use Rattle.format.specs.Numbers.{isNumber, numberIn, that, orEmpty, numberOf, smallOf, leadingZero, intervalOf, lengthOf, isLength, noReason, reasonOf, point, before, behind, times, fractionOf, amount, decimals, valueOf, areDigits, isRead, isIndexRead}
@@ -68,8 +68,7 @@ all-point q (b ∷ s) h k p =
 -- ---- kinds of bytes
 
 digit-byte : (b : ℕ) → isDigit b ≡ true → other 32 b ≡ true
-unfolding isDigit
-digit-byte b h = let k : 48 ≤ b = leb-true 48 b (and-true (leb 48 b) (leb b 57) h .0) in rw (ne-eqb b 32 (λ e. omega arith))
+digit-byte b h = digit-not 32 b (omega arith) h
 
 letter-byte : (b : ℕ) → isLetter b ≡ true → other 32 b ≡ true
 unfolding isLetter isCapital
