@@ -31,7 +31,7 @@ use Rattle.passing.proofs.Blocks.{headed, under-one, accepted-there, ac
 
 module _ (st : Due) (r : List ℕ) where
   -- the block's tests are the file's, and that the record is not foreign to it
-  alone-fine : blockFaultOf st r ≡ Fine → (isForeign st (kindIn (fields r)) ≡ false) × (faultOf st r ≡ Fine)
+  pub alone-fine : blockFaultOf st r ≡ Fine → (isForeign st (kindIn (fields r)) ≡ false) × (faultOf st r ≡ Fine)
   unfolding blockFaultOf
   alone-fine e =
       let a = both-fine (f3 r) _ e in
@@ -52,11 +52,11 @@ module _ (st : Due) (r : List ℕ) where
 -- ---- the records under the 300
 
 -- under a day
-abbrev Inside : Due → Type 0
+abbrev pub Inside : Due → Type 0
 Inside st = inDay (st .expect) ≡ true
 
 module _ (st : Due) (r : List ℕ) where
-  inside-kind : Inside st → isForeign st (kindIn (fields r)) ≡ false → (eqb (kindIn (fields r)) 400 || eqb (kindIn (fields r)) 500) ≡ true
+  pub inside-kind : Inside st → isForeign st (kindIn (fields r)) ≡ false → (eqb (kindIn (fields r)) 400 || eqb (kindIn (fields r)) 500) ≡ true
   unfolding isForeign
   inside-kind i h = not-false _ (rw i at h)
 
@@ -64,7 +64,7 @@ module _ (st : Due) (r : List ℕ) where
   unfolding isForeign
   kind-inside h = rw h (by (inDay (st .expect)) (λ t. rw t) (λ t. rw t))
 
-  inside-after : (eqb (kindIn (fields r)) 400 || eqb (kindIn (fields r)) 500) ≡ true → Inside (after st r)
+  pub inside-after : (eqb (kindIn (fields r)) 400 || eqb (kindIn (fields r)) 500) ≡ true → Inside (after st r)
   inside-after h = under-one (kindIn (fields r)) h (λ k. rw (after-400 st r k)) (λ k. rw (after-500 st r k))
 
 -- a 300 may come where a day may end
@@ -130,7 +130,7 @@ rest-walk x st end p k (line r ls) i u h f =
 -- ---- the block
 
 -- the 300
-inside-300 : (st : Due) (r : List ℕ) → kindIn (fields r) ≡ 300 → Inside (after st r)
+pub inside-300 : (st : Due) (r : List ℕ) → kindIn (fields r) ≡ 300 → Inside (after st r)
 inside-300 st r k = rw (after-300 st r k) (by (isVaried (st .n) (fields r)) (λ t. rw t) (λ t. rw t))
 
 -- behind a 200 of n intervals, the walk accepts exactly what is accepted as a block

@@ -98,26 +98,28 @@ one-day st b a p c =
 -- ---- another place
 
 -- the state with other counts
-counting : ℕ → ℕ → ℕ → Due → Due
+unfoldable pub counting : ℕ → ℕ → ℕ → Due → Due
 counting v c d st =
     record { expect = st .expect; version = v; n = st .n; date = st .date; next = st .next; mark = st .mark; alike = st .alike; channels = c; days = d }
 
 -- no fault goes by the counts
 module _ (v c d : ℕ) where
-  fault-counting : (st : Due) (r : List ℕ) → faultOf (counting v c d st) r ≡ faultOf st r
+  pub fault-counting : (st : Due) (r : List ℕ) → faultOf (counting v c d st) r ≡ faultOf st r
   unfolding counting faultOf faultAt isOpen isNotLater isOff covers isAlike alikeWith isElsewhere
   fault-counting st r = refl
 
-  under-counting : (st end : Due) (ls : Lines) → areUnder (kindsOf ls) ≡ true → Passes st ls end → Passes (counting v c d st) ls (counting v c d end)
+  pub after-counting : (st : Due) (r : List ℕ) → (eqb (kindIn (fields r)) 400 || eqb (kindIn (fields r)) 500) ≡ true → after (counting v c d st) r ≡ counting v c d (after st r)
   unfolding counting alikeWith
+  after-counting st r h =
+      under-one (kindIn (fields r)) h
+      (λ k. after-400 (counting v c d st) r k ∙ ap (counting v c d) (sym (after-400 st r k)))
+      (λ k. after-500 (counting v c d st) r k ∙ ap (counting v c d) (sym (after-500 st r k)))
+
+  under-counting : (st end : Due) (ls : Lines) → areUnder (kindsOf ls) ≡ true → Passes st ls end → Passes (counting v c d st) ls (counting v c d end)
   under-counting st end (rest t) b h = (h .0, ap (counting v c d) (h .1))
   under-counting st end (line r ls) b h =
       let w = and-true (eqb (kindIn (fields r)) 400 || eqb (kindIn (fields r)) 500) (areUnder (kindsOf ls)) b in
-      let e : after (counting v c d st) r ≡ counting v c d (after st r) =
-      under-one (kindIn (fields r)) (w .0)
-      (λ k. after-400 (counting v c d st) r k ∙ ap (counting v c d) (sym (after-400 st r k)))
-      (λ k. after-500 (counting v c d st) r k ∙ ap (counting v c d) (sym (after-500 st r k))) in
-      (fault-counting st r ∙ h .0, subst (λ (s : Due). Passes s ls (counting v c d end)) (sym e) (under-counting (after st r) end ls (w .1) (h .1)))
+      (fault-counting st r ∙ h .0, subst (λ (s : Due). Passes s ls (counting v c d end)) (sym (after-counting st r (w .0))) (under-counting (after st r) end ls (w .1) (h .1)))
 
   free-counting : (st : Due) → Free st → Free (counting v c d st)
   unfolding counting isOpen

@@ -7,3 +7,4 @@ pub mod Days
 pub mod Files
 pub mod Blocks
 pub mod Alone
+pub mod Refused
