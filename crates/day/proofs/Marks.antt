@@ -21,8 +21,8 @@ use Rattle.record.proofs.Fields.{tag-moves}
 use Rattle.record.proofs.Ends.{line-none, line-more, line-room, line-long}
 use Rattle.lists.specs.Lists.{stored, Roomy}
 use Rattle.lists.proofs.Laws.{stored-append, Even, even-room}
-use Rattle.bridge.specs.Sound.{coversFrom}
-use Rattle.bridge.proofs.Sound.{Covered, cover-first}
+use Rattle.passing.specs.Sound.{coversFrom}
+use Rattle.passing.proofs.Sound.{Covered, cover-first}
 use Rattle.day.specs.Places.{runsAt, runTags, tagsFor, isCovered}
 
 -- ---- one 400, where its third field starts at x

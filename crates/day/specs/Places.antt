@@ -12,7 +12,7 @@ use Rattle.format.specs.Records.{intervalsIn, millionths}
 use Rattle.format.specs.File.{checkOf}
 use Rattle.format.specs.Day.{Row, rowAt, BlockRows, DayRows, runsFrom, daysFrom, daysOf, coverOf, tagAt}
 use Rattle.format.specs.declared.Tag.{Tag}
-use Rattle.bridge.specs.Sound.{coversFrom}
+use Rattle.passing.specs.Sound.{coversFrom}
 use Rattle.day.specs.declared.DayStart.{DayStart}
 use Rattle.day.specs.declared.Under.{Under}
 use Rattle.day.specs.declared.Place.{Place}

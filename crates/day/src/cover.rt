@@ -15,7 +15,7 @@ ghost use Rattle.format.specs.Cut.{fields};
 ghost use Rattle.format.specs.Records.{lastIn};
 ghost use Rattle.format.specs.Day.{rowAt, tagAt, five};
 ghost use Rattle.lists.specs.Lists.{stored, Roomy};
-ghost use Rattle.bridge.specs.Sound.{coversFrom};
+ghost use Rattle.passing.specs.Sound.{coversFrom};
 ghost use Rattle.day.specs.Places.{runsAt, runTags, tagsFor, isCovered};
 
 // A 400: the last of its intervals, and their mark.

@@ -9,8 +9,8 @@ use borrow.Author.Tests.{leb-true, not-true, not-false}
 use Rattle.ground.proofs.Tests.{and-true}
 use Rattle.format.specs.Answers.{Answer, refusal}
 use Rattle.format.specs.Day.{DayRows, daysOf, Five, outcome, enoughFor, roomFor, readInto, readFirst, readOf}
-use Rattle.bridge.specs.Sound.{isSound, areSound}
-use Rattle.bridge.proofs.Bridge.{checked-days}
+use Rattle.passing.specs.Sound.{isSound, areSound}
+use Rattle.passing.proofs.Days.{checked-days}
 use Rattle.day.specs.Places.{blockAt, Heads, dayAt, DayAhead, located, inside, Behind, IsAccepted}
 use Rattle.day.specs.declared.Under.{Under}
 use Rattle.day.specs.declared.DayStart.{DayStart}

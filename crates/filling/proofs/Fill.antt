@@ -16,9 +16,9 @@ use Rattle.format.specs.Answers.{accepted}
 use Rattle.format.specs.Day.{rowAt, eachOf, tagAt, tagsOf, valuesOf, Five, over, overFive, outcome, readInto}
 use Rattle.format.specs.declared.Tag.{Tag}
 use Rattle.lists.specs.Lists.{stored, Roomy}
-use Rattle.bridge.specs.Sound.{isSound}
+use Rattle.passing.specs.Sound.{isSound}
 use Rattle.filling.specs.Ready.{Ready}
-use Rattle.bridge.proofs.Sound.{sound-fields, sound-each, sound-values}
+use Rattle.passing.proofs.Sound.{sound-fields, sound-each, sound-values}
 use Rattle.day.specs.Places.{valuesFrom, runsAt, runTags, tagsFor, isCovered, blockAt}
 use Rattle.day.proofs.Values.{values-are}
 

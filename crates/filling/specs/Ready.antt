@@ -7,7 +7,7 @@ use lib.ListN.{length}
 use Rattle.format.specs.Answers.{refusal}
 use Rattle.format.specs.Day.{BlockRows, Five, Outcome, outcome, roomFor, readInto}
 use Rattle.lists.specs.Lists.{Roomy}
-use Rattle.bridge.specs.Sound.{isSound}
+use Rattle.passing.specs.Sound.{isSound}
 use Rattle.day.specs.Places.{blockAt}
 
 -- a sound day of n intervals has its 300 from a to e

@@ -13,7 +13,7 @@ ghost use mathlib.Core.Bool.{true};
 ghost use Prim.Native.Nat.{_+_};
 ghost use Rattle.format.specs.Answers.{refusal, dayReadAs};
 ghost use Rattle.format.specs.Day.{five, outcome, readInto, readFirst, readOf};
-ghost use Rattle.bridge.specs.Sound.{areSound};
+ghost use Rattle.passing.specs.Sound.{areSound};
 ghost use Rattle.day.specs.Places.{blockAt, DayAhead, located, inside, IsAccepted};
 ghost use Rattle.filling.specs.Ready.{Here, Ready, dayInto};
 

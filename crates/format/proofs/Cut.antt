@@ -1,4 +1,5 @@
--- The fields of a record: the first and those behind it, how many there are, and where one starts. Assumes nothing.
+-- The fields of a record: the first and those behind it, how many there are, and where one starts; and the lines of bytes, put together again. Assumes
+-- nothing.
 use Prim.Native.Nat.{ℕ, zero, suc, _+_, _≤_, _<_}
 use mathlib.Core.Path.{_≡_, refl}
 use mathlib.Core.List.{List, [], _∷_, _++_}
@@ -9,9 +10,13 @@ use native.Mathlib.Omega.{arith}
 use native.Mathlib.Decide.{decLt}
 use lib.ListN.{length, getD, take, drop, length-drop, drop-of-length-le}
 use lib.Seq.{drop-cons, drop-drop, length-take-le}
+use lib.Dec.{eqb}
+use borrow.Author.Tests.{eqb-true}
 use Rattle.ground.specs.Lists.{spanOf, other}
+use Rattle.ground.proofs.Tests.{and-true}
+use Rattle.ground.proofs.Cases.{by}
 use Rattle.ground.proofs.Spans.{span-le}
-use Rattle.format.specs.Cut.{onField, fields, field, startOf}
+use Rattle.format.specs.Cut.{isCrlf, Lines, line, rest, onFirst, lines, onField, fields, field, startOf}
 
 -- ---- how many
 
@@ -168,3 +173,29 @@ start-end (b ∷ s) = go (other 44 b) (fields s) (start-end s) (fields-some s)
     go true [] e h = absurd (let z : ⊥ = omega arith in z)
     go true (f ∷ fs) e h = omega arith
     go false fs e h = omega arith
+
+-- ---- lines, put together again
+
+-- the bytes that were cut
+abbrev pub bytesOf : Lines → List ℕ
+bytesOf (rest t) = t
+bytesOf (line r ls) = r ++ 13 ∷ 10 ∷ bytesOf ls
+
+crlf : (b d : ℕ) → isCrlf b d ≡ true → (b ≡ 13) × (d ≡ 10)
+crlf b d e = let w = and-true (eqb b 13) (eqb d 10) e in (eqb-true b 13 (w .0), eqb-true d 10 (w .1))
+
+pub bytes-lines : (l : List ℕ) → bytesOf (lines l) ≡ l
+unfolding lines
+bytes-lines [] = refl
+bytes-lines (b ∷ []) = refl
+bytes-lines (b ∷ d ∷ bs) = go (bytes-lines bs) (bytes-lines (d ∷ bs))
+  where
+    on : (ls : Lines) → bytesOf (onFirst b ls) ≡ b ∷ bytesOf ls
+    on (rest t) = refl
+    on (line r ls) = refl
+
+    go : bytesOf (lines bs) ≡ bs → bytesOf (lines (d ∷ bs)) ≡ d ∷ bs → bytesOf (lines (b ∷ d ∷ bs)) ≡ b ∷ d ∷ bs
+    go i j =
+        by (isCrlf b d)
+        (λ e. let w = crlf b d e in rw (e, i, w .0, w .1))
+        (λ e. rw (e, on (lines (d ∷ bs)), j))

@@ -1,7 +1,7 @@
 -- Numbers: the cases of `numberOf`, `smallOf`, `valueOf` and `isRead` as the code meets them, and what a number that was read says of its bytes.
 -- Assumes nothing.
 use mathlib.Core.Path.{_≡_, refl, sym, ap, _∙_}
-use mathlib.Core.Bool.{Bool, true, false, cond}
+use mathlib.Core.Bool.{Bool, true, false, cond, false≢true}
 use mathlib.Core.List.{List}
 use Prim.Native.Nat.{ℕ, _+_, _-_, _*_, _^_, _≤_, _<_, min}
 use native.Mathlib.Nat.{mul-lt-mul-of-pos-right, one-le-pow}
@@ -15,10 +15,11 @@ use borrow.Author.Tests.{le-leb, eq-eqb, ne-eqb, leb-true}
 use Rattle.ground.specs.Lists.{all, spanOf, other}
 use Rattle.ground.specs.Digits.{isDigit, decimal}
 use Rattle.ground.proofs.Tests.{tests, and-false, and-true}
+use Rattle.ground.proofs.Cases.{same-or, by}
 use Rattle.ground.proofs.Lists.{passed-stops, passed-all, to-end}
 use Rattle.ground.proofs.Decimal.{Read, decimal-below, pow-below}
 use Rattle.format.specs.Bytes.{areAll}
-use Rattle.format.specs.Numbers.{that, orEmpty, numberOf, leadingZero, smallOf, point, before, behind, times, fractionOf, amount, valueOf, areDigits, isRead}
+use Rattle.format.specs.Numbers.{isNumber, numberIn, that, orEmpty, numberOf, leadingZero, smallOf, isLength, intervalsOf, point, before, behind, times, fractionOf, amount, valueOf, areDigits, isRead}
 use Rattle.format.specs.declared.Number.{Number}
 use Rattle.format.specs.declared.Number.the-variants.{Is, Bad}
 
@@ -88,6 +89,10 @@ number-under least most s = one (numberOf least most s) refl
     one Bad e = tt
 
 -- ---- a number that passes a test, and one that may be empty
+
+pub that-holds : (p : ℕ → Bool) (x : Number) → isNumber (that p x) ≡ true → p (numberIn (that p x)) ≡ true
+that-holds p (Is v) h = by (p v) (λ t. rw (t, t)) (λ t. absurd (false≢true (let z : false ≡ true = (rw t at h) in z)))
+that-holds p Bad h = absurd (false≢true h)
 
 module _ (p : ℕ → Bool) {x y : Number} where
   pub that-is : {v : ℕ} {b : Bool} → x ≡ y → x ≡ Is v → b ≡ p v → b ≡ true → Is v ≡ that p y
@@ -211,3 +216,12 @@ module _ (s : List ℕ) {p : ℕ} {b : Bool} (h : length s ≤ 15) (e : p ≡ sp
     pub read-bad : b ≡ false → false ≡ isRead s
     unfolding isRead
     read-bad t = rw (← e, ← q, t) (search tests)
+
+-- ---- intervals
+
+pub intervals-most : (m : ℕ) → intervalsOf m ≤ 288
+unfolding intervalsOf isLength
+intervals-most m =
+    same-or m 5 (λ e. rw e (omega arith))
+    (λ a. same-or m 15 (λ e. rw e (omega arith))
+    (λ b. same-or m 30 (λ e. rw e (omega arith)) (λ c. rw (ne-eqb m 5 a, ne-eqb m 15 b, ne-eqb m 30 c) (omega arith))))

@@ -1,6 +1,5 @@
 -- 01's settled cases: each row is closed by computation. Assumes nothing.
 use mathlib.Core.Path.{refl}
-use mathlib.Core.List.{[]}
 use Rattle.ground.specs.Lists.{spanOf, same}
 use Rattle.ground.specs.Digits.{isDigit}
 use Rattle.format.specs.Bytes.{isCapital, isLetter, isAlnum, endSpace, isText, areAll}

@@ -2,19 +2,20 @@
 -- Assumes nothing.
 use Prim.Native.Nat.{ℕ, _+_, _-_, _≤_, _<_, min}
 use mathlib.Core.Path.{_≡_, refl, sym, _∙_}
-use mathlib.Core.Bool.{Bool, true, false, cond, not, _&&_, false≢true}
+use mathlib.Core.Bool.{Bool, true, false, cond, _&&_, false≢true}
 use mathlib.Core.List.{List}
 use native.Mathlib.Omega.{arith}
 use native.Mathlib.Numerals.{lt-of-le-of-ne}
 use lib.ListN.{length, getD, take, drop, length-drop}
 use lib.Seq.{take-all, length-take-le}
 use lib.Dec.{leb, eqb}
-use borrow.Author.Tests.{le-leb, lt-leb, eq-eqb, ne-eqb, eqb-true, eqb-false, leb-true}
+use borrow.Author.Tests.{le-leb, lt-leb, eq-eqb, ne-eqb, eqb-true, eqb-false}
 use Rattle.ground.specs.Lists.{all, spanOf, other}
 use Rattle.ground.specs.Digits.{isDigit, decimal}
-use Rattle.ground.proofs.Tests.{and-true, and-false}
+use Rattle.ground.proofs.Tests.{and-false}
 use Rattle.ground.proofs.Lists.{to-end}
 use Rattle.ground.proofs.Spans.{span-le}
+use Rattle.ground.proofs.Digits.{digit-not}
 use Rattle.ground.proofs.Prefix.{prefix-all, prefix-end, prefix-most, prefix-past, prefix-wider}
 use Rattle.format.specs.Bytes.{areAll}
 use Rattle.format.specs.Numbers.{isNumber, decimals, numberOf, times, amount, fractionOf, point, before, behind, valueOf}
@@ -53,15 +54,9 @@ parts d s = one (eqb (point s) (length s))
     one true = rw (whole-is, is-number)
     one false = rw (is-amount, is-times, is-number, is-number)
 
-digit-other : (b : ℕ) → isDigit b ≡ true → other 46 b ≡ true
-unfolding isDigit
-digit-other b t =
-    let h = leb-true 48 b (and-true (leb 48 b) (leb b 57) t .0) in
-    rw (ne-eqb b 46 (λ e. let z : ⊥ = omega arith in z))
-
 -- the digits that a field begins with end at its first point or before it
 digits-point : (s : List ℕ) → spanOf isDigit s ≤ point s
-digits-point s = prefix-wider isDigit (other 46) digit-other s
+digits-point s = prefix-wider isDigit (other 46) (λ b. digit-not 46 b (omega arith)) s
 
 module _ (d : ℕ) (s : List ℕ) {w : ℕ} (e : w ≡ spanOf isDigit s) where
   reach : w ≤ length s

@@ -1,20 +1,21 @@
 -- The text of a value: a reader holds the value by it, and no text that holds the value is shorter. Assumes nothing.
 use Prim.Native.Nat.{ℕ, zero, suc, _+_, _-_, _*_, _/_, _%_, _^_, _≤_, _<_, zero-le}
 use mathlib.Core.Path.{_≡_, refl, sym, ap, _∙_, subst}
-use mathlib.Core.Bool.{true, not}
+use mathlib.Core.Bool.{true}
 use mathlib.Core.Logic.{_≢_}
 use mathlib.Core.List.{List, [], _∷_, _++_, append-nil}
 use native.Mathlib.Nat.{pow-zero, sub-self}
 use native.Mathlib.Omega.{arith}
 use lib.ListN.{length, take, drop, length-append, length-drop}
 use lib.Seq.{length-take-le, take-append-seam, drop-append-add}
-use lib.Dec.{leb, eqb}
-use borrow.Author.Tests.{eq-eqb, ne-eqb, leb-true, eqb-false}
+use lib.Dec.{eqb}
+use borrow.Author.Tests.{eq-eqb, ne-eqb, eqb-false}
 use Rattle.ground.specs.Lists.{all, spanOf, other}
 use Rattle.ground.specs.Digits.{isDigit, padded, dec}
 use Rattle.ground.proofs.Tests.{and-true}
 use Rattle.ground.proofs.Cases.{split, same-or, by}
-use Rattle.ground.proofs.Digits.{ten, length-padded, all-padded, decimal-padded, all-dec, decimal-dec, dec-some, dec-most}
+use Rattle.ground.proofs.Spans.{span-le}
+use Rattle.ground.proofs.Digits.{digit-not, ten, length-padded, all-padded, decimal-padded, all-dec, decimal-dec, dec-some, dec-most}
 use Rattle.format.specs.Numbers.{numberOf, times, amount, point, before, behind, decimals, fractionOf, valueOf}
 use Rattle.format.specs.Block.{places, trimmed, fractionText, valueText}
 use Rattle.format.proofs.Numbers.{under-is, Got, got, fraction-under}
@@ -81,21 +82,15 @@ fraction-some f e = rw (ne-eqb f 0 e)
 
 -- ---- where the point is
 
-digit-no-point : (b : ℕ) → isDigit b ≡ true → other 46 b ≡ true
-unfolding isDigit
-digit-no-point b h = ap not (ne-eqb b 46 (λ e. omega (arith, leb-true 48 b (and-true (leb 48 b) (leb b 57) h .0))))
-
-point-behind : (xs ys : List ℕ) → all isDigit xs ≡ true → point (xs ++ ys) ≡ length xs + point ys
+pub point-behind : (xs ys : List ℕ) → all isDigit xs ≡ true → point (xs ++ ys) ≡ length xs + point ys
 unfolding spanOf
 point-behind [] ys h = omega arith
 point-behind (x ∷ xs) ys h =
     let g = and-true (isDigit x) (all isDigit xs) h in
-    rw (digit-no-point x (g .0)) (omega (arith, point-behind xs ys (g .1)))
+    rw (digit-not 46 x (omega arith) (g .0)) (omega (arith, point-behind xs ys (g .1)))
 
 point-le : (s : List ℕ) → point s ≤ length s
-unfolding spanOf
-point-le [] = omega arith
-point-le (b ∷ s) = by (other 46 b) (λ e. rw e (omega (arith, point-le s))) (λ e. rw e (omega arith))
+point-le s = span-le (other 46) s
 
 -- ---- a reader holds the value
 

@@ -8,8 +8,8 @@ use native.Mathlib.Numerals.{add-one}
 use native.Mathlib.Omega.{arith}
 use lib.ListN.{length, getD, length-append, List·getD-append}
 use lib.Dec.{leb}
-use borrow.Author.Tests.{lt-ltb, le-ltb, le-leb}
-use Rattle.ground.specs.Lists.{all}
+use borrow.Author.Tests.{lt-ltb, le-ltb, le-leb, leb-true, ne-eqb}
+use Rattle.ground.specs.Lists.{all, other}
 use Rattle.ground.specs.Digits.{isDigit, decimalFrom, decimal, padded, widthFrom, width, dec}
 use Rattle.ground.proofs.Tests.{and-true}
 use Rattle.ground.proofs.Decimal.{decimal-below}
@@ -26,6 +26,22 @@ all-append p [] ys e f = f
 all-append p (x ∷ xs) ys e f =
     let g = and-true (p x) (all p xs) e in
     both (p x) (all p (xs ++ ys)) (g .0) (all-append p xs ys (g .1) f)
+
+-- and of a weaker test
+pub all-map : {X : Type 0} (p q : X → Bool) → ((x : X) → p x ≡ true → q x ≡ true) → (xs : List X) → all p xs ≡ true → all q xs ≡ true
+all-map p q f [] e = refl
+all-map p q f (x ∷ xs) e =
+    let g = and-true (p x) (all p xs) e in
+    both (q x) (all q xs) (f x (g .0)) (all-map p q f xs (g .1))
+
+-- ---- a digit's byte
+
+pub digit-range : (b : ℕ) → isDigit b ≡ true → (48 ≤ b) × (b ≤ 57)
+unfolding isDigit
+digit-range b e = let g = and-true (leb 48 b) (leb b 57) e in (leb-true _ _ (g .0), leb-true _ _ (g .1))
+
+pub digit-not : (x b : ℕ) → x < 48 → isDigit b ≡ true → other x b ≡ true
+digit-not x b l e = let g = digit-range b e in rw (ne-eqb b x (λ z. omega arith))
 
 -- ---- the last digits of a number
 

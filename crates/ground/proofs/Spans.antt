@@ -1,6 +1,6 @@
 -- How many of the first elements pass a test, and the parts of a list, as a loop and a slice have them. Assumes nothing.
 use Prim.Native.Nat.{ℕ, zero, suc, _+_, _-_, _≤_, _<_}
-use mathlib.Core.Path.{_≡_}
+use mathlib.Core.Path.{_≡_, refl}
 use mathlib.Core.List.{List, [], _∷_}
 use mathlib.Core.Bool.{Bool, true, false, cond}
 use native.Mathlib.Nat.{add-sub-cancel-left, sub-zero}
@@ -9,6 +9,7 @@ use lib.ListN.{length, getD, take, drop, length-drop, drop-of-length-le}
 use lib.Seq.{take-take, take-nil, length-take-le, drop-drop}
 use Rattle.ground.specs.Lists.{all, spanOf, part}
 use Rattle.ground.proofs.Tests.{and-true}
+use Rattle.ground.proofs.Cases.{by, both}
 use Rattle.ground.proofs.Lists.{rest}
 
 -- ---- a span, byte after byte: i is how far a loop has come
@@ -43,6 +44,22 @@ span-le p (b ∷ s) = go (p b) (span-le p s)
     go : (t : Bool) → spanOf p s ≤ length s → cond t (suc (spanOf p s)) 0 ≤ suc (length s)
     go true h = omega arith
     go false h = omega arith
+
+-- every byte passes exactly when the span is the whole list
+pub all-span : (p : ℕ → Bool) (s : List ℕ) → all p s ≡ true → spanOf p s ≡ length s
+unfolding spanOf
+all-span p [] h = refl
+all-span p (b ∷ s) h =
+    let w = and-true (p b) (all p s) h in
+    rw (w .0, all-span p s (w .1))
+
+pub spanned-all : (p : ℕ → Bool) (s : List ℕ) → spanOf p s ≡ length s → all p s ≡ true
+unfolding spanOf
+spanned-all p [] h = refl
+spanned-all p (b ∷ s) h =
+    by (p b)
+    (λ e. both (p b) (all p s) e (spanned-all p s (let j : suc (spanOf p s) ≡ suc (length s) = (rw e at h) in omega arith)))
+    (λ e. absurd (let j : 0 ≡ suc (length s) = (rw e at h) in let z : ⊥ = omega arith in z))
 
 -- a block of m bytes that all pass
 pub span-block : (p : ℕ → Bool) (m : ℕ) (s : List ℕ) → m ≤ length s → all p (take m s) ≡ true → spanOf p s ≡ m + spanOf p (drop m s)

@@ -10,14 +10,16 @@ use lib.Dec.{eqb, leb}
 use borrow.Author.Tests.{eqb-true, eqb-false, leb-true}
 use Rattle.ground.specs.Lists.{part}
 use Rattle.format.specs.Cut.{fields}
-use Rattle.format.specs.Records.{kindIn, versionIn, intervalsIn}
-use Rattle.format.specs.Order.{Due, mayCome, isVaried, afterOf}
+use Rattle.format.specs.Records.{kindIn, intervalsIn}
+use Rattle.format.specs.Order.{Due}
 use Rattle.format.specs.Faults.{faultOf}
 use Rattle.format.specs.File.{after}
 use Rattle.format.specs.Day.{daysOf}
 use Rattle.format.specs.declared.Fault.{Fault}
 use Rattle.format.specs.declared.Fault.the-variants.{Fine, Stop}
-use Rattle.bridge.proofs.Bridge.{fine-may}
+use Rattle.passing.proofs.Fit.{fine-fit, head}
+use Rattle.passing.proofs.Steps.{after-200}
+use Rattle.passing.proofs.Counts.{Counted, counted}
 use Rattle.record.specs.Places.{LineEnd}
 use Rattle.record.specs.declared.lines.Found.{Found}
 use Rattle.record.proofs.Turns.{by-test}
@@ -35,78 +37,9 @@ use Rattle.day.proofs.Find.{no-heads}
 use Rattle.day.specs.declared.DayStart.{DayStart}
 use Rattle.day.proofs.Find as days
 use Rattle.channel.specs.Places.{totalsIn, totalsAt, ChannelAhead}
-use Rattle.reading.specs.Tour.{noUnder, firstDay, firstChannel, Counts, Ahead}
+use Rattle.reading.specs.Tour.{noUnder, firstDay, firstChannel, Ahead}
 use Rattle.channel.specs.declared.ChannelStart.{ChannelStart}
 use Rattle.channel.proofs.Find as totals
-
--- ---- what a record does to the counts
-
-module _ (st : Due) (k : ℕ) (fs : List (List ℕ)) (may : mayCome (st .expect) k ≡ true) (c : Counts st) where
-  begins : k ≡ 100 → (st .days ≡ 0) × (st .channels ≡ 0)
-  unfolding mayCome
-  begins h = c .none (eqb-true (st .expect) 0 (rw h at may))
-
-  days-after : afterOf st k fs .days ≡ cond (eqb k 300) (st .days + 1) (st .days)
-  unfolding afterOf
-  days-after =
-      by-test is (eqb k 100) (λ t. rw (eqb-true k 100 t) (sym (begins (eqb-true k 100 t) .0)))
-      (λ a. by-test is (eqb k 200) (λ t. rw (eqb-true k 200 t))
-      (λ b. by-test is (eqb k 300) (λ t. rw t)
-      (λ d. by-test is (eqb k 400) (λ t. rw d)
-      (λ f. by-test is (eqb k 500) (λ t. rw d)
-      (λ g. by-test is (eqb k 250) (λ t. rw d)
-      (λ h. by-test is (eqb k 550) (λ t. rw d) (λ t. rw d)))))))
-    where
-      is : Due → Type 0
-      is s = s .days ≡ cond (eqb k 300) (st .days + 1) (st .days)
-
-  channels-after : afterOf st k fs .channels ≡ cond (eqb k 200) (st .channels + 1) (cond (eqb k 250) (st .channels + 1) (st .channels))
-  unfolding afterOf
-  channels-after =
-      by-test is (eqb k 100) (λ t. rw (eqb-true k 100 t) (sym (begins (eqb-true k 100 t) .1)))
-      (λ a. by-test is (eqb k 200) (λ t. rw t)
-      (λ b. by-test is (eqb k 300) (λ t. rw (eqb-true k 300 t))
-      (λ d. by-test is (eqb k 400) (λ t. rw (eqb-true k 400 t))
-      (λ f. by-test is (eqb k 500) (λ t. rw (eqb-true k 500 t))
-      (λ g. by-test is (eqb k 250) (λ t. rw (b, t))
-      (λ h. by-test is (eqb k 550) (λ t. rw (b, h)) (λ t. rw (b, h))))))))
-    where
-      is : Due → Type 0
-      is s = s .channels ≡ cond (eqb k 200) (st .channels + 1) (cond (eqb k 250) (st .channels + 1) (st .channels))
-
-  -- a 300 is expected at once behind a 200
-  expects-300 : eqb (afterOf st k fs .expect) 2 ≡ eqb k 200
-  unfolding afterOf
-  expects-300 =
-      by-test is (eqb k 100) (λ t. by-test (λ x. eqb x 2 ≡ eqb k 200) (eqb (versionIn fs) 12) (λ v. rw (eqb-true k 100 t)) (λ v. rw (eqb-true k 100 t)))
-      (λ a. by-test is (eqb k 200) (λ t. rw t)
-      (λ b. by-test is (eqb k 300) (λ t. by-test (λ x. eqb x 2 ≡ eqb k 200) (isVaried (st .n) fs) (λ v. rw b) (λ v. rw b))
-      (λ d. by-test is (eqb k 400) (λ t. rw b)
-      (λ f. by-test is (eqb k 500) (λ t. rw b)
-      (λ g. by-test is (eqb k 250) (λ t. rw b)
-      (λ h. by-test is (eqb k 550) (λ t. rw b) (λ t. rw b)))))))
-    where
-      is : Due → Type 0
-      is s = eqb (s .expect) 2 ≡ eqb k 200
-
-after-200 : (st : Due) (fs : List (List ℕ)) → afterOf st 200 fs .n ≡ intervalsIn fs
-unfolding afterOf
-after-200 st fs = refl
-
--- something is expected behind every record
-some-after : (st : Due) (k : ℕ) (fs : List (List ℕ)) → afterOf st k fs .expect ≡ 0 → ⊥
-unfolding afterOf
-some-after st k fs =
-    by-test is (eqb k 100) (λ t. by-test (λ x. x ≡ 0 → ⊥) (eqb (versionIn fs) 12) (λ v h. omega arith) (λ v h. omega arith))
-    (λ a. by-test is (eqb k 200) (λ t h. omega arith)
-    (λ b. by-test is (eqb k 300) (λ t. by-test (λ x. x ≡ 0 → ⊥) (isVaried (st .n) fs) (λ v h. omega arith) (λ v h. omega arith))
-    (λ d. by-test is (eqb k 400) (λ t h. omega arith)
-    (λ f. by-test is (eqb k 500) (λ t h. omega arith)
-    (λ g. by-test is (eqb k 250) (λ t h. omega arith)
-    (λ h. by-test is (eqb k 550) (λ t h. omega arith) (λ t h. omega arith)))))))
-  where
-    is : Due → Type 0
-    is s = s .expect ≡ 0 → ⊥
 
 -- ---- a turn of the walk
 
@@ -132,19 +65,19 @@ module _ (file : List ℕ) (day channel at e : ℕ) (u v : Under) (st s : Due) (
   unfolding nextOf
   both = gone (faultOf st (part file at e)) (after st (part file at e)) s (sym next)
 
-  may : mayCome (st .expect) k ≡ true
-  may = fine-may st (part file at e) (both .0)
+  counts-now : Counted st k (fields (part file at e))
+  counts-now = counted st k (fields (part file at e)) (a .counts) (head _ _ (fine-fit st (part file at e) (both .0) .may))
 
   days-now : s .days ≡ cond (eqb k 300) (st .days + 1) (st .days)
-  days-now = rw (both .1) (days-after st k (fields (part file at e)) may (a .counts))
+  days-now = rw (both .1) (counts-now .days)
 
   channels-now : s .channels ≡ cond (eqb k 200) (st .channels + 1) (cond (eqb k 250) (st .channels + 1) (st .channels))
-  channels-now = rw (both .1) (channels-after st k (fields (part file at e)) may (a .counts))
+  channels-now = rw (both .1) (counts-now .channels)
 
   under-now : v ≡ cond (eqb k 200) (record { at = at; end = e; n = s .n }) u
   under-now =
       ev ∙ ap (λ (b : Bool). cond b (record { at = at; end = e; n = s .n }) u)
-      (ap (λ (x : Due). eqb (x .expect) 2) (both .1) ∙ expects-300 st k (fields (part file at e)) may (a .counts))
+      (ap (λ (x : Due). eqb (x .expect) 2) (both .1) ∙ counts-now .first)
 
   pub heads-on : Heads file u → Heads file v
   heads-on h = by (eqb k 200) refl
@@ -153,7 +86,7 @@ module _ (file : List ℕ) (day channel at e : ℕ) (u v : Under) (st s : Due) (
       by true i =
           let z : k ≡ 200 = eqb-true k 200 i in
           let w : v ≡ record { at = at; end = e; n = s .n } = rw i at under-now in
-          let n : s .n ≡ intervalsIn (fields (part file at e)) = rw (both .1, z) (after-200 st (fields (part file at e))) in
+          let n : s .n ≡ intervalsIn (fields (part file at e)) = ap (λ (x : Due). x .n) (both .1 ∙ after-200 st (part file at e) z) in
           rw w (record { order = l .order; within = l .within; size = n })
       by false i = let w : v ≡ u = rw i at under-now in rw w h
 
@@ -198,7 +131,7 @@ module _ (file : List ℕ) (day channel at e : ℕ) (u v : Under) (st s : Due) (
   pub ahead-on : Ahead file day channel (e + 2) v s
   ahead-on =
       record {
-        counts = record { none = λ h. absurd (some-after st k (fields (part file at e)) (ap (λ (x : Due). x .expect) (sym (both .1)) ∙ h)) };
+        counts = rw (both .1) (counts-now .counts);
         days = days-on;
         totals = totals-on;
       }

@@ -8,6 +8,7 @@ use Rattle.format.specs.Order.{Due}
 use Rattle.format.specs.Answers.{refusedAs}
 use Rattle.format.specs.File.{walkOf, most, checkOf}
 use Rattle.format.specs.Day.{daysOf}
+use Rattle.passing.specs.Passes.{Counts}
 use Rattle.order.specs.State.{seen, closed, Kept}
 use Rattle.day.specs.Places.{Heads, daysAt, DayAhead}
 use Rattle.day.specs.declared.Under.{Under}
@@ -33,10 +34,6 @@ abbrev pub firstTour : ℕ → ℕ → Tour
 firstTour day channel = record { at = 0; records = 0; state = closed 0 0 0 0 0 0; under = noUnder; day = firstDay day; channel = firstChannel channel }
 
 -- ---- before any record
-
--- nothing is counted before the 100
-pub record Counts (st : Due) : Type 0 where
-  pub none : st .expect ≡ 0 → (st .days ≡ 0) × (st .channels ≡ 0)
 
 -- the days and channels that are not counted yet stand from this place on
 pub record Ahead (file : List ℕ) (day channel at : ℕ) (u : Under) (st : Due) : Type 0 where

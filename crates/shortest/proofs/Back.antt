@@ -24,12 +24,13 @@ use Rattle.format.specs.Block.{fitQuality, fitMark, fitValue, fitDay, valueText
 use Rattle.format.proofs.NumberText.{date-back, time-back, load-back}
 use Rattle.format.proofs.ValueText.{value-back}
 use Rattle.format.proofs.CoverText.{runs-spell, runs-are-proper, uniform-is, uniform}
+use Rattle.format.proofs.Forms.{uniform-top, uniform-tail, varied-top, varied-tail}
+use Rattle.passing.specs.Passes.{Accepted, Awaits}
 use Rattle.theorems.specs.Days.{rowsAt, rowsOf, dayIn}
 use Rattle.theorems.specs.Grammar.{Record, join, text, IsRecord, Block, Covers, IsBlock}
-use Rattle.shortest.specs.Blocks.{Accepted, Reads, Awaits}
+use Rattle.shortest.specs.Blocks.{Reads}
 use Rattle.shortest.specs.Writer.{ReadsBack}
 use Rattle.shortest.proofs.Shapes.{TopSays, top-says}
-use Rattle.shortest.proofs.Forms.{uniform-top, uniform-tail, varied-top, varied-tail}
 use Rattle.shortest.proofs.Pass.{block-reads, block-accepted}
 use Rattle.shortest.proofs.Texts.{Carried, fit-parts, mark-said, mark-carried, v-carried}
 use Rattle.shortest.proofs.Written.{three, topWritten, top-record, top-text, runWritten, coverWritten, cover-text, Fitting, fitting, written-first, written-last, written-mark, cover-records, cover-covers, cover-alike}
@@ -213,5 +214,5 @@ module _ (d : Day) (w : Whole d) where
       let t : dateIn (r .block .top) ≡ d .date = ap (λ (x : Day). x .date) (r .day) in
       record {
         accepted = subst (Accepted st) (r .bytes-are) (block-accepted (r .block) st g (a .free) (rw t (a .earlier)));
-        same = λ p. subst (λ (x : List ℕ). Reads p (st .n) x d) (r .bytes-are) (subst (Reads p (st .n) (text (rowsOf (r .block)))) e (block-reads (r .block) (st .n) g p));
+        same = λ p c n. subst (λ (x : List ℕ). Reads p c x d) (r .bytes-are) (subst (Reads p c (text (rowsOf (r .block)))) e (block-reads (r .block) (st .n) g p c n));
       }

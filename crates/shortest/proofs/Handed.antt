@@ -1,29 +1,21 @@
 -- What was handed in to be written, where nothing is wrong with it, is a day that may be written. Assumes nothing.
-use Prim.Native.Nat.{ℕ, _^_, _≤_, _<_}
+use Prim.Native.Nat.{ℕ, _≤_}
 use mathlib.Core.Path.{_≡_}
 use mathlib.Core.Logic.{_≢_}
 use mathlib.Core.Bool.{true, _&&_}
 use native.Mathlib.Omega.{arith}
 use lib.ListN.{length}
 use lib.Seq.{length-take-le}
-use lib.Dec.{eqb, leb}
-use borrow.Author.Tests.{eqb-true, leb-true}
+use lib.Dec.{leb}
+use borrow.Author.Tests.{leb-true}
 use Rattle.ground.specs.Lists.{all, from}
 use Rattle.ground.proofs.Tests.{and-true}
-use Rattle.ground.proofs.Cases.{by}
 use Rattle.ground.proofs.From.{length-from}
-use Rattle.format.specs.Numbers.{isLength, intervalsOf}
 use Rattle.format.specs.Day.{enoughFor}
 use Rattle.format.specs.Block.{Given, intervalsGiven, markGiven, dayGiven, isInside, fitGiven, fitDay}
+use Rattle.format.proofs.Numbers.{intervals-most}
 use Rattle.shortest.specs.Writer.{Writable}
 use Rattle.shortest.proofs.Back.{Whole}
-
-few : (m : ℕ) → intervalsOf m < 10 ^ 4
-unfolding intervalsOf isLength
-few m =
-    by (eqb m 5) (λ e. rw (eqb-true m 5 e) (omega arith))
-    λ e₁. by (eqb m 15) (λ e. rw (eqb-true m 15 e) (omega arith))
-    λ e₂. by (eqb m 30) (λ e. rw (eqb-true m 30 e) (omega arith)) λ e₃. rw (e₁, e₂, e₃) (omega arith)
 
 enough-values : (n v f m r s l : ℕ) → enoughFor n v f m r s l ≡ true → n ≤ v
 unfolding enoughFor
@@ -44,5 +36,5 @@ whole g w =
       values = length-take-le n (g .values) (enough-values n _ _ _ _ _ _ (w .lists-long));
       marks = length-from (markGiven g) 0 n;
       some = omega arith;
-      few = few (g .head .length);
+      few = omega (arith, intervals-most (g .head .length));
     }

@@ -2,71 +2,37 @@
 -- Assumes nothing.
 use Prim.Native.Nat.{ℕ, _+_, _≤_, _<_}
 use mathlib.Core.Path.{_≡_, refl, sym, ap, ap₂, _∙_, subst}
-use mathlib.Core.Bool.{Bool, true, false, cond, _||_, true≢false}
+use mathlib.Core.Bool.{Bool, true, false, cond}
 use mathlib.Core.List.{List, [], _∷_, _++_, map, append-assoc}
 use native.Mathlib.Omega.{arith}
 use lib.ListN.{length, drop}
 use lib.Seq.{drop-append-seam}
-use lib.Dec.{eqb, leb}
-use borrow.Author.Tests.{eqb-true, ne-eqb, le-leb, leb-true}
-use Rattle.ground.specs.Lists.{all}
+use borrow.Author.Tests.{eqb-true, ne-eqb, le-leb}
 use Rattle.ground.specs.Text.{bytes}
 use Rattle.ground.specs.Digits.{isDigit}
-use Rattle.ground.proofs.Tests.{and-true}
-use Rattle.ground.proofs.Cases.{by}
 use Rattle.format.specs.Bytes.{areAll}
 use Rattle.format.specs.Numbers.{numberOf}
 use Rattle.format.specs.Cut.{Lines, line, rest, lines, fields}
 use Rattle.format.specs.Records.{isKind, indicatorOf, kindIn, rowOf, countOf, ruleOf, obeys, intervalsIn, qualitiesOf, firstBroken}
 use Rattle.format.specs.Order.{Due, begun, mayCome, isVaried, on300, afterOf}
-use Rattle.format.specs.Answers.{accepted, refused}
+use Rattle.format.specs.Answers.{accepted}
 use Rattle.format.specs.Faults.{isOpen, faultIn, brokenIn, isNotLater, isOff, isAlike, isElsewhere, faultOf}
-use Rattle.format.specs.File.{after, orGoOn, walkOf, most, checkOf}
-use Rattle.format.specs.Day.{Row, rowAt, DayRows, runsFrom, daysFrom, daysOf, tagsOf, Day, marksOf, dayOf}
-use Rattle.format.specs.declared.Fault.{Fault}
-use Rattle.format.specs.declared.Fault.the-variants.{Fine, Stop}
-use Rattle.theorems.proofs.Bytes.{bytesOf, bytes-lines}
-use Rattle.theorems.proofs.Fit.{fine-fit, fit-fine, free-of, free-if}
-use Rattle.theorems.proofs.Format.{walk-of, of-walk}
-use Rattle.shortest.specs.Blocks.{Passes, kindsOf, Free, Accepted, Reads, Awaits, Leads, markOf, Stands}
-use Rattle.shortest.proofs.Steps.{fit-cover, after-300, after-400, after-500, runs-end, dayFound, days-more, headed}
+use Rattle.format.specs.File.{after, walkOf, most, checkOf}
+use Rattle.format.specs.Day.{Row, rowAt, DayRows, runsFrom, dayFrom, daysFrom, daysOf, tagsOf, Day, marksOf, dayOf}
+use Rattle.format.specs.declared.Fault.the-variants.{Fine}
+use Rattle.format.proofs.Cut.{bytesOf, bytes-lines}
+use Rattle.passing.specs.Passes.{kindsOf, Free, Accepted, Awaits, Leads}
+use Rattle.passing.proofs.Fit.{fine-fit, fit-fine, fit-cover, in-days, free-of, free-if}
+use Rattle.passing.proofs.Walk.{not-accepted, goes, walk-of, of-walk}
+use Rattle.passing.proofs.Steps.{after-300, runs-end, days-more}
+use Rattle.passing.proofs.Blocks.{headed, Kept, under-kept}
+use Rattle.passing.proofs.Files.{onto, lines-behind, passes-append, walk-append, Onward, days-append, runs-lines}
+use Rattle.theorems.specs.Days.{meant}
+use Rattle.shortest.specs.Blocks.{Reads, markOf, Stands}
+use Rattle.shortest.proofs.Steps.{read-day}
 use Rattle.shortest.proofs.Tags.{tags-marks, read-is}
-use Rattle.shortest.proofs.Files.{onto, lines-behind, passes-append, walk-append, days-append, runs-lines}
 
--- ---- what a block keeps of the state
-
-record Kept (st end : Due) : Type 0 where
-  n : end .n ≡ st .n
-  date : end .date ≡ st .date
-  version : end .version ≡ st .version
-  channels : end .channels ≡ st .channels
-  days : end .days ≡ st .days
-  under : 3 ≤ st .expect → 3 ≤ end .expect
-
-kept-on : (a b c : Due) → Kept a b → Kept b c → Kept a c
-kept-on a b c x y =
-    record {
-      n = y .n ∙ x .n;
-      date = y .date ∙ x .date;
-      version = y .version ∙ x .version;
-      channels = y .channels ∙ x .channels;
-      days = y .days ∙ x .days;
-      under = λ z. y .under (x .under z);
-    }
-
-under-kept : (st end : Due) (ls : Lines) → all (λ x. eqb x 400 || eqb x 500) (kindsOf ls) ≡ true → Passes st ls end → Kept st end
-under-kept st end (rest t) b h = subst (Kept st) (h .1) (record { n = refl; date = refl; version = refl; channels = refl; days = refl; under = λ z. z })
-under-kept st end (line r ls) b h =
-    let w = and-true (eqb (kindIn (fields r)) 400 || eqb (kindIn (fields r)) 500) (all (λ x. eqb x 400 || eqb x 500) (kindsOf ls)) b in
-    kept-on st (after st r) end (one (w .0)) (under-kept (after st r) end ls (w .1) (h .1))
-  where
-    one : (eqb (kindIn (fields r)) 400 || eqb (kindIn (fields r)) 500) ≡ true → Kept st (after st r)
-    one t =
-        by (eqb (kindIn (fields r)) 400)
-        (λ u. subst (Kept st) (sym (after-400 st r (eqb-true _ _ u)))
-        (record { n = refl; date = refl; version = refl; channels = refl; days = refl; under = λ z. omega arith }))
-        (λ u. subst (Kept st) (sym (after-500 st r (eqb-true _ _ (let v : eqb (kindIn (fields r)) 500 ≡ true = (rw u at t) in v))))
-        (record { n = refl; date = refl; version = refl; channels = refl; days = refl; under = λ z. omega arith }))
+-- ---- the state behind a block
 
 -- behind a block that says the day d
 record Ended (st end : Due) (d : Day) : Type 0 where
@@ -78,36 +44,32 @@ record Ended (st end : Due) (d : Day) : Type 0 where
   low : 3 ≤ end .expect
   high : end .expect ≤ 5
 
-may-high : (x : ℕ) → mayCome x 300 ≡ true → x ≤ 5
-unfolding mayCome
-may-high x h = leb-true x 5 (and-true (leb 2 x) (leb x 5) h .1)
-
 varied-low : (b : Bool) → 3 ≤ cond b 4 3
 varied-low true = omega arith
 varied-low false = omega arith
 
 module _ (st : Due) (b : List ℕ) (a : Accepted st b) where
-  ended : (p : ℕ) (d : Day) → Reads p (st .n) b d → Ended st (a .end) d
+  ended : (p : ℕ) (c : Row) (d : Day) → intervalsIn (c .cells) ≡ st .n → Reads p c b d → Ended st (a .end) d
   unfolding dayOf
-  ended p d h =
+  ended p c d n h =
       let w = headed st b a in
       let k : Kept (on300 st (fields (w .first))) (a .end) =
       subst (λ (x : Due). Kept x (a .end)) (after-300 st (w .first) (w .kind)) (under-kept (after st (w .first)) (a .end) (w .others) (w .under) (w .passes)) in
       record {
         n = k .n;
-        date = k .date ∙ ap (λ (x : Day). x .date) (w .day p d h);
+        date = k .date ∙ ap (λ (x : Day). x .date) (read-day st b a p c d n h);
         version = k .version;
         channels = k .channels;
         days = k .days;
         low = k .under (varied-low (isVaried (st .n) (fields (w .first))));
-        high = may-high (a .end .expect) (a .free .0);
+        high = in-days (a .end .expect) (a .free .0) .1;
       }
 
   -- ---- where a block may stand
 
   -- behind another day of an earlier date
-  pub behind-day : (p : ℕ) (d : Day) → Reads p (st .n) b d → (date : ℕ) → d .date < date → Awaits (a .end) (st .n) date
-  behind-day p d h t l = let w = ended p d h in record { free = a .free; intervals = w .n; earlier = omega (arith, w .date) }
+  pub behind-day : (p : ℕ) (c : Row) (d : Day) → intervalsIn (c .cells) ≡ st .n → Reads p c b d → (date : ℕ) → d .date < date → Awaits (a .end) (st .n) date
+  behind-day p c d n h t l = let w = ended p c d n h in record { free = a .free; intervals = w .n; earlier = omega (arith, w .date) }
 
 -- behind a 200
 pub behind-200 : (st : Due) (r : List ℕ) → kindIn (fields r) ≡ 200 → (date : ℕ) → 1 ≤ date → Awaits (after st r) (intervalsIn (fields r)) date
@@ -115,20 +77,6 @@ unfolding afterOf mayCome isOpen
 behind-200 st r k t l = rw k (record { free = (refl, refl); intervals = refl; earlier = l })
 
 -- ---- the records behind a block
-
-accepted-not : {A : Type 0} (n p k i : ℕ) (xs : List ℕ) → refused n p k i ≡ accepted xs → A
-accepted-not n p k i xs e = absurd (let z : true ≡ false = cc in true≢false z)
-
-walk-fine : (st : Due) (p k : ℕ) (r : List ℕ) (ls : Lines) (xs : List ℕ) → walkOf st p k (line r ls) ≡ accepted xs → faultOf st r ≡ Fine
-unfolding walkOf
-walk-fine st p k r ls xs e =
-    by (eqb (st .expect) 9)
-    (λ t. accepted-not 13 p k 0 xs (rw t at e))
-    (λ t. go (faultOf st r) refl (rw t at e))
-  where
-    go : (f : Fault) → faultOf st r ≡ f → orGoOn p k (faultOf st r) (walkOf (after st r) (p + length r + 2) (k + 1) ls) ≡ accepted xs → faultOf st r ≡ Fine
-    go Fine q h = q
-    go (Stop n o i) q h = accepted-not n (p + o) k i xs (rw q at h)
 
 -- no 400 follows where the cover is complete
 no-run : (st : Due) (r : List ℕ) → Free st → faultOf st r ≡ Fine → kindIn (fields r) ≡ 400 → ⊥
@@ -143,11 +91,12 @@ no-run st r f h k =
 none-behind : (st : Due) (p k : ℕ) (m : Lines) (xs : List ℕ) → Free st → walkOf st p k m ≡ accepted xs → (q : ℕ) → runsFrom q m ≡ []
 unfolding runsFrom
 none-behind st p k (rest t) xs f e q = refl
-none-behind st p k (line r ls) xs f e q = runs-end q r ls (no-run st r f (walk-fine st p k r ls xs e))
+none-behind st p k (line r ls) xs f e q = runs-end q r ls (no-run st r f (goes st p k r ls xs e .fine))
 
 -- ---- the theorems
 
-module _ (before b behind : List ℕ) (st : Due) (d : Day) (h : Leads before st) (a : Accepted st b) (s : Reads (length before) (st .n) b d) where
+module _ (before b behind : List ℕ) (st : Due) (d : Day) (h : Leads before st) (a : Accepted st b) (c : Row) (n : intervalsIn (c .cells) ≡ st .n)
+    (s : Reads (length before) c b d) where
   walks : walkOf begun 0 0 (lines (before ++ b ++ behind)) ≡ walkOf (a .end) (length (before ++ b)) (length (kindsOf (lines (before ++ b)))) (lines behind)
   walks =
       let u : 0 + length (before ++ b) ≡ length (before ++ b) = omega arith in
@@ -158,9 +107,16 @@ module _ (before b behind : List ℕ) (st : Due) (d : Day) (h : Leads before st)
   file : List ℕ
   file = before ++ b ++ behind
 
+  -- what a reading goes on with behind `before`
+  onward : Onward st before (b ++ behind)
+  onward =
+      let w = headed st b a in
+      let m = in-days (st .expect) (rw (w .kind) at (w .fit .may)) in
+      days-append st before (b ++ behind) h (m .0) (m .1)
+
   -- the rows of the block's day
   rows : DayRows
-  rows = let w = headed st b a in dayFound (length before) (w .first) (onto (w .others) (lines behind)) (st .n)
+  rows = let w = headed st b a in dayFrom (length before) (onward .channel) (w .first) (onto (w .others) (lines behind))
 
   cut-there : lines (b ++ behind) ≡ line (headed st b a .first) (onto (headed st b a .others) (lines behind))
   cut-there = lines-behind st (a .end) b behind (a .passes) ∙ ap (λ (l : Lines). onto l (lines behind)) (headed st b a .is)
@@ -169,30 +125,27 @@ module _ (before b behind : List ℕ) (st : Due) (d : Day) (h : Leads before st)
   unfolding file rows
   days-there =
       let w = headed st b a in
-      let m : mayCome (st .expect) 300 ≡ true = rw (w .kind) at (w .fit .may) in
       let p : ℕ = length before in
+      let k : Row = onward .channel in
       let ls : Lines = onto (w .others) (lines behind) in (
-        daysFrom (p + length (w .first) + 2) (st .n) ls,
-        ap (λ (l : List ℕ). drop (st .days) (daysOf l)) (append-assoc before b behind)
-            ∙ days-append st before (b ++ behind) h (may-high (st .expect) m)
-            ∙ ap (daysFrom p (st .n)) cut-there
-            ∙ days-more p (w .first) ls (st .n) (w .kind),
+        daysFrom (p + length (w .first) + 2) k ls,
+        ap (λ (l : List ℕ). drop (st .days) (daysOf l)) (append-assoc before b behind) ∙ onward .is ∙ ap (daysFrom p k) cut-there ∙ days-more p (w .first) ls k (w .kind),
       )
 
-  day-there : ((q : ℕ) → runsFrom q (lines behind) ≡ []) → dayOf rows ≡ d
+  day-there : ((q : ℕ) → runsFrom q (lines behind) ≡ []) → meant rows ≡ d
   unfolding rows
-  day-there n =
+  day-there none =
       let w = headed st b a in
       let p : ℕ = length before in
-      ap (λ (rs : List Row). dayOf (record { n = st .n; top = rowAt p (w .first); runs = rs })) (runs-lines (p + length (w .first) + 2) (w .others) (lines behind) n)
-      ∙ w .day p d s
+      ap₂ (λ (m : ℕ) (rs : List Row). dayOf (record { n = m; top = rowAt p (w .first); runs = rs })) (onward .intervals) (runs-lines (p + length (w .first) + 2) (w .others) (lines behind) none)
+      ∙ read-day st b a p c d n s
 
-  tags-there : map (markOf file) (tagsOf rows) ≡ marksOf rows
+  tags-there : map (markOf file) (tagsOf (rows .block)) ≡ marksOf (rows .block)
   unfolding file rows
   tags-there =
       let w = headed st b a in
       let ls : Lines = onto (w .others) (lines behind) in
-      tags-marks file (length before) (st .n) (w .first) ls
+      tags-marks file (length before) (intervalsIn (onward .channel .cells)) (w .first) ls
       (ap (drop (length before)) (append-assoc before b behind)
       ∙ drop-append-seam before (b ++ behind)
       ∙ sym (bytes-lines (b ++ behind))
@@ -204,11 +157,11 @@ module _ (before b behind : List ℕ) (st : Due) (d : Day) (h : Leads before st)
       record {
         end = a .end;
         goes-on = walks;
-        awaits = behind-day st b a (length before) d s;
+        awaits = behind-day st b a (length before) c d n s;
         reads = λ xs e.
-            (let w = walk-of file (accepted xs) e (accepted-not 1 0 0 0 xs) in
-            let n = none-behind (a .end) (length (before ++ b)) (length (kindsOf (lines (before ++ b)))) (lines behind) xs (a .free) (sym walks ∙ w .1) in
-            read-is file (st .days) xs rows (days-there .0) d e (days-there .1) (day-there n) tags-there);
+            (let w = walk-of file (accepted xs) e (not-accepted 1 0 0 0 xs) in
+            let none = none-behind (a .end) (length (before ++ b)) (length (kindsOf (lines (before ++ b)))) (lines behind) xs (a .free) (sym walks ∙ w .1) in
+            read-is file (st .days) xs rows (days-there .0) d e (days-there .1) (day-there none) tags-there);
       }
 
 -- ---- a 900 behind a block
@@ -235,12 +188,13 @@ nine-ends : (st : Due) (p k : ℕ) → faultOf st nine ≡ Fine → (st .expect 
 unfolding walkOf lines afterOf fields kindIn indicatorOf isKind numberOf areAll isDigit
 nine-ends st p k h e = rw (ne-eqb _ _ e, h)
 
-pub closes : (before b : List ℕ) (st : Due) (d : Day) → Leads before st → Accepted st b → Reads (length before) (st .n) b d → length (before ++ b ++ bytes "900\r\n") ≤ most
+pub closes : (before b : List ℕ) (st : Due) (d : Day) → Leads before st → Accepted st b → (c : Row) → intervalsIn (c .cells) ≡ st .n → Reads (length before) c b d
+    → length (before ++ b ++ bytes "900\r\n") ≤ most
     → checkOf (before ++ b ++ bytes "900\r\n") ≡ accepted (st .version ∷ st .channels ∷ (st .days + 1) ∷ [])
-closes before b st d h a s l =
-    let w = ended st b a (length before) d s in
+closes before b st d h a c n s l =
+    let w = ended st b a (length before) c d n s in
     let f = nine-fine (a .end) (w .low) (w .high) (a .free .1) in
     let g : accepted (a .end .version ∷ a .end .channels ∷ a .end .days ∷ []) ≡ accepted (st .version ∷ st .channels ∷ (st .days + 1) ∷ []) =
     rw (w .version, w .channels, w .days) in
     of-walk (before ++ b ++ bytes "900\r\n") (accepted (st .version ∷ st .channels ∷ (st .days + 1) ∷ [])) l
-    (walks before b (bytes "900\r\n") st d h a s ∙ nine-ends (a .end) (length (before ++ b)) (length (kindsOf (lines (before ++ b)))) f (λ z. omega (arith, w .high)) ∙ g)
+    (walks before b (bytes "900\r\n") st d h a c n s ∙ nine-ends (a .end) (length (before ++ b)) (length (kindsOf (lines (before ++ b)))) f (λ z. omega (arith, w .high)) ∙ g)

@@ -19,25 +19,28 @@ use Rattle.format.specs.Numbers.{isNumber, numberIn, intervalOf, reasonOf, deci
 use Rattle.format.specs.Dates.{dateOf, timeOf, loadOf}
 use Rattle.format.specs.Quality.{qualityOf, flagIn, methodIn, Mark, noMark}
 use Rattle.format.specs.Cut.{Lines, line, rest, fields}
-use Rattle.format.specs.Records.{kindIn, millionths, valuesIn, firstIn, lastIn, markAt, markIn}
+use Rattle.format.specs.Records.{kindIn, millionths, valuesIn, loadIn, firstIn, lastIn, markAt, markIn}
 use Rattle.format.specs.Order.{Due, isVaried}
 use Rattle.format.specs.File.{after}
-use Rattle.format.specs.Day.{DayRows, runsFrom, coverOf, eachOf, valuesOf, loadIn, Day, marksOf, dayOf}
+use Rattle.format.specs.Day.{BlockRows, runsFrom, coverOf, eachOf, valuesOf, Day, marksOf, dayOf}
 use Rattle.format.specs.Block.{qualityText, loadText, valueText, valuesText, markText, runText, coverText, runsIn, isUniform, topText, tailText, blockOf, recordsOf}
 use Rattle.format.proofs.NumberText.{small-shortest, reason-shortest, date-length, time-length, load-shortest}
 use Rattle.format.proofs.ValueText.{value-shortest}
 use Rattle.format.proofs.MarkText.{quality-shortest, length-mark}
 use Rattle.format.proofs.CoverText.{length-run, runs-fewest, cover-shortest, runs-spell, runs-are-proper, uniform-is}
 use Rattle.format.specs.declared.Number.the-variants.{Is}
+use Rattle.format.proofs.Cut.{bytesOf, bytes-lines}
+use Rattle.format.proofs.Forms.{uniform-top, uniform-tail, varied-top, varied-tail}
+use Rattle.passing.specs.Passes.{Passes, kindsOf}
+use Rattle.passing.proofs.Fit.{Fit, fine-fit, fit-cover}
+use Rattle.passing.proofs.Blocks.{headed}
+use Rattle.passing.proofs.Steps.{after-300, after-400, runs-more, runs-end, blockFound}
 use Rattle.theorems.specs.Grammar.{Each, Record}
-use Rattle.theorems.proofs.Bytes.{bytesOf, bytes-lines}
-use Rattle.theorems.proofs.Fit.{Fit, fine-fit}
-use Rattle.shortest.specs.Blocks.{Passes, kindsOf, Says}
+use Rattle.shortest.specs.Blocks.{Says}
 use Rattle.shortest.specs.Writer.{NoLonger}
 use Rattle.shortest.proofs.Sizes.{size, size-append, length-record}
 use Rattle.shortest.proofs.Shapes.{number-is, graded-is, said, Marking, Top, top-of, Stretch, stretch-of}
-use Rattle.shortest.proofs.Forms.{uniform-top, uniform-tail, varied-top, varied-tail}
-use Rattle.shortest.proofs.Steps.{fit-record, fit-cover, after-300, after-400, runs-more, runs-end, dayFound, headed}
+use Rattle.shortest.proofs.Steps.{fit-record, read-day}
 
 -- ---- how long the written block is
 
@@ -218,8 +221,8 @@ top-least n fs t =
 -- ---- the block
 
 module _ (st end : Due) (p : ℕ) (r : List ℕ) (ls : Lines) (k : kindIn (fields r) ≡ 300) (f : Fit st r) (h : Passes (after st r) ls end) (some : 1 ≤ st .n) where
-  abbrev day : DayRows
-  day = dayFound p r ls (st .n)
+  abbrev day : BlockRows
+  day = blockFound p r ls (st .n)
 
   marks-least : (t : Top (st .n) (fields r)) → Marked (marksOf day) (t .quality) (t .reason) (t .text) ls
   unfolding marksOf eachOf
@@ -243,7 +246,7 @@ unfolding dayOf
 no-longer d z b h =
     let st : Due = h .st in
     let w = headed st b (h .accepted) in
-    let q : dayOf (dayFound (h .place) (w .first) (w .others) (st .n)) ≡ d = w .day (h .place) d (h .reads) in
+    let q : dayOf (blockFound (h .place) (w .first) (w .others) (st .n)) ≡ d = read-day (h .st) b (h .accepted) (h .place) (h .channel) d (h .intervals) (h .reads) in
     let n : st .n ≡ d .n = ap (λ (x : Day). x .n) q in
     let l = least st (h .accepted .end) (h .place) (w .first) (w .others) (w .kind) (w .fit) (w .passes) (omega arith) in
     record {

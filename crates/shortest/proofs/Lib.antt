@@ -1,6 +1,5 @@
 pub mod Sizes
 pub mod Shapes
-pub mod Forms
 pub mod Steps
 pub mod Least
 pub mod Pass
@@ -8,10 +7,10 @@ pub mod Texts
 pub mod Written
 pub mod Back
 pub mod Handed
-pub mod Files
 pub mod Tags
 pub mod Inside
 pub mod Said
 pub mod Refuses
 pub mod Theorems
 pub mod Place
+pub mod Alone

@@ -2,31 +2,32 @@
 use Prim.Native.Nat.{ℕ, _+_, _≤_, _<_}
 use mathlib.Core.Path.{_≡_, refl, sym, ap, ap₂, _∙_, subst}
 use mathlib.Core.Logic.{_⊎_, inl, inr}
-use mathlib.Core.Bool.{true, false, _||_}
+use mathlib.Core.Bool.{true, false}
 use mathlib.Core.List.{List, [], _∷_, _++_, map}
 use native.Mathlib.Omega.{arith}
 use lib.ListN.{length}
 use lib.Dec.{eqb}
 use borrow.Author.Tests.{eqb-true, eq-eqb, le-leb, lt-leb}
-use Rattle.ground.specs.Lists.{all}
 use Rattle.ground.proofs.Cases.{by}
 use Rattle.format.specs.Cut.{Lines, line, rest, lines, fields}
-use Rattle.format.specs.Records.{kindIn, dateIn, firstIn, lastIn}
-use Rattle.format.specs.Order.{Due, due, mayCome, isVaried, alikeWith, on300, on400, on500, afterOf}
+use Rattle.format.specs.Records.{kindIn, intervalsIn, dateIn, firstIn, lastIn}
+use Rattle.format.specs.Order.{Due, mayCome, isVaried, alikeWith, on300, on400, on500, afterOf}
 use Rattle.format.specs.Faults.{size, isOpen, isNotLater, covers, isOff, isAlike, isElsewhere, faultOf}
-use Rattle.format.specs.File.{after}
-use Rattle.format.specs.Day.{Row, DayRows, runsFrom, daysFrom, Day, dayOf}
+use Rattle.format.specs.File.{after, behind200}
+use Rattle.format.specs.Day.{Row, DayRows, runsFrom, dayFrom, daysFrom, Day, dayOf}
 use Rattle.format.specs.declared.Fault.the-variants.{Fine}
+use Rattle.passing.specs.Passes.{Passes, kindsOf, areUnder, isBlock, Free, Accepted}
+use Rattle.passing.proofs.Fit.{Ok, fit-fine, free-if, free-400}
+use Rattle.passing.proofs.Steps.{blockFound, days-more}
 use Rattle.theorems.specs.Grammar.{Each, Record, join, text, IsRecord, Block, Covers, Marked, Extra, IsBlock}
-use Rattle.theorems.specs.Days.{rowsAt, rowsOf, dayAt, dayIn}
+use Rattle.theorems.specs.Days.{recordAt, rowsAt, rowsOf, blockAt, dayIn, meant}
 use Rattle.theorems.proofs.Bytes.{lines-row}
-use Rattle.theorems.proofs.Rows.{Fields, Ok, record-fields, record-ok}
+use Rattle.theorems.proofs.Rows.{Fields, record-fields, record-ok}
 use Rattle.theorems.proofs.Says.{date-some, day-on}
 use Rattle.theorems.proofs.Meaning.{day-anywhere}
 use Rattle.theorems.proofs.Takes.{fields-of}
-use Rattle.theorems.proofs.Fit.{fit-fine, free-if, free-400, Apart, apart-on, marked-end}
-use Rattle.shortest.specs.Blocks.{Passes, kindsOf, isBlock, Free, Accepted, Reads, Says}
-use Rattle.shortest.proofs.Steps.{dayFound, days-more}
+use Rattle.theorems.proofs.Apart.{Apart, apart-on, marked-end}
+use Rattle.shortest.specs.Blocks.{Reads, Says}
 
 -- ---- records as their fields, and as the lines of a file
 
@@ -179,20 +180,20 @@ under-fields (r ∷ rs) h = (one (h .0), under-fields rs (h .1))
     one (inl i) = record-fields 400 0 r i
     one (inr i) = record-fields 500 0 r i
 
-under-kinds : (rs : List Record) → Under rs → all (λ x. eqb x 400 || eqb x 500) (kindsOf (cut rs)) ≡ true
+under-kinds : (rs : List Record) → Under rs → areUnder (kindsOf (cut rs)) ≡ true
 under-kinds [] h = refl
 under-kinds (r ∷ rs) h = one (h .0) (under-kinds rs (h .1))
   where
-    one : (IsRecord 400 0 r) ⊎ (IsRecord 500 0 r) → all (λ x. eqb x 400 || eqb x 500) (kindsOf (cut rs)) ≡ true → all (λ x. eqb x 400 || eqb x 500) (kindsOf (cut (r ∷ rs))) ≡ true
+    one : (IsRecord 400 0 r) ⊎ (IsRecord 500 0 r) → areUnder (kindsOf (cut rs)) ≡ true → areUnder (kindsOf (cut (r ∷ rs))) ≡ true
     one (inl i) e = rw (kind-of 400 0 r i) e
     one (inr i) e = rw (kind-of 500 0 r i) e
 
-under-days : (p n : ℕ) (rs : List Record) → Under rs → daysFrom p n (cut rs) ≡ []
+under-days : (p : ℕ) (c : Row) (rs : List Record) → Under rs → daysFrom p c (cut rs) ≡ []
 unfolding daysFrom
-under-days p n [] h = refl
-under-days p n (r ∷ rs) h = one (h .0) (under-days (p + length (join r) + 2) n rs (h .1))
+under-days p c [] h = refl
+under-days p c (r ∷ rs) h = one (h .0) (under-days (p + length (join r) + 2) c rs (h .1))
   where
-    one : (IsRecord 400 0 r) ⊎ (IsRecord 500 0 r) → daysFrom (p + length (join r) + 2) n (cut rs) ≡ [] → daysFrom p n (cut (r ∷ rs)) ≡ []
+    one : (IsRecord 400 0 r) ⊎ (IsRecord 500 0 r) → daysFrom (p + length (join r) + 2) c (cut rs) ≡ [] → daysFrom p c (cut (r ∷ rs)) ≡ []
     one (inl i) e = rw (kind-of 400 0 r i) e
     one (inr i) e = rw (kind-of 500 0 r i) e
 
@@ -202,7 +203,7 @@ runs-of p t [] [] h g = refl
 runs-of p t [] (x ∷ xs) h g = rw (kind-of 500 0 x (g .0 .0))
 runs-of p t (r ∷ rs) xs h g =
     rw (kind-of 400 0 r (h .0), fields-of r (record-fields 400 0 r (h .0)) .0)
-    (ap (λ (x : List Row). record { place = p; cells = r } ∷ x) (runs-of (p + length (join r) + 2) t rs xs (h .1) g))
+    (ap (λ (x : List Row). recordAt p r ∷ x) (runs-of (p + length (join r) + 2) t rs xs (h .1) g))
 
 module _ (b : Block) (n : ℕ) (h : IsBlock n b) where
   under : Under (b .runs ++ b .extra)
@@ -211,21 +212,21 @@ module _ (b : Block) (n : ℕ) (h : IsBlock n b) where
   block-lines : lines (text (rowsOf b)) ≡ cut (rowsOf b)
   block-lines = lines-cut (rowsOf b) (record-fields 300 n (b .top) (h .top), under-fields (b .runs ++ b .extra) under)
 
-  -- the day of a block, by its lines and by its fields
-  day-same : (p : ℕ) → dayFound p (join (b .top)) (cut (b .runs ++ b .extra)) n ≡ dayAt p n b
-  day-same p =
+  -- the rows of a block, by its lines and by its fields
+  rows-same : (p : ℕ) → blockFound p (join (b .top)) (cut (b .runs ++ b .extra)) n ≡ blockAt p n b
+  rows-same p =
       let q : ℕ = p + length (join (b .top)) + 2 in
-      ap₂ (λ (x : Record) (y : List Row). record { n = n; top = record { place = p; cells = x }; runs = y })
+      ap₂ (λ (x : Record) (y : List Row). record { n = n; top = recordAt p x; runs = y })
       (fields-of (b .top) (record-fields 300 n (b .top) (h .top)) .0)
       (runs-of q (dateIn (b .top)) (b .runs) (b .extra) (h .runs) (h .extra))
 
-  pub block-reads : (p : ℕ) → Reads p n (text (rowsOf b)) (dayIn n b)
-  block-reads p =
+  pub block-reads : (p : ℕ) (c : Row) → intervalsIn (c .cells) ≡ n → Reads p c (text (rowsOf b)) (dayIn n b)
+  block-reads p c e =
       let ls : Lines = cut (b .runs ++ b .extra) in
-      ap (λ (x : Lines). map dayOf (daysFrom p n x)) block-lines
-      ∙ ap (map dayOf) (days-more p (join (b .top)) ls n (kind-of 300 n (b .top) (h .top)))
-      ∙ ap (λ (x : List DayRows). dayOf (dayFound p (join (b .top)) ls n) ∷ map dayOf x) (under-days (p + length (join (b .top)) + 2) n (b .runs ++ b .extra) under)
-      ∙ ap (λ (x : Day). x ∷ []) (ap dayOf (day-same p) ∙ day-anywhere p n b)
+      ap (λ (x : Lines). map meant (daysFrom p c x)) block-lines
+      ∙ ap (map meant) (days-more p (join (b .top)) ls c (kind-of 300 n (b .top) (h .top)))
+      ∙ ap (λ (x : List DayRows). meant (dayFrom p c (join (b .top)) ls) ∷ map meant x) (under-days (p + length (join (b .top)) + 2) c (b .runs ++ b .extra) under)
+      ∙ ap (λ (x : Day). x ∷ []) (ap (λ (m : ℕ). dayOf (blockFound p (join (b .top)) ls m)) e ∙ ap dayOf (rows-same p) ∙ day-anywhere p n b)
 
 pub block-accepted : (b : Block) (st : Due) → IsBlock (st .n) b → Free st → st .date < dateIn (b .top) → Accepted st (text (rowsOf b))
 block-accepted b st h f l =
@@ -239,9 +240,16 @@ block-accepted b st h f l =
       free = w .free;
     }
 
--- every block of the grammar says the day that it is
-pub block-says : (b : Block) (n : ℕ) → IsBlock n b → Says (text (rowsOf b)) (dayIn n b)
+-- every block of the grammar says, under a 200 of its n, the day that it is
+pub block-says : (b : Block) (n : ℕ) → IsBlock n b → (c : Row) → intervalsIn (c .cells) ≡ n → Says (text (rowsOf b)) (dayIn n b)
 unfolding mayCome isOpen
-block-says b n h =
-    let st : Due = due 2 12 n 0 1 0 in
-    record { st = st; accepted = block-accepted b st h (refl, refl) (date-some n (b .top) (h .top)); place = 0; reads = block-reads b n h 0 }
+block-says b n h c e =
+    let st : Due = behind200 n in
+    record {
+      st = st;
+      accepted = block-accepted b st h (refl, refl) (date-some n (b .top) (h .top));
+      place = 0;
+      channel = c;
+      intervals = e;
+      reads = block-reads b n h 0 c e;
+    }

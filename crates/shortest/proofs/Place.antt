@@ -1,12 +1,13 @@
 -- For each interval length there is a file's beginning behind which a day of it may stand. Assumes nothing.
 use Prim.Native.Nat.{ℕ}
-use mathlib.Core.Path.{refl}
+use mathlib.Core.Path.{_≡_, refl}
 use mathlib.Core.Logic.{_≢_}
 use mathlib.Core.List.{List, [], _∷_}
 use Prim.Native.String.{String}
 use lib.Dec.{eqb}
 use borrow.Author.Tests.{eqb-true}
 use Rattle.ground.specs.Lists.{spanOf, same}
+use Rattle.ground.specs.Text.{bytes}
 use Rattle.ground.specs.Digits.{isDigit}
 use Rattle.ground.proofs.Cases.{by}
 use Rattle.format.specs.Bytes.{isCapital, isLetter, isAlnum, endSpace, isText, areAll}
@@ -17,12 +18,22 @@ use Rattle.format.specs.Cut.{lines, fields}
 use Rattle.format.specs.Records.{isKind, indicatorOf, kindIn, rowOf, countOf, ruleOf, obeys, versionIn, intervalsIn, qualitiesOf, firstBroken}
 use Rattle.format.specs.Order.{due, mayCome, afterOf}
 use Rattle.format.specs.Faults.{isOpen, faultIn, brokenIn, isNotLater, isOff, isAlike, isElsewhere, faultAt, faultOf}
+use Rattle.format.specs.Day.{Row, rowAt}
 use Rattle.format.specs.Settled.{records}
-use Rattle.shortest.specs.Blocks.{Leads}
+use Rattle.passing.specs.Passes.{Leads}
 
 -- a 100, and a 200 that ends so
 abbrev opening : String → List ℕ
 opening last = records ("100,NEM12,200401011200,MDP1,RETAILER" ∷ last ∷ [])
+
+-- a 200 of that interval length
+pub channel : (m : ℕ) → intervalsOf m ≢ 0 → (c : Row) × (intervalsIn (c .cells) ≡ intervalsOf m)
+unfolding fields intervalsIn lengthOf smallOf leadingZero numberOf areAll isDigit isLength intervalsOf
+channel m z =
+    by (eqb m 5) (λ e. rw (eqb-true m 5 e) (rowAt 0 (bytes ",,,,,,,,5,"), refl))
+    λ e₁. by (eqb m 15) (λ e. rw (eqb-true m 15 e) (rowAt 0 (bytes ",,,,,,,,15,"), refl))
+    λ e₂. by (eqb m 30) (λ e. rw (eqb-true m 30 e) (rowAt 0 (bytes ",,,,,,,,30,"), refl))
+    λ e₃. absurd (z (rw (e₁, e₂, e₃)))
 
 pub place : (m : ℕ) → intervalsOf m ≢ 0 → (before : List ℕ) × Leads before (due 2 12 (intervalsOf m) 0 1 0)
 unfolding spanOf same isDigit isCapital isLetter isAlnum endSpace isText areAll isNmi isSuffix isStream isParty isConfiguration isRegister isSerial isUnit versionOf numberOf leadingZero smallOf isLength lengthOf intervalsOf isLeap daysIn isDay isDate isTime isMinute dateOf createdOf nextReadOf lines fields isKind indicatorOf kindIn rowOf countOf ruleOf obeys versionIn intervalsIn qualitiesOf firstBroken mayCome afterOf isOpen faultIn brokenIn isNotLater isOff isAlike isElsewhere faultAt faultOf

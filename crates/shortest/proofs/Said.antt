@@ -11,7 +11,8 @@ use borrow.Author.Tests.{eqb-true, eqb-false, ne-eqb, lt-ltb}
 use Rattle.ground.specs.Lists.{all}
 use Rattle.ground.proofs.Cases.{by, both}
 use Rattle.ground.proofs.Digits.{all-append}
-use Rattle.format.specs.Numbers.{isNumber, numberIn, that, numberOf, smallOf, noReason, reasonOf, decimals, valueOf}
+use Rattle.ground.proofs.Tests.{or-right}
+use Rattle.format.specs.Numbers.{isNumber, numberIn, numberOf, smallOf, noReason, reasonOf, decimals, valueOf}
 use Rattle.format.specs.Dates.{isDate, isTime, dateOf, timeOf, loadOf}
 use Rattle.format.specs.Quality.{standsAlone, takesMethod, noMethod, withMethod, qualityOf, isGraded, flagIn, methodIn, Mark}
 use Rattle.format.specs.Cut.{Lines, line, rest, fields}
@@ -24,21 +25,19 @@ use Rattle.format.specs.declared.Graded.{Graded}
 use Rattle.format.specs.declared.Graded.the-variants.{Of}
 use Rattle.format.specs.declared.Number.{Number}
 use Rattle.format.specs.declared.Number.the-variants.{Is, Bad}
-use Rattle.format.proofs.Numbers.{under, under-is, number-under, small-under, value-below}
+use Rattle.format.proofs.Numbers.{that-holds, under, under-is, number-under, small-under, value-below}
 use Rattle.format.proofs.MarkText.{method-flag}
+use Rattle.passing.specs.Passes.{Passes}
+use Rattle.passing.proofs.Fit.{Fit, fine-fit}
+use Rattle.passing.proofs.Blocks.{headed}
+use Rattle.passing.proofs.Steps.{blockFound}
 use Rattle.theorems.specs.Grammar.{Each, Record, IsRecord}
-use Rattle.theorems.proofs.Tests.{or-right}
 use Rattle.theorems.proofs.Across.{together-agrees}
-use Rattle.theorems.proofs.Fit.{Fit, fine-fit}
-use Rattle.shortest.specs.Blocks.{Passes, Says}
+use Rattle.shortest.specs.Blocks.{Says}
 use Rattle.shortest.proofs.Shapes.{number-is, said, Marking, Top, top-of, stretch-of}
-use Rattle.shortest.proofs.Steps.{fit-record, dayFound, headed}
+use Rattle.shortest.proofs.Steps.{fit-record, read-day}
 
 -- ---- single fields
-
-that-holds : (p : ℕ → Bool) (x : Number) → isNumber (that p x) ≡ true → p (numberIn (that p x)) ≡ true
-that-holds p (Is v) h = by (p v) (λ t. rw (t, t)) (λ t. absurd (false≢true (let z : false ≡ true = (rw t at h) in z)))
-that-holds p Bad h = absurd (false≢true h)
 
 date-fit : (s : List ℕ) → isNumber (dateOf s) ≡ true → isDate (numberIn (dateOf s)) ≡ true
 unfolding dateOf
@@ -156,7 +155,7 @@ cover-fit p st end (line r ls) h =
 -- ---- the day
 
 module _ (st end : Due) (p : ℕ) (r : List ℕ) (ls : Lines) (k : kindIn (fields r) ≡ 300) (f : Fit st r) (h : Passes (after st r) ls end) where
-  marks-fit : (t : Top (st .n) (fields r)) → all fitMark (marksOf (dayFound p r ls (st .n))) ≡ true
+  marks-fit : (t : Top (st .n) (fields r)) → all fitMark (marksOf (blockFound p r ls (st .n))) ≡ true
   unfolding marksOf eachOf
   marks-fit t =
       let i : IsRecord 300 (st .n) (fields r) = fit-record st r f 300 (λ z. omega arith) k in
@@ -165,7 +164,7 @@ module _ (st end : Due) (p : ℕ) (r : List ℕ) (ls : Lines) (k : kindIn (field
       (λ e. rw e (all-replicate (st .n) (markAt 300 (st .n + 2) (fields r))
       (rw (t .says .mark) (mark-fit 300 (t .quality) (t .reason) (t .text) (t .marking) (eqb-false _ _ (sym (t .says .varied) ∙ e)) (rw (t .says .mark) at (agrees-300 (st .n) (fields r) i))))))
 
-  day-fit : fitDay (dayOf (dayFound p r ls (st .n))) ≡ true
+  day-fit : fitDay (dayOf (blockFound p r ls (st .n))) ≡ true
   unfolding fitDay dayOf valuesOf
   day-fit =
       let t = top-of (st .n) (fields r) (fit-record st r f 300 (λ z. omega arith) k) in
@@ -184,4 +183,4 @@ module _ (st end : Due) (p : ℕ) (r : List ℕ) (ls : Lines) (k : kindIn (field
 pub fit-said : (d : Day) (b : List ℕ) → Says b d → fitDay d ≡ true
 fit-said d b h =
     let w = headed (h .st) b (h .accepted) in
-    ap fitDay (sym (w .day (h .place) d (h .reads))) ∙ day-fit (h .st) (h .accepted .end) (h .place) (w .first) (w .others) (w .kind) (w .fit) (w .passes)
+    ap fitDay (sym (read-day (h .st) b (h .accepted) (h .place) (h .channel) d (h .intervals) (h .reads))) ∙ day-fit (h .st) (h .accepted .end) (h .place) (w .first) (w .others) (w .kind) (w .fit) (w .passes)

@@ -19,9 +19,8 @@ use Rattle.format.specs.Numbers.{isNumber, numberIn, numberOf, intervalOf, reas
 use Rattle.format.specs.Dates.{dateOf, timeOf, loadOf}
 use Rattle.format.specs.Quality.{qualityOf, isGraded, flagIn, methodIn, Mark}
 use Rattle.format.specs.Cut.{field}
-use Rattle.format.specs.Records.{indicatorOf, kindIn, rowOf, obeys, dateIn, millionths, valuesIn, firstIn, lastIn, markAt, markIn}
+use Rattle.format.specs.Records.{indicatorOf, kindIn, rowOf, obeys, dateIn, millionths, valuesIn, updateIn, loadIn, firstIn, lastIn, markAt, markIn}
 use Rattle.format.specs.Order.{isVaried}
-use Rattle.format.specs.Day.{updateIn, loadIn}
 use Rattle.format.specs.declared.Number.{Number}
 use Rattle.format.specs.declared.Number.the-variants.{Is, Bad}
 use Rattle.format.specs.declared.Graded.{Graded}

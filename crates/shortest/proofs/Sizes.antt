@@ -5,8 +5,9 @@ use mathlib.Core.List.{List, [], _∷_, _++_}
 use native.Mathlib.Omega.{arith}
 use lib.ListN.{length, length-append}
 use Rattle.format.specs.Cut.{fields}
+use Rattle.format.proofs.Cut.{fields-some}
 use Rattle.theorems.specs.Grammar.{Record, join}
-use Rattle.theorems.proofs.Bytes.{join-fields, fields-some}
+use Rattle.theorems.proofs.Bytes.{join-fields}
 
 -- every field with the byte behind it
 unfoldable pub size : Record → ℕ

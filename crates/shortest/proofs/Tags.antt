@@ -18,10 +18,12 @@ use Rattle.format.specs.Answers.{Answer, accepted}
 use Rattle.format.specs.File.{checkOf}
 use Rattle.format.specs.Day.{rowAt, DayRows, runsFrom, daysOf, coverOf, eachOf, tagAt, tagsOf, Day, marksOf, dayOf, Outcome, outcome, over, overFive, roomFor, readInto, readFirst, afterCheck, readOf}
 use Rattle.format.specs.declared.Tag.{Tag}
+use Rattle.format.proofs.Cut.{bytesOf}
+use Rattle.passing.proofs.Steps.{blockFound}
 use Rattle.theorems.specs.Grammar.{Record, join}
-use Rattle.theorems.proofs.Bytes.{bytesOf, join-fields}
+use Rattle.theorems.specs.Days.{meant}
+use Rattle.theorems.proofs.Bytes.{join-fields}
 use Rattle.shortest.specs.Blocks.{markOf, Read}
-use Rattle.shortest.proofs.Steps.{dayFound}
 
 -- ---- a field in its record
 
@@ -90,7 +92,7 @@ module _ (file : List ℕ) where
       ∙ ap₂ (λ (x y : List Mark). x ++ y) (map-replicate k (tagAt 400 (rowAt p r) 3) ∙ ap (replicate k) (tag-mark 400 p 3 r (13 ∷ 10 ∷ bytesOf ls) h)) (cover-tags (p + length r + 2) ls (next-at p r ls h))))
       (λ t. rw t)
 
-  pub tags-marks : (p n : ℕ) (r : List ℕ) (ls : Lines) → drop p file ≡ bytesOf (line r ls) → map (markOf file) (tagsOf (dayFound p r ls n)) ≡ marksOf (dayFound p r ls n)
+  pub tags-marks : (p n : ℕ) (r : List ℕ) (ls : Lines) → drop p file ≡ bytesOf (line r ls) → map (markOf file) (tagsOf (blockFound p r ls n)) ≡ marksOf (blockFound p r ls n)
   unfolding tagsOf marksOf eachOf
   tags-marks p n r ls h =
       by (isVaried n (fields r))
@@ -100,15 +102,15 @@ module _ (file : List ℕ) where
 -- ---- what a reading answers and leaves
 
 pub read-is : (file : List ℕ) (number : ℕ) (xs : List ℕ) (rows : DayRows) (others : List DayRows) (d : Day) → checkOf file ≡ accepted xs
-    → drop number (daysOf file) ≡ rows ∷ others → dayOf rows ≡ d → map (markOf file) (tagsOf rows) ≡ marksOf rows → Read file number d
+    → drop number (daysOf file) ≡ rows ∷ others → meant rows ≡ d → map (markOf file) (tagsOf (rows .block)) ≡ marksOf (rows .block) → Read file number d
 unfolding readOf readInto dayOf
 read-is file number xs rows others d e f q t =
     record {
-      tags = tagsOf rows;
+      tags = tagsOf (rows .block);
       marks = t ∙ ap (λ (x : Day). x .marks) q;
       answers = λ vs ms r.
-          (let told : Day → Outcome = λ x. outcome (accepted (x .date ∷ x .n ∷ x .update ∷ x .load ∷ [])) (over (x .values) vs) (overFive (tagsOf rows) ms) in
-          let n : roomFor (rows .n) vs ms ≡ true = ap (λ (x : Day). roomFor (x .n) vs ms) q ∙ r in
-          let g : readFirst (rows ∷ others) vs ms ≡ told (dayOf rows) = rw n in
+          (let told : Day → Outcome = λ x. outcome (accepted (x .date ∷ x .n ∷ x .update ∷ x .load ∷ [])) (over (x .values) vs) (overFive (tagsOf (rows .block)) ms) in
+          let n : roomFor (rows .block .n) vs ms ≡ true = ap (λ (x : Day). roomFor (x .n) vs ms) q ∙ r in
+          let g : readFirst (rows ∷ others) vs ms ≡ told (meant rows) = rw n in
           ap (λ (x : Answer). afterCheck x (readFirst (drop number (daysOf file)) vs ms) vs ms) e ∙ ap (λ (l : List DayRows). readFirst l vs ms) f ∙ g ∙ ap told q);
     }

@@ -10,7 +10,7 @@ use Rattle.ground.specs.Lists.{all}
 use Rattle.ground.specs.Digits.{isDigit, padded, dec}
 use Rattle.ground.proofs.Tests.{and-true}
 use Rattle.ground.proofs.Cases.{by, same-or}
-use Rattle.ground.proofs.Digits.{all-append, all-padded, all-dec}
+use Rattle.ground.proofs.Digits.{all-append, all-padded, all-dec, all-map}
 use Rattle.format.specs.Bytes.{fieldByte, endSpace, isText}
 use Rattle.format.specs.Texts.{isDescription}
 use Rattle.format.specs.Numbers.{reasonOf, noReason}
@@ -20,7 +20,6 @@ use Rattle.format.specs.Block.{fitQuality, fitReason, fitMark, places, trimmed,
 use Rattle.format.proofs.NumberText.{reason-back}
 use Rattle.format.proofs.ValueText.{fraction-none, fraction-some}
 use Rattle.format.proofs.MarkText.{alone-is, quality-alone, quality-graded, quality-back}
-use Rattle.theorems.proofs.Bytes.{all-map}
 use Rattle.shortest.proofs.Shapes.{Marking, said}
 
 -- ---- bytes

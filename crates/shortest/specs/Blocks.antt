@@ -1,73 +1,36 @@
--- 01: "A day block is a 300 record with the 400 and 500 records under it." When bytes are accepted as one, by the very steps that the check of a file
--- takes, and which day a reading finds in them.
+-- Which day a reading finds in the bytes of a day block, and what it is for a block that says a day to stand in a file.
 use Prim.Native.Nat.{ℕ, _<_}
 use mathlib.Core.Path.{_≡_}
-use mathlib.Core.Bool.{Bool, true, false, _&&_, _||_}
+use mathlib.Core.Bool.{true}
 use mathlib.Core.List.{List, [], _∷_, _++_, map}
 use lib.ListN.{length, take, drop}
-use lib.Dec.{eqb}
-use Rattle.ground.specs.Lists.{all}
 use Rattle.format.specs.Quality.{Mark}
-use Rattle.format.specs.Cut.{Lines, line, rest, lines, fields}
-use Rattle.format.specs.Records.{kindIn}
+use Rattle.format.specs.Cut.{lines}
+use Rattle.format.specs.Records.{intervalsIn}
 use Rattle.format.specs.Answers.{accepted}
-use Rattle.format.specs.Order.{Due, begun, mayCome}
-use Rattle.format.specs.Faults.{isOpen, faultOf}
-use Rattle.format.specs.File.{after, walkOf, checkOf}
-use Rattle.format.specs.Day.{Day, dayOf, daysFrom, Five, outcome, over, overFive, roomFor, readOf}
-use Rattle.format.specs.declared.Fault.the-variants.{Fine}
+use Rattle.format.specs.Order.{Due, begun}
+use Rattle.format.specs.File.{walkOf, checkOf}
+use Rattle.format.specs.Day.{Row, Day, daysFrom, Five, outcome, over, overFive, roomFor, readOf}
 use Rattle.format.specs.declared.Tag.{Tag}
+use Rattle.passing.specs.Passes.{kindsOf, Accepted, Awaits}
+use Rattle.theorems.specs.Days.{meant}
 
--- ---- accepted as a block
+-- ---- read as a day
 
--- from the state a on, no record is at fault, nothing is left behind the last CR LF, and there the state is e
-abbrev pub Passes : Due → Lines → Due → Type 0
-Passes a (rest t) e = (t ≡ []) × (a ≡ e)
-Passes a (line r ls) e = (faultOf a r ≡ Fine) × Passes (after a r) ls e
-
--- the kinds of the records, in their order
-abbrev pub kindsOf : Lines → List ℕ
-kindsOf (rest t) = []
-kindsOf (line r ls) = kindIn (fields r) ∷ kindsOf ls
-
--- a 300, and under it 400s and 500s
-abbrev pub isBlock : List ℕ → Bool
-isBlock [] = false
-isBlock (k ∷ ks) = eqb k 300 && all (λ x. eqb x 400 || eqb x 500) ks
-
--- a 300 may come here, and no V day is open: behind a 200, or where a day may end
-abbrev pub Free : Due → Type 0
-Free st = (mayCome (st .expect) 300 ≡ true) × (isOpen st 300 ≡ false)
-
--- the bytes b are accepted as a block where the state is st
-pub record Accepted (st : Due) (b : List ℕ) : Type 0 where
-  pub kinds : isBlock (kindsOf (lines b)) ≡ true
-  pub end : Due
-  pub passes : Passes st (lines b) end
-  pub free : Free end
-
--- read at the place p of a file, under a 200 of n intervals, the bytes b are one day, and it is d
-abbrev pub Reads : ℕ → ℕ → List ℕ → Day → Type 0
-Reads p n b d = map dayOf (daysFrom p n (lines b)) ≡ d ∷ []
+-- read at the place p of a file, under the 200 c, the bytes b are one day, and it is d
+abbrev pub Reads : ℕ → Row → List ℕ → Day → Type 0
+Reads p c b d = map meant (daysFrom p c (lines b)) ≡ d ∷ []
 
 -- the bytes b are accepted as a block, wherever that may be, and the day that is read from them is d
 pub record Says (b : List ℕ) (d : Day) : Type 0 where
   pub st : Due
   pub accepted : Accepted st b
   pub place : ℕ
-  pub reads : Reads place (st .n) b d
+  pub channel : Row
+  pub intervals : intervalsIn (channel .cells) ≡ st .n
+  pub reads : Reads place channel b d
 
--- ---- where a block may stand
-
--- a block of n intervals with this date may stand here: behind a 200 of that n, or under it behind another day of an earlier date
-pub record Awaits (st : Due) (n date : ℕ) : Type 0 where
-  pub free : Free st
-  pub intervals : st .n ≡ n
-  pub earlier : st .date < date
-
--- the check of a file comes through these bytes, with no fault, to the state st
-abbrev pub Leads : List ℕ → Due → Type 0
-Leads before st = Passes begun (lines before) st
+-- ---- in a file
 
 -- the mark that a reading leaves of an interval: flag, method, reason, and the bytes of the file at the description's start and length
 abbrev pub markOf : List ℕ → Tag → Mark
@@ -87,3 +50,12 @@ pub record Stands (before b behind : List ℕ) (st : Due) (d : Day) : Type 0 whe
   pub goes-on : walkOf begun 0 0 (lines (before ++ b ++ behind)) ≡ walkOf end (length (before ++ b)) (length (kindsOf (lines (before ++ b)))) (lines behind)
   pub awaits : (date : ℕ) → d .date < date → Awaits end (st .n) date
   pub reads : (xs : List ℕ) → checkOf (before ++ b ++ behind) ≡ accepted xs → Read (before ++ b ++ behind) (st .days) d
+
+-- so stands a block that was accepted on its own, as a day of the date, the n and the times that its check answered
+pub record StandsAlone (before b behind : List ℕ) (st : Due) (t n u l : ℕ) : Type 0 where
+  pub day : Day
+  pub stands : Stands before b behind st day
+  pub date : day .date ≡ t
+  pub intervals : day .n ≡ n
+  pub update : day .update ≡ u
+  pub load : day .load ≡ l

@@ -7,10 +7,12 @@ use mathlib.Core.List.{List}
 use lib.ListN.{length}
 use Rattle.ground.specs.Lists.{all, from}
 use Rattle.format.specs.Cut.{lines}
+use Rattle.format.specs.Records.{intervalsIn}
 use Rattle.format.specs.Order.{Due}
-use Rattle.format.specs.Day.{Day, enoughFor}
+use Rattle.format.specs.Day.{Row, Day, enoughFor}
 use Rattle.format.specs.Block.{Given, intervalsGiven, dayGiven, isInside, fitGiven, blockOf, recordsOf}
-use Rattle.shortest.specs.Blocks.{kindsOf, Accepted, Reads, Says}
+use Rattle.passing.specs.Passes.{kindsOf, Accepted}
+use Rattle.shortest.specs.Blocks.{Reads, Says}
 
 -- no list is shorter than n
 abbrev pub enough : Given → Bool
@@ -27,10 +29,11 @@ pub record Writable (g : Given) : Type 0 where
   pub lists-long : enough g ≡ true
   pub fit : fitGiven g ≡ true
 
--- the block that is written for the day d is accepted where the state is st, and the day that is read from it, at any place, is the same
+-- the block that is written for the day d is accepted where the state is st, and the day that is read from it, at any place under any 200 of that n, is the
+-- same
 pub record ReadsBack (d : Day) (st : Due) : Type 0 where
   pub accepted : Accepted st (blockOf d)
-  pub same : (p : ℕ) → Reads p (st .n) (blockOf d) d
+  pub same : (p : ℕ) (c : Row) → intervalsIn (c .cells) ≡ st .n → Reads p c (blockOf d) d
 
 -- the block that is written for the day d has no more records than the bytes b, and no more bytes
 pub record NoLonger (d : Day) (b : List ℕ) : Type 0 where

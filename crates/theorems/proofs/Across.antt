@@ -7,12 +7,13 @@ use native.Mathlib.Omega.{arith}
 use lib.ListN.{length}
 use lib.Dec.{eqb}
 use borrow.Author.Tests.{eqb-true, eqb-false, ne-eqb, not-true, not-false}
+use Rattle.ground.proofs.Tests.{and-true}
+use Rattle.ground.proofs.Cases.{by}
 use Rattle.format.specs.Numbers.{noReason}
 use Rattle.format.specs.Quality.{Mark, needsReason, across}
 use Rattle.format.specs.Records.{markAt, agrees, qualitiesOf, firstBroken}
 use Rattle.format.specs.Faults.{brokenIn}
 use Rattle.theorems.specs.Grammar.{Each, Record, Together}
-use Rattle.theorems.proofs.Tests.{by, and-true}
 
 module _ (m : Mark) where
   pub agrees-together : agrees m ≡ true → Together m

@@ -2,7 +2,7 @@
 use Prim.Native.Nat.{ℕ, _≤_}
 use mathlib.Core.Path.{_≡_, refl, sym, ap, _∙_}
 use mathlib.Core.Logic.{_↔_}
-use mathlib.Core.Bool.{true, false, false≢true, _&&_}
+use mathlib.Core.Bool.{true, false≢true, _&&_}
 use mathlib.Core.List.{List, [], _∷_, _++_, append-assoc}
 use native.Mathlib.Omega.{arith}
 use lib.ListN.{length, take, length-append}
@@ -11,6 +11,9 @@ use lib.Dec.{leb}
 use borrow.Author.Tests.{leb-true}
 use Rattle.ground.specs.Lists.{all}
 use Rattle.ground.specs.Digits.{isDigit, decimal}
+use Rattle.ground.proofs.Digits.{digit-range}
+use Rattle.ground.proofs.Tests.{and-true}
+use Rattle.ground.proofs.Cases.{by}
 use Rattle.format.specs.Bytes.{areAll}
 use Rattle.format.specs.Numbers.{numberOf}
 use Rattle.format.specs.Cut.{line, lines, fields}
@@ -18,20 +21,16 @@ use Rattle.format.specs.Records.{isKind, indicatorOf, kindIn, rowOf, versionIn,
 use Rattle.format.specs.Answers.{accepted}
 use Rattle.format.specs.File.{checkOf}
 use Rattle.format.specs.Day.{Day}
+use Rattle.format.proofs.Cut.{bytesOf, bytes-lines}
 use Rattle.theorems.specs.Grammar.{Each, Record, join, text, IsRecord, Block, IsBlock, Channel, IsChannel, Content, nem12, nem13, IsContent, contentThen, channelsIn, daysIn, InFormat}
 use Rattle.theorems.specs.Days.{rowsOf, dayIn, ReadsAs, around}
-use Rattle.theorems.proofs.Tests.{by, and-true}
-use Rattle.theorems.proofs.Bytes.{bytesOf, bytes-lines, lines-row}
+use Rattle.theorems.proofs.Bytes.{lines-row}
 use Rattle.theorems.proofs.Rows.{Fields, record-fields}
 use Rattle.theorems.proofs.Takes.{fields-of}
 use Rattle.theorems.proofs.Format.{format}
 use Rattle.theorems.proofs.OneDay.{text-append, block-text}
 
 -- ---- a 900 has one text
-
-digit-range : (b : ℕ) → isDigit b ≡ true → (48 ≤ b) × (b ≤ 57)
-unfolding isDigit
-digit-range b h = let w = and-true (leb 48 b) (leb b 57) h in (leb-true _ _ (w .0), leb-true _ _ (w .1))
 
 three : (f : List ℕ) → areAll isDigit 3 3 f ≡ true → decimal f ≡ 900 → f ≡ 57 ∷ 48 ∷ 48 ∷ []
 unfolding areAll

@@ -1,51 +1,18 @@
--- Records and fields, written out and cut again, are the same; and what was cut, written out, is the same. Assumes nothing.
-use Prim.Native.Nat.{ℕ, suc, _≤_}
+-- Records and fields, written out and cut again, are the same; and fields that were cut, written out, are the same. Assumes nothing.
+use Prim.Native.Nat.{ℕ, _≤_}
 use mathlib.Core.Path.{_≡_, refl, ap, _∙_}
-use mathlib.Core.Bool.{Bool, true, false, true≢false, _&&_}
+use mathlib.Core.Bool.{true, false, true≢false, _&&_}
 use mathlib.Core.List.{List, [], _∷_, _++_}
 use native.Mathlib.Omega.{arith}
-use lib.ListN.{length}
 use lib.Dec.{eqb, leb}
 use borrow.Author.Tests.{eqb-true, ne-eqb, leb-true}
-use Rattle.ground.specs.Lists.{all, spanOf, other}
+use Rattle.ground.specs.Lists.{all, other}
+use Rattle.ground.proofs.Tests.{and-true}
+use Rattle.ground.proofs.Cases.{by, both}
+use Rattle.ground.proofs.Digits.{all-append, all-map}
 use Rattle.format.specs.Bytes.{plain, fieldByte}
-use Rattle.format.specs.Cut.{isCrlf, Lines, line, rest, onFirst, lines, fields}
+use Rattle.format.specs.Cut.{isCrlf, line, lines, fields}
 use Rattle.theorems.specs.Grammar.{Each, join}
-use Rattle.theorems.proofs.Tests.{by, and-true, and-both}
-
--- ---- all and spanOf
-
-pub all-map : (p q : ℕ → Bool) → ((b : ℕ) → p b ≡ true → q b ≡ true) → (l : List ℕ) → all p l ≡ true → all q l ≡ true
-all-map p q f [] h = refl
-all-map p q f (b ∷ bs) h =
-    let w = and-true (p b) (all p bs) h in
-    and-both (q b) (all q bs) (f b (w .0)) (all-map p q f bs (w .1))
-
-pub all-append : (p : ℕ → Bool) (xs ys : List ℕ) → all p xs ≡ true → all p ys ≡ true → all p (xs ++ ys) ≡ true
-all-append p [] ys h k = k
-all-append p (x ∷ xs) ys h k =
-    let w = and-true (p x) (all p xs) h in
-    and-both (p x) (all p (xs ++ ys)) (w .0) (all-append p xs ys (w .1) k)
-
-pub all-span : (p : ℕ → Bool) (l : List ℕ) → all p l ≡ true → spanOf p l ≡ length l
-unfolding spanOf
-all-span p [] h = refl
-all-span p (b ∷ bs) h =
-    let w = and-true (p b) (all p bs) h in
-    rw (w .0, all-span p bs (w .1))
-
-pub span-all : (p : ℕ → Bool) (l : List ℕ) → spanOf p l ≡ length l → all p l ≡ true
-unfolding spanOf
-span-all p [] h = refl
-span-all p (b ∷ bs) h =
-    by (p b)
-    (λ e. and-both (p b) (all p bs) e (span-all p bs (let j : suc (spanOf p bs) ≡ suc (length bs) = (rw e at h) in omega arith)))
-    (λ e. absurd (let j : 0 ≡ suc (length bs) = (rw e at h) in let z : ⊥ = omega arith in z))
-
-pub span-le : (p : ℕ → Bool) (l : List ℕ) → spanOf p l ≤ length l
-unfolding spanOf
-span-le p [] = omega arith
-span-le p (b ∷ bs) = let i = span-le p bs in by (p b) (λ e. rw e (omega arith)) (λ e. rw e (omega arith))
 
 -- ---- fields
 
@@ -55,9 +22,6 @@ fields-first [] = ([], [], refl)
 fields-first (b ∷ bs) =
     let w = fields-first bs in
     by (other 44 b) (λ e. (b ∷ w .0, w .1, rw (e, w .2))) (λ e. ([], fields bs, rw e))
-
-pub fields-some : (l : List ℕ) → 1 ≤ length (fields l)
-fields-some l = let w = fields-first l in rw (w .2) (omega arith)
 
 comma : (b : ℕ) → other 44 b ≡ false → b ≡ 44
 comma b e = by (eqb b 44) (λ t. eqb-true b 44 t) (λ t. absurd (let z : true ≡ false = (rw t at e) in true≢false z))
@@ -131,34 +95,10 @@ fields-bytes (b ∷ bs) h =
     go p w ih =
         let i : Bytes (w .0 ∷ w .1) = rw (w .2) at ih in
         by (other 44 b)
-        (λ e. rw (e, w .2) (and-both (fieldByte b) (all fieldByte (w .0)) (and-both (plain b) (other 44 b) p e) (i .0), i .1))
+        (λ e. rw (e, w .2) (both (fieldByte b) (all fieldByte (w .0)) (both (plain b) (other 44 b) p e) (i .0), i .1))
         (λ e. rw e (refl, ih))
 
 -- ---- records
-
--- the bytes that were cut
-abbrev pub bytesOf : Lines → List ℕ
-bytesOf (rest t) = t
-bytesOf (line r ls) = r ++ 13 ∷ 10 ∷ bytesOf ls
-
-crlf : (b d : ℕ) → isCrlf b d ≡ true → (b ≡ 13) × (d ≡ 10)
-crlf b d e = let w = and-true (eqb b 13) (eqb d 10) e in (eqb-true b 13 (w .0), eqb-true d 10 (w .1))
-
-pub bytes-lines : (l : List ℕ) → bytesOf (lines l) ≡ l
-unfolding lines
-bytes-lines [] = refl
-bytes-lines (b ∷ []) = refl
-bytes-lines (b ∷ d ∷ bs) = go (bytes-lines bs) (bytes-lines (d ∷ bs))
-  where
-    on : (ls : Lines) → bytesOf (onFirst b ls) ≡ b ∷ bytesOf ls
-    on (rest t) = refl
-    on (line r ls) = refl
-
-    go : bytesOf (lines bs) ≡ bs → bytesOf (lines (d ∷ bs)) ≡ d ∷ bs → bytesOf (lines (b ∷ d ∷ bs)) ≡ b ∷ d ∷ bs
-    go i j =
-        by (isCrlf b d)
-        (λ e. let w = crlf b d e in rw (e, i, w .0, w .1))
-        (λ e. rw (e, on (lines (d ∷ bs)), j))
 
 cr-free : (b d : ℕ) → plain b ≡ true → isCrlf b d ≡ false
 cr-free b d h =

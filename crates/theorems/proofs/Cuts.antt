@@ -7,10 +7,10 @@ use native.Mathlib.Omega.{arith}
 use lib.ListN.{length, take}
 use lib.Seq.{take-append-add}
 use lib.Dec.{eqb}
+use Rattle.ground.proofs.Cases.{by}
 use Rattle.format.specs.Cut.{isCrlf, Lines, line, rest, onFirst, lines}
+use Rattle.format.proofs.Cut.{bytesOf, bytes-lines}
 use Rattle.theorems.specs.Places.{placeIn, placeOf, past}
-use Rattle.theorems.proofs.Tests.{by}
-use Rattle.theorems.proofs.Bytes.{bytesOf, bytes-lines}
 
 -- there are j records
 abbrev pub Has : ℕ → Lines → Type 0

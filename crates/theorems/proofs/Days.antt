@@ -8,10 +8,10 @@ use borrow.Author.Tests.{eq-eqb, ne-eqb}
 use Rattle.ground.specs.Lists.{sum}
 use Rattle.format.specs.Cut.{line, lines, fields}
 use Rattle.format.specs.Records.{intervalsIn, dateIn, valuesIn, quantityIn}
-use Rattle.format.specs.Day.{Row, DayRows, runsFrom, daysFrom, daysOf}
+use Rattle.format.specs.Day.{Row, DayRows, runsFrom, daysFrom, noChannel, daysOf}
 use Rattle.format.specs.Total.{sumFrom, totalsFrom}
 use Rattle.theorems.specs.Grammar.{Each, Record, join, text, IsRecord, Block, Extra, IsBlock, Channel, IsChannel, Reading, IsReading, Content, nem12, nem13, IsContent, blocksThen, channelsThen, readingsThen, contentThen, InFormat}
-use Rattle.theorems.specs.Days.{behind, rowsAt, blockDays, behindBlocks, channelDays, contentDays, blocksTotal, channelTotals, readingTotals, totals}
+use Rattle.theorems.specs.Days.{behind, recordAt, rowsAt, blockDays, behindBlocks, channelDays, contentDays, blocksTotal, channelTotals, readingTotals, totals}
 use Rattle.theorems.proofs.Bytes.{lines-row}
 use Rattle.theorems.proofs.Rows.{record-fields}
 use Rattle.theorems.proofs.Takes.{fields-of}
@@ -21,8 +21,8 @@ use Rattle.theorems.proofs.Takes.{fields-of}
 abbrev Runs : ℕ → List Record → List Row
 Runs p rows = runsFrom p (lines (text rows))
 
-abbrev Days : ℕ → ℕ → List Record → List DayRows
-Days p n rows = daysFrom p n (lines (text rows))
+abbrev Days : ℕ → Row → List Record → List DayRows
+Days p c rows = daysFrom p c (lines (text rows))
 
 abbrev Sum : ℕ → List Record → ℕ
 Sum n rows = sumFrom n (lines (text rows))
@@ -38,7 +38,7 @@ module _ (fs : Record) (rows : List Record) (p k n : ℕ) (h : IsRecord k n fs) 
   row-cells : fields (join fs) ≡ fs
   row-cells = fields-of fs (record-fields k n fs h) .0
 
-  run-on : k ≡ 400 → Runs p (fs ∷ rows) ≡ record { place = p; cells = fs } ∷ Runs (p + length (join fs) + 2) rows
+  run-on : k ≡ 400 → Runs p (fs ∷ rows) ≡ recordAt p fs ∷ Runs (p + length (join fs) + 2) rows
   unfolding runsFrom
   run-on z = rw (row-lines, row-cells, h .indicator, eq-eqb _ _ z)
 
@@ -46,18 +46,19 @@ module _ (fs : Record) (rows : List Record) (p k n : ℕ) (h : IsRecord k n fs) 
   unfolding runsFrom
   run-stop z = rw (row-lines, row-cells, h .indicator, ne-eqb _ _ z)
 
-  day-on : (m : ℕ) → k ≡ 300 → Days p m (fs ∷ rows)
-      ≡ record { n = m; top = record { place = p; cells = fs }; runs = Runs (p + length (join fs) + 2) rows } ∷ Days (p + length (join fs) + 2) m rows
+  day-on : (c : Row) → k ≡ 300 → Days p c (fs ∷ rows)
+      ≡ record { channel = c; block = record { n = intervalsIn (c .cells); top = recordAt p fs; runs = Runs (p + length (join fs) + 2) rows } }
+      ∷ Days (p + length (join fs) + 2) c rows
   unfolding daysFrom
-  day-on m z = rw (row-lines, row-cells, h .indicator, eq-eqb _ _ z)
+  day-on c z = rw (row-lines, row-cells, h .indicator, eq-eqb _ _ z)
 
-  day-skip : (m : ℕ) → (k ≡ 300 → ⊥) → (k ≡ 200 → ⊥) → Days p m (fs ∷ rows) ≡ Days (p + length (join fs) + 2) m rows
+  day-skip : (c : Row) → (k ≡ 300 → ⊥) → (k ≡ 200 → ⊥) → Days p c (fs ∷ rows) ≡ Days (p + length (join fs) + 2) c rows
   unfolding daysFrom
-  day-skip m z y = rw (row-lines, row-cells, h .indicator, ne-eqb _ _ z, ne-eqb _ _ y)
+  day-skip c z y = rw (row-lines, row-cells, h .indicator, ne-eqb _ _ z, ne-eqb _ _ y)
 
-  day-channel : (m : ℕ) → k ≡ 200 → Days p m (fs ∷ rows) ≡ Days (p + length (join fs) + 2) (intervalsIn fs) rows
+  day-channel : (c : Row) → k ≡ 200 → Days p c (fs ∷ rows) ≡ Days (p + length (join fs) + 2) (recordAt p fs) rows
   unfolding daysFrom
-  day-channel m z = rw (row-lines, row-cells, h .indicator, ne-eqb k 300 (λ y. omega arith), eq-eqb _ _ z)
+  day-channel c z = rw (row-lines, row-cells, h .indicator, ne-eqb k 300 (λ y. omega arith), eq-eqb _ _ z)
 
   sum-on : (m : ℕ) → k ≡ 300 → Sum m (fs ∷ rows) ≡ sum (valuesIn m fs) + Sum m rows
   unfolding sumFrom
@@ -92,12 +93,12 @@ behind-append p (r ∷ rs) xs = behind-append (p + length (join r) + 2) rs xs
 runs-of : (p : ℕ) (rs rows : List Record) → Each (IsRecord 400 0) rs → ((q : ℕ) → Runs q rows ≡ []) → Runs p (rs ++ rows) ≡ rowsAt p rs
 runs-of p [] rows h s = s p
 runs-of p (r ∷ rs) rows h s =
-    run-on r (rs ++ rows) p 400 0 (h .0) refl ∙ ap (λ (x : List Row). record { place = p; cells = r } ∷ x) (runs-of (p + length (join r) + 2) rs rows (h .1) s)
+    run-on r (rs ++ rows) p 400 0 (h .0) refl ∙ ap (λ (x : List Row). recordAt p r ∷ x) (runs-of (p + length (join r) + 2) rs rows (h .1) s)
 
 -- records of a kind that says nothing of days
-skip-days : (p n k : ℕ) (rs rows : List Record) → (k ≡ 300 → ⊥) → (k ≡ 200 → ⊥) → Each (IsRecord k 0) rs → Days p n (rs ++ rows) ≡ Days (behind p rs) n rows
-skip-days p n k [] rows y z h = refl
-skip-days p n k (r ∷ rs) rows y z h = day-skip r (rs ++ rows) p k 0 (h .0) n y z ∙ skip-days (p + length (join r) + 2) n k rs rows y z (h .1)
+skip-days : (p k : ℕ) (c : Row) (rs rows : List Record) → (k ≡ 300 → ⊥) → (k ≡ 200 → ⊥) → Each (IsRecord k 0) rs → Days p c (rs ++ rows) ≡ Days (behind p rs) c rows
+skip-days p k c [] rows y z h = refl
+skip-days p k c (r ∷ rs) rows y z h = day-skip r (rs ++ rows) p k 0 (h .0) c y z ∙ skip-days (p + length (join r) + 2) k c rs rows y z (h .1)
 
 pub extras-500 : (t : ℕ) (xs : List Record) → Each (Extra t) xs → Each (IsRecord 500 0) xs
 extras-500 t [] h = tt
@@ -116,48 +117,49 @@ stop-channels : (cs : List Channel) (rows : List Record) → Each IsChannel cs �
 stop-channels [] rows h s q = s q
 stop-channels (c ∷ cs) rows h s q = run-stop (c .head) (blocksThen (c .blocks) (channelsThen cs rows)) q 200 0 (h .0 .head) (λ z. omega arith)
 
-days-blocks : (p n : ℕ) (bs : List Block) (rows : List Record) → Each (IsBlock n) bs → ((q : ℕ) → Runs q rows ≡ [])
-    → Days p n (blocksThen bs rows) ≡ blockDays p n bs ++ Days (behindBlocks p bs) n rows
-days-blocks p n [] rows h s = refl
-days-blocks p n (b ∷ bs) rows h s =
+days-blocks : (p : ℕ) (c : Row) (bs : List Block) (rows : List Record) → Each (IsBlock (intervalsIn (c .cells))) bs → ((q : ℕ) → Runs q rows ≡ [])
+    → Days p c (blocksThen bs rows) ≡ blockDays p c bs ++ Days (behindBlocks p bs) c rows
+days-blocks p c [] rows h s = refl
+days-blocks p c (b ∷ bs) rows h s =
+    let n : ℕ = intervalsIn (c .cells) in
     let more : List Record = blocksThen bs rows in
     let g = h .0 in
     let q : ℕ = p + length (join (b .top)) + 2 in
     let r : Runs q (b .runs ++ (b .extra ++ more)) ≡ rowsAt q (b .runs) =
     runs-of q (b .runs) (b .extra ++ more) (g .runs) (stop-extras (dateIn (b .top)) (b .extra) more (g .extra) (stop-blocks n bs rows (h .1) s)) in
-    let d : Days q n (b .runs ++ (b .extra ++ more)) ≡ blockDays (behind q (b .runs ++ b .extra)) n bs ++ Days (behindBlocks (behind q (b .runs ++ b .extra)) bs) n rows =
-    skip-days q n 400 (b .runs) (b .extra ++ more) (λ z. omega arith) (λ z. omega arith) (g .runs)
-    ∙ skip-days (behind q (b .runs)) n 500 (b .extra) more (λ z. omega arith) (λ z. omega arith) (extras-500 (dateIn (b .top)) (b .extra) (g .extra))
-    ∙ rw (← behind-append q (b .runs) (b .extra)) (days-blocks (behind q (b .runs ++ b .extra)) n bs rows (h .1) s) in
-    day-on (b .top) (b .runs ++ (b .extra ++ more)) p 300 n (g .top) n refl ∙ rw (r, d)
+    let d : Days q c (b .runs ++ (b .extra ++ more)) ≡ blockDays (behind q (b .runs ++ b .extra)) c bs ++ Days (behindBlocks (behind q (b .runs ++ b .extra)) bs) c rows =
+    skip-days q 400 c (b .runs) (b .extra ++ more) (λ z. omega arith) (λ z. omega arith) (g .runs)
+    ∙ skip-days (behind q (b .runs)) 500 c (b .extra) more (λ z. omega arith) (λ z. omega arith) (extras-500 (dateIn (b .top)) (b .extra) (g .extra))
+    ∙ rw (← behind-append q (b .runs) (b .extra)) (days-blocks (behind q (b .runs ++ b .extra)) c bs rows (h .1) s) in
+    day-on (b .top) (b .runs ++ (b .extra ++ more)) p 300 n (g .top) c refl ∙ rw (r, d)
 
-days-channels : (p n : ℕ) (cs : List Channel) (rows : List Record) → Each IsChannel cs → ((q : ℕ) → Runs q rows ≡ []) → ((q m : ℕ) → Days q m rows ≡ [])
-    → Days p n (channelsThen cs rows) ≡ channelDays p cs
-days-channels p n [] rows h s z = z p n
-days-channels p n (c ∷ cs) rows h s z =
+days-channels : (p : ℕ) (d : Row) (cs : List Channel) (rows : List Record) → Each IsChannel cs → ((q : ℕ) → Runs q rows ≡ []) → ((q : ℕ) (e : Row) → Days q e rows ≡ [])
+    → Days p d (channelsThen cs rows) ≡ channelDays p cs
+days-channels p d [] rows h s z = z p d
+days-channels p d (c ∷ cs) rows h s z =
     let g = h .0 in
     let q : ℕ = p + length (join (c .head)) + 2 in
-    let m : ℕ = intervalsIn (c .head) in
-    day-channel (c .head) (blocksThen (c .blocks) (channelsThen cs rows)) p 200 0 (g .head) n refl
+    let m : Row = recordAt p (c .head) in
+    day-channel (c .head) (blocksThen (c .blocks) (channelsThen cs rows)) p 200 0 (g .head) d refl
     ∙ days-blocks q m (c .blocks) (channelsThen cs rows) (g .blocks) (stop-channels cs rows (h .1) s)
     ∙ ap (λ (x : List DayRows). blockDays q m (c .blocks) ++ x) (days-channels (behindBlocks q (c .blocks)) m cs rows (h .1) s z)
 
-none-readings : (n : ℕ) (rs : List Reading) (rows : List Record) → Each IsReading rs → ((q : ℕ) → Days q n rows ≡ []) → (q : ℕ) → Days q n (readingsThen rs rows) ≡ []
-none-readings n [] rows h z q = z q
-none-readings n (r ∷ rs) rows h z q =
-    day-skip (r .head) (r .codes ++ readingsThen rs rows) q 250 0 (h .0 .head) n (λ y. omega arith) (λ y. omega arith)
-    ∙ skip-days (q + length (join (r .head)) + 2) n 550 (r .codes) (readingsThen rs rows) (λ y. omega arith) (λ y. omega arith) (h .0 .codes)
-    ∙ none-readings n rs rows (h .1) z (behind (q + length (join (r .head)) + 2) (r .codes))
+none-readings : (c : Row) (rs : List Reading) (rows : List Record) → Each IsReading rs → ((q : ℕ) → Days q c rows ≡ []) → (q : ℕ) → Days q c (readingsThen rs rows) ≡ []
+none-readings c [] rows h z q = z q
+none-readings c (r ∷ rs) rows h z q =
+    day-skip (r .head) (r .codes ++ readingsThen rs rows) q 250 0 (h .0 .head) c (λ y. omega arith) (λ y. omega arith)
+    ∙ skip-days (q + length (join (r .head)) + 2) 550 c (r .codes) (readingsThen rs rows) (λ y. omega arith) (λ y. omega arith) (h .0 .codes)
+    ∙ none-readings c rs rows (h .1) z (behind (q + length (join (r .head)) + 2) (r .codes))
 
 -- ---- the days
 
-end-days : (l : Record) → IsRecord 900 0 l → (q m : ℕ) → Days q m (l ∷ []) ≡ []
+end-days : (l : Record) → IsRecord 900 0 l → (q : ℕ) (c : Row) → Days q c (l ∷ []) ≡ []
 unfolding daysFrom lines text
-end-days l h q m = day-skip l [] q 900 0 h m (λ z. omega arith) (λ z. omega arith)
+end-days l h q c = day-skip l [] q 900 0 h c (λ z. omega arith) (λ z. omega arith)
 
-content-days : (p : ℕ) (x : Content) (v : ℕ) (l : Record) → IsContent v x → IsRecord 900 0 l → Days p 0 (contentThen x (l ∷ [])) ≡ contentDays p x
-content-days p (nem12 cs) v l g h = days-channels p 0 cs (l ∷ []) (g .2) (λ q. run-stop l [] q 900 0 h (λ z. omega arith)) (end-days l h)
-content-days p (nem13 rs) v l g h = none-readings 0 rs (l ∷ []) (g .2) (λ q. end-days l h q 0) p
+content-days : (p : ℕ) (x : Content) (v : ℕ) (l : Record) → IsContent v x → IsRecord 900 0 l → Days p noChannel (contentThen x (l ∷ [])) ≡ contentDays p x
+content-days p (nem12 cs) v l g h = days-channels p noChannel cs (l ∷ []) (g .2) (λ q. run-stop l [] q 900 0 h (λ z. omega arith)) (end-days l h)
+content-days p (nem13 rs) v l g h = none-readings noChannel rs (l ∷ []) (g .2) (λ q. end-days l h q noChannel) p
 
 pub days : (file : List ℕ) (v c d : ℕ) (h : InFormat file v c d) → daysOf file ≡ contentDays (length (join (h .header)) + 2) (h .content)
 unfolding daysOf
@@ -165,7 +167,7 @@ days file v c d h =
     let q : ℕ = 0 + length (join (h .header)) + 2 in
     let z : q ≡ length (join (h .header)) + 2 = omega arith in
     rw (h .bytes, ← z)
-    (day-skip (h .header) (contentThen (h .content) (h .last ∷ [])) 0 100 0 (h .is-header) 0 (λ y. omega arith) (λ y. omega arith)
+    (day-skip (h .header) (contentThen (h .content) (h .last ∷ [])) 0 100 0 (h .is-header) noChannel (λ y. omega arith) (λ y. omega arith)
     ∙ content-days q (h .content) v (h .last) (h .is-content) (h .is-last))
 
 -- ---- totals

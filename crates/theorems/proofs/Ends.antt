@@ -11,6 +11,10 @@ use borrow.Author.Tests.{eqb-true, ne-eqb, leb-true, not-true, not-false}
 use Rattle.ground.specs.Lists.{all, spanOf, other, same}
 use Rattle.ground.specs.Text.{bytes}
 use Rattle.ground.specs.Digits.{isDigit}
+use Rattle.ground.proofs.Same.{same-sound}
+use Rattle.ground.proofs.Tests.{and-true, or-other}
+use Rattle.ground.proofs.Cases.{by, both}
+use Rattle.ground.proofs.Digits.{digit-not, all-map}
 use Rattle.format.specs.Bytes.{isCapital, isLetter, isAlnum, endSpace, isText, areAll}
 use Rattle.format.specs.Texts.{isNmi, isSuffix, isStream, isParty, isConfiguration, isRegister, isSerial, isUnit, isServiceOrder, isDescription, isDirection, isTransCode, versionOf}
 use Rattle.format.specs.Numbers.{isNumber, numberIn, that, orEmpty, numberOf, smallOf, leadingZero, intervalOf, lengthOf, isLength, noReason, reasonOf, point, before, behind, times, fractionOf, amount, decimals, valueOf, areDigits, isRead, isIndexRead}
@@ -24,8 +28,6 @@ use Rattle.format.specs.declared.Graded.the-variants.{Of}
 use Rattle.format.specs.declared.Rule.{Rule}
 use Rattle.format.specs.declared.Rule.the-variants.{Indicator, Version, Created, Party, Nmi, Configuration, Register, Suffix, Stream, Serial, Unit, Length, NextRead, Date, Value, Quality, Reason, Description, Time, Load, Interval, TransCode, ServiceOrder, ReadTime, IndexRead, Direction, RegisterRead}
 use Rattle.theorems.specs.Grammar.{Each}
-use Rattle.theorems.proofs.Tests.{by, and-true, and-both, or-true}
-use Rattle.theorems.proofs.Bytes.{all-map}
 
 -- ---- lists without a space
 
@@ -58,16 +60,15 @@ all-point q (b ∷ s) h k p =
     let u : (q b && all q (before s)) ≡ true = rw e at h in
     let v : all q (drop (suc (spanOf (other 46) s) + 1) (b ∷ s)) ≡ true = rw e at k in
     let w : all q (drop (suc (spanOf (other 46) s)) s) ≡ true = rw add-one at v in
-    and-both (q b) (all q s) (and-true (q b) (all q (before s)) u .0) (all-point q s (and-true (q b) (all q (before s)) u .1) (rw add-one w) p))
+    both (q b) (all q s) (and-true (q b) (all q (before s)) u .0) (all-point q s (and-true (q b) (all q (before s)) u .1) (rw add-one w) p))
     (λ e.
     let w : all q s ≡ true = rw e at k in
-    and-both (q b) (all q s) (rw (eqb-true b 46 (not-false _ e)) p) w)
+    both (q b) (all q s) (rw (eqb-true b 46 (not-false _ e)) p) w)
 
 -- ---- kinds of bytes
 
 digit-byte : (b : ℕ) → isDigit b ≡ true → other 32 b ≡ true
-unfolding isDigit
-digit-byte b h = let k : 48 ≤ b = leb-true 48 b (and-true (leb 48 b) (leb b 57) h .0) in rw (ne-eqb b 32 (λ e. omega arith))
+digit-byte b h = digit-not 32 b (omega arith) h
 
 letter-byte : (b : ℕ) → isLetter b ≡ true → other 32 b ≡ true
 unfolding isLetter isCapital
@@ -75,7 +76,7 @@ letter-byte b h = by (eqb b 32) (λ e. absurd (let z : false ≡ true = (rw (eqb
 
 alnum-byte : (b : ℕ) → isAlnum b ≡ true → other 32 b ≡ true
 unfolding isAlnum
-alnum-byte b h = by (isDigit b) (λ e. digit-byte b e) (λ e. letter-byte b (or-true (isDigit b) (isLetter b) h e))
+alnum-byte b h = by (isDigit b) (λ e. digit-byte b e) (λ e. letter-byte b (or-other (isDigit b) (isLetter b) h e))
 
 capital-byte : (b : ℕ) → isCapital b ≡ true → other 32 b ≡ true
 unfolding isCapital
@@ -92,17 +93,6 @@ module _ (p : ℕ → Bool) (q : (b : ℕ) → p b ≡ true → other 32 b ≡ t
 text-tidy : (a b : ℕ) (s : List ℕ) → isText a b s ≡ true → endSpace s ≡ false
 unfolding isText
 text-tidy a b s h = not-true _ (and-true (leb a (length s) && leb (length s) b) (not (endSpace s)) h .1)
-
-pub same-true : (s w : List ℕ) → same s w ≡ true → s ≡ w
-unfolding same
-same-true [] [] h = refl
-same-true [] (y ∷ w) h = absurd (false≢true h)
-same-true (x ∷ s) [] h = absurd (false≢true h)
-same-true (x ∷ s) (y ∷ w) h =
-    let u = and-true (eqb x y) (same s w) h in
-    let e : x ≡ y = eqb-true x y (u .0) in
-    let f : s ≡ w = same-true s w (u .1) in
-    cc
 
 -- ---- numbers
 
@@ -198,12 +188,12 @@ quality-tidy k (b ∷ s) h =
     (λ e.
     let u : isGraded (cond (eqb (length (b ∷ s)) 1) (Of b noMethod) Graded.Bad) ≡ true = rw e at h in
     by (eqb (length (b ∷ s)) 1)
-    (λ f. and-both (other 32 b) (all (other 32) s) (alone-byte k b e) (single s (eqb-true _ _ f)))
+    (λ f. both (other 32 b) (all (other 32) s) (alone-byte k b e) (single s (eqb-true _ _ f)))
     (λ f. absurd (let z : false ≡ true = (rw f at u) in false≢true z)))
     (λ e.
     let u : isGraded (cond (takesMethod b) (withMethod b (numberOf 2 2 s)) Graded.Bad) ≡ true = rw e at h in
     by (takesMethod b)
-    (λ f. and-both (other 32 b) (all (other 32) s) (method-byte b f)
+    (λ f. both (other 32 b) (all (other 32) s) (method-byte b f)
     (all-map isDigit (other 32) digit-byte s (number-digits 2 2 s (with-number b (numberOf 2 2 s) (rw f at u)))))
     (λ f. absurd (let z : false ≡ true = (rw f at u) in false≢true z))))
   where
@@ -219,8 +209,8 @@ Tidy u = (k : ℕ) (f : List ℕ) → obeys k u f ≡ true → endSpace f ≡ fa
 version : Tidy Version
 unfolding obeys versionOf endSpace
 version k f h =
-    by (same f (bytes "NEM12")) (λ e. rw (same-true f (bytes "NEM12") e))
-    (λ e. by (same f (bytes "NEM13")) (λ g. rw (same-true f (bytes "NEM13") g)) (λ g. absurd (let z : false ≡ true = (rw (e, g) at h) in false≢true z)))
+    by (same f (bytes "NEM12")) (λ e. rw (same-sound f (bytes "NEM12") e))
+    (λ e. by (same f (bytes "NEM13")) (λ g. rw (same-sound f (bytes "NEM13") g)) (λ g. absurd (let z : false ≡ true = (rw (e, g) at h) in false≢true z)))
 
 created : Tidy Created
 unfolding obeys createdOf
@@ -248,7 +238,7 @@ suffix k f h = are-tidy isAlnum alnum-byte f 2 2 h
 
 stream : Tidy Stream
 unfolding obeys isStream isSuffix
-stream k f h = by (eqb (length f) 0) (λ e. empty f e) (λ e. are-tidy isAlnum alnum-byte f 2 2 (or-true (eqb (length f) 0) (isSuffix f) h e))
+stream k f h = by (eqb (length f) 0) (λ e. empty f e) (λ e. are-tidy isAlnum alnum-byte f 2 2 (or-other (eqb (length f) 0) (isSuffix f) h e))
 
 serial : Tidy Serial
 unfolding obeys isSerial
@@ -312,14 +302,14 @@ read-time k f h = empty-tidy 0 timeOf f (time-tidy f) h
 
 index-read : Tidy IndexRead
 unfolding obeys isIndexRead
-index-read k f h = by (eqb (length f) 0) (λ e. empty f e) (λ e. read-tidy f (or-true (eqb (length f) 0) (isRead f) h e))
+index-read k f h = by (eqb (length f) 0) (λ e. empty f e) (λ e. read-tidy f (or-other (eqb (length f) 0) (isRead f) h e))
 
 direction : Tidy Direction
 unfolding obeys isDirection endSpace
 direction k f h =
     by (same f (bytes "I"))
-    (λ e. rw (same-true f (bytes "I") e))
-    (λ e. rw (same-true f (bytes "E") (or-true (same f (bytes "I")) (same f (bytes "E")) h e)))
+    (λ e. rw (same-sound f (bytes "I") e))
+    (λ e. rw (same-sound f (bytes "E") (or-other (same f (bytes "I")) (same f (bytes "E")) h e)))
 
 register-read : Tidy RegisterRead
 unfolding obeys

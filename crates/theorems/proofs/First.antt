@@ -6,22 +6,20 @@ use mathlib.Core.Logic.{_↔_, _⊎_, inl, inr}
 use mathlib.Core.List.{List, [], _∷_}
 use native.Mathlib.Omega.{arith}
 use lib.ListN.{length, length-append}
-use lib.Dec.{eqb, ltb}
+use lib.Dec.{ltb}
 use borrow.Author.Tests.{eq-eqb, ne-eqb, lt-ltb, ltb-true, ltb-false}
+use Rattle.ground.proofs.Cases.{by}
 use Rattle.format.specs.Cut.{Lines, line, rest, lines}
 use Rattle.format.specs.Order.{Due, begun}
 use Rattle.format.specs.Answers.{Answer, accepted, refused}
-use Rattle.format.specs.Faults.{faultOf}
-use Rattle.format.specs.File.{after, orGoOn, walkOf, checkOf}
-use Rattle.format.specs.declared.Fault.{Fault}
-use Rattle.format.specs.declared.Fault.the-variants.{Fine, Stop}
+use Rattle.format.specs.File.{after, walkOf, checkOf}
+use Rattle.format.proofs.Cut.{bytesOf, bytes-lines}
+use Rattle.passing.proofs.Walk.{file-passes, of-walk}
 use Rattle.theorems.specs.Grammar.{InFormat}
 use Rattle.theorems.specs.Places.{placeIn, placeOf, past, stateIn, stateAt}
 use Rattle.theorems.specs.First.{Clear, Given, too-long, no-end, at-fault, behind-end}
-use Rattle.theorems.proofs.Tests.{by}
-use Rattle.theorems.proofs.Bytes.{bytesOf, bytes-lines}
 use Rattle.theorems.proofs.Cuts.{Has}
-use Rattle.theorems.proofs.Format.{walk-of, of-walk, format}
+use Rattle.theorems.proofs.Format.{format}
 use Rattle.theorems.proofs.Links.{fault-first, none-fine, first-fault}
 use Rattle.theorems.proofs.Reach.{Why, unfinished, faulty, trailing, Refusal, refusal-in}
 
@@ -100,37 +98,15 @@ first file x q k i = (refused-given file x q k i, given-refused file x q k i)
 
 -- ---- every file is one or the other
 
-not-accepted : {A : Type 0} (x q k i : ℕ) (xs : List ℕ) → refused x q k i ≡ accepted xs → A
-not-accepted x q k i xs e = absurd (let z : true ≡ false = cc in true≢false z)
-
--- what is accepted is answered by three numbers
-walk-three : (ls : Lines) (st : Due) (p k : ℕ) (xs : List ℕ) → walkOf st p k ls ≡ accepted xs → (v c d : ℕ) × (xs ≡ v ∷ c ∷ d ∷ [])
-unfolding walkOf
-walk-three (rest t) st p k xs e =
-    by (eqb (st .expect) 9)
-    (λ s. by (eqb (length t) 0)
-    (λ b. (st .version, st .channels, st .days, let y : accepted (st .version ∷ st .channels ∷ st .days ∷ []) ≡ accepted xs = (rw (s, b) at e) in let z : xs ≡ st .version ∷ st .channels ∷ st .days ∷ [] = cc in z))
-    (λ b. not-accepted 13 p k 0 xs (rw (s, b) at e)))
-    (λ s. not-accepted 2 p k 0 xs (rw s at e))
-walk-three (line r ls) st p k xs e =
-    by (eqb (st .expect) 9)
-    (λ s. not-accepted 13 p k 0 xs (rw s at e))
-    (λ s. go (faultOf st r) (rw s at e) (λ h. walk-three ls (after st r) (p + length r + 2) (k + 1) xs h))
-  where
-    go : (f : Fault) → orGoOn p k f (walkOf (after st r) (p + length r + 2) (k + 1) ls) ≡ accepted xs
-        → (walkOf (after st r) (p + length r + 2) (k + 1) ls ≡ accepted xs → (v c d : ℕ) × (xs ≡ v ∷ c ∷ d ∷ [])) → (v c d : ℕ) × (xs ≡ v ∷ c ∷ d ∷ [])
-    go Fine h ih = ih h
-    go (Stop x o i) h ih = not-accepted x (p + o) k i xs h
-
 -- a file is in the format, or a refusal is given to it
 pub either : (file : List ℕ) → ((v c d : ℕ) × InFormat file v c d) ⊎ ((x q k i : ℕ) × Given file x q k i)
 either file = go (checkOf file) refl
   where
     go : (a : Answer) → checkOf file ≡ a → ((v c d : ℕ) × InFormat file v c d) ⊎ ((x q k i : ℕ) × Given file x q k i)
     go (accepted xs) e =
-        let w = walk-of file (accepted xs) e (λ z. (let y : true ≡ false = cc in true≢false y)) in
-        let u = walk-three (lines file) begun 0 0 xs (w .1) in
-        inl (u .0, u .1, u .2, format file (u .0) (u .1) (u .2) .0 (e ∙ ap accepted (u .3)))
+        let w = file-passes file xs e in
+        let u = w .end in
+        inl (u .version, u .channels, u .days, format file (u .version) (u .channels) (u .days) .0 (e ∙ ap accepted (w .answer)))
     go (refused x q k i) e = inr (x, q, k, i, refused-given file x q k i e)
 
 -- and not both

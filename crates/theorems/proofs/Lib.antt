@@ -1,10 +1,9 @@
-pub mod Tests
 pub mod Bytes
 pub mod Ends
 pub mod Across
 pub mod Rows
 pub mod Says
-pub mod Fit
+pub mod Apart
 pub mod Told
 pub mod Takes
 pub mod Format

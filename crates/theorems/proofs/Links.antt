@@ -10,6 +10,9 @@ use lib.Seq.{getD-take}
 use lib.Dec.{eqb, leb, ltb}
 use borrow.Author.Tests.{eqb-true, eqb-false, eq-eqb, ne-eqb, le-leb, leb-true, ltb-true, ltb-false, not-true, not-false}
 use Rattle.ground.specs.Lists.{all, spanOf}
+use Rattle.ground.proofs.Tests.{and-true}
+use Rattle.ground.proofs.Cases.{by}
+use Rattle.ground.proofs.Spans.{spanned-all, span-le}
 use Rattle.format.specs.Bytes.{plain}
 use Rattle.format.specs.Cut.{fields, field, startOf}
 use Rattle.format.specs.Records.{kindIn, countOf, ruleOf, obeys, dateIn, firstIn, lastIn, readTimeIn, qualitiesOf, markAt, agrees, firstBroken}
@@ -19,8 +22,6 @@ use Rattle.format.specs.declared.Fault.{Fault}
 use Rattle.format.specs.declared.Fault.the-variants.{Fine, Stop}
 use Rattle.theorems.specs.Grammar.{Record, Together}
 use Rattle.theorems.specs.First.{Entry, Leftmost, entry3, entry10, entry4, entry5, entry6, entry7, entry8, entry9, entry11, entry12, inOrder, Never, None, First}
-use Rattle.theorems.proofs.Tests.{by, and-true}
-use Rattle.theorems.proofs.Bytes.{span-all, span-le}
 use Rattle.theorems.proofs.Ends.{all-at}
 use Rattle.theorems.proofs.Across.{agrees-together, together-agrees}
 
@@ -63,7 +64,7 @@ link-3 r =
     (λ t. let l = ltb-true _ _ t in (l, span-take plain r, span-fails plain r l, refl))
     (λ t o i g.
     let l : length r ≤ spanOf plain r = ltb-false _ _ t in
-    let w : plain (getD r o 0) ≡ true = all-at plain r o (span-all plain r (omega (arith, span-le plain r))) (g .0) in
+    let w : plain (getD r o 0) ≡ true = all-at plain r o (spanned-all plain r (omega (arith, span-le plain r))) (g .0) in
     true≢false (sym w ∙ g .2))
 
 module _ (st : Due) (k n : ℕ) (fs : Record) where

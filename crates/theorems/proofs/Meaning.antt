@@ -7,6 +7,7 @@ use mathlib.Core.List.{List, [], _∷_, _++_, map}
 use native.Mathlib.Omega.{arith}
 use lib.ListN.{length, getD, take, drop, replicate, length-append, length-take, length-drop, length-map, length-replicate, getD-replicate, List·getD-append}
 use lib.Seq.{getD-append-add}
+use Rattle.ground.proofs.Cases.{by}
 use Rattle.format.specs.Cut.{lines}
 use Rattle.format.specs.Quality.{Mark, noMark}
 use Rattle.format.specs.Records.{rowOf, intervalsIn, millionths, valuesIn, firstIn, lastIn, markAt, markIn}
@@ -14,8 +15,7 @@ use Rattle.format.specs.Order.{isVaried}
 use Rattle.format.specs.Day.{Row, DayRows, daysOf, coverOf, eachOf, valuesOf, marksOf, Day, dayOf}
 use Rattle.format.specs.Total.{totalsFrom}
 use Rattle.theorems.specs.Grammar.{Each, Record, join, Block, Covers, Marked, IsBlock, Channel, Reading, Content, nem12, nem13, channelsIn, blocksIn, daysIn, InFormat}
-use Rattle.theorems.specs.Days.{behind, rowsAt, rowsOf, dayAt, blockDays, behindBlocks, channelDays, contentDays, dayIn, blockMeanings, channelMeanings, meanings, channelTotals, readingTotals, totals}
-use Rattle.theorems.proofs.Tests.{by}
+use Rattle.theorems.specs.Days.{behind, recordAt, rowsAt, rowsOf, blockAt, blockDays, behindBlocks, channelDays, contentDays, dayIn, meant, blockMeanings, channelMeanings, meanings, channelTotals, readingTotals, totals}
 use Rattle.theorems.proofs.Rows.{meets-length}
 use Rattle.theorems.proofs.Days.{days, channel-totals}
 use Rattle.theorems.proofs.Once.{row-length}
@@ -31,45 +31,45 @@ cover-anywhere p q [] = refl
 cover-anywhere p q (r ∷ rs) =
     ap (λ (ms : List Mark). replicate (lastIn r + 1 - firstIn r) (markIn r) ++ ms) (cover-anywhere (p + length (join r) + 2) (q + length (join r) + 2) rs)
 
-pub day-anywhere : (p n : ℕ) (b : Block) → dayOf (dayAt p n b) ≡ dayIn n b
+pub day-anywhere : (p n : ℕ) (b : Block) → dayOf (blockAt p n b) ≡ dayIn n b
 unfolding dayIn dayOf marksOf eachOf valuesOf
 day-anywhere p n b = rw (cover-anywhere (p + length (join (b .top)) + 2) (0 + length (join (b .top)) + 2) (b .runs))
 
-map-append : (xs ys : List DayRows) → map dayOf (xs ++ ys) ≡ map dayOf xs ++ map dayOf ys
+map-append : (xs ys : List DayRows) → map meant (xs ++ ys) ≡ map meant xs ++ map meant ys
 map-append [] ys = refl
-map-append (x ∷ xs) ys = ap (λ (ds : List Day). dayOf x ∷ ds) (map-append xs ys)
+map-append (x ∷ xs) ys = ap (λ (ds : List Day). meant x ∷ ds) (map-append xs ys)
 
-block-meanings : (p n : ℕ) (bs : List Block) → map dayOf (blockDays p n bs) ≡ blockMeanings n bs
-block-meanings p n [] = refl
-block-meanings p n (b ∷ bs) = rw (day-anywhere p n b, block-meanings (behind p (rowsOf b)) n bs)
+block-meanings : (p : ℕ) (c : Row) (bs : List Block) → map meant (blockDays p c bs) ≡ blockMeanings (intervalsIn (c .cells)) bs
+block-meanings p c [] = refl
+block-meanings p c (b ∷ bs) = rw (day-anywhere p (intervalsIn (c .cells)) b, block-meanings (behind p (rowsOf b)) c bs)
 
-channel-meanings : (p : ℕ) (cs : List Channel) → map dayOf (channelDays p cs) ≡ channelMeanings cs
+channel-meanings : (p : ℕ) (cs : List Channel) → map meant (channelDays p cs) ≡ channelMeanings cs
 channel-meanings p [] = refl
 channel-meanings p (c ∷ cs) =
     let q : ℕ = p + length (join (c .head)) + 2 in
-    let n : ℕ = intervalsIn (c .head) in
+    let n : Row = recordAt p (c .head) in
     map-append (blockDays q n (c .blocks)) (channelDays (behindBlocks q (c .blocks)) cs)
     ∙ rw (block-meanings q n (c .blocks), channel-meanings (behindBlocks q (c .blocks)) cs)
 
-content-meanings : (p : ℕ) (x : Content) → map dayOf (contentDays p x) ≡ meanings x
+content-meanings : (p : ℕ) (x : Content) → map meant (contentDays p x) ≡ meanings x
 content-meanings p (nem12 cs) = channel-meanings p cs
 content-meanings p (nem13 rs) = refl
 
 -- the days of a file mean what the blocks of its structure mean, in order
-pub meaning : (file : List ℕ) (v c d : ℕ) (h : InFormat file v c d) → map dayOf (daysOf file) ≡ meanings (h .content)
-meaning file v c d h = ap (map dayOf) (days file v c d h) ∙ content-meanings (length (join (h .header)) + 2) (h .content)
+pub meaning : (file : List ℕ) (v c d : ℕ) (h : InFormat file v c d) → map meant (daysOf file) ≡ meanings (h .content)
+meaning file v c d h = ap (map meant) (days file v c d h) ∙ content-meanings (length (join (h .header)) + 2) (h .content)
 
 -- ---- as many as the check answers
 
-block-count : (p n : ℕ) (bs : List Block) → length (blockDays p n bs) ≡ length bs
-block-count p n [] = refl
-block-count p n (b ∷ bs) = ap suc (block-count (behind p (rowsOf b)) n bs)
+block-count : (p : ℕ) (c : Row) (bs : List Block) → length (blockDays p c bs) ≡ length bs
+block-count p c [] = refl
+block-count p c (b ∷ bs) = ap suc (block-count (behind p (rowsOf b)) c bs)
 
 channel-count : (p : ℕ) (cs : List Channel) → length (channelDays p cs) ≡ blocksIn cs
 channel-count p [] = refl
 channel-count p (c ∷ cs) =
     let q : ℕ = p + length (join (c .head)) + 2 in
-    let n : ℕ = intervalsIn (c .head) in
+    let n : Row = recordAt p (c .head) in
     let ds = blockDays q n (c .blocks) in
     let es = channelDays (behindBlocks q (c .blocks)) cs in
     omega (arith, length-append ds es, block-count q n (c .blocks), channel-count (behindBlocks q (c .blocks)) cs)

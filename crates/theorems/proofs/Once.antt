@@ -4,12 +4,11 @@ use mathlib.Core.Path.{_≡_, refl, sym, ap, _∙_, subst}
 use mathlib.Core.Logic.{_≢_}
 use mathlib.Core.List.{List, [], _∷_, _++_, append-nil}
 use native.Mathlib.Omega.{arith}
-use lib.ListN.{length, length-append, replicate, length-replicate}
+use lib.ListN.{length}
 use Rattle.format.specs.Cut.{Lines, line, rest, lines, fields}
-use Rattle.format.specs.Records.{kindIn, versionIn, intervalsIn, dateIn, rowOf}
+use Rattle.format.specs.Records.{kindIn, versionIn, intervalsIn, dateIn, rowOf, countOf}
 use Rattle.format.specs.Day.{Day}
-use Rattle.format.specs.declared.Rule.{Rule}
-use Rattle.format.specs.declared.Rule.the-variants.{Value, Quality, Reason, Description, Time, Load}
+use Rattle.passing.proofs.Days.{count-300}
 use Rattle.theorems.specs.Grammar.{Each, Record, join, text, IsRecord, Block, IsBlock, Channel, IsChannel, Reading, IsReading, Content, nem12, nem13, IsContent, blocksThen, channelsThen, readingsThen, contentThen, InFormat}
 use Rattle.theorems.specs.Days.{ReadsAs}
 use Rattle.theorems.proofs.Bytes.{lines-row}
@@ -215,9 +214,8 @@ one-structure file v c d v′ c′ d′ h g =
 -- ---- a block
 
 pub row-length : (n : ℕ) → length (rowOf 300 n) ≡ n + 7
-unfolding rowOf
-row-length n =
-    omega (arith, length-append (replicate n Value) (Quality ∷ Reason ∷ Description ∷ Time ∷ Load ∷ []), length-replicate {A = Rule} n Value)
+unfolding countOf
+row-length n = count-300 n
 
 -- bytes are a block in one way, of one number of intervals, and so they are one day
 pub one-block : (a b : Record) (s : List ℕ) (d e : Day) → ReadsAs a s d → ReadsAs b s e → d ≡ e

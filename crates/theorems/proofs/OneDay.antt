@@ -5,11 +5,11 @@ use mathlib.Core.List.{List, [], _∷_, _++_, map, append-assoc}
 use native.Mathlib.Omega.{arith}
 use lib.ListN.{length, drop, length-append, drop-of-length-le}
 use Rattle.format.specs.Records.{intervalsIn}
-use Rattle.format.specs.Day.{DayRows, daysOf, Day, dayOf}
+use Rattle.format.specs.Day.{Row, DayRows, daysOf, Day}
 use Rattle.format.specs.Answers.{accepted}
 use Rattle.format.specs.File.{checkOf}
 use Rattle.theorems.specs.Grammar.{Each, Record, join, text, IsRecord, Block, IsBlock, Channel, IsChannel, Content, nem12, nem13, IsContent, blocksThen, channelsThen, contentThen}
-use Rattle.theorems.specs.Days.{behind, rowsOf, blockDays, behindBlocks, channelDays, contentDays, meanings, Means, StandsAt, OneDay}
+use Rattle.theorems.specs.Days.{behind, recordAt, rowsOf, blockDays, behindBlocks, channelDays, contentDays, meant, meanings, Means, StandsAt, OneDay}
 use Rattle.theorems.proofs.Format.{format}
 use Rattle.theorems.proofs.Days.{days}
 use Rattle.theorems.proofs.Meaning.{day-anywhere, meaning, day-count}
@@ -32,7 +32,7 @@ block-text b t = rw (← append-assoc (b .runs) (b .extra) t) (text-append (rows
 -- ---- each day stands in the file
 
 abbrev Standing : List ℕ → DayRows → Type 0
-Standing file x = StandsAt file (x .top .place) (dayOf x)
+Standing file x = StandsAt file (x .block .top .place) (meant x)
 
 each-append : (P : DayRows → Type 0) (xs ys : List DayRows) → Each P xs → Each P ys → Each P (xs ++ ys)
 each-append P [] ys h g = g
@@ -60,17 +60,16 @@ from-block file s p b t f =
     }
 
 -- where the blocks end, there what follows starts
-record Stood (file : List ℕ) (p n : ℕ) (bs : List Block) (t : List Record) : Type 0 where
-  each : Each (Standing file) (blockDays p n bs)
+record Stood (file : List ℕ) (p : ℕ) (c : Row) (bs : List Block) (t : List Record) : Type 0 where
+  each : Each (Standing file) (blockDays p c bs)
   s : List ℕ
   from : From file s (behindBlocks p bs) t
 
-stand-blocks : (file s : List ℕ) (p : ℕ) (head : Record) (bs : List Block) (t : List Record) → IsRecord 200 0 head → Each (IsBlock (intervalsIn head)) bs
-    → From file s p (blocksThen bs t) → Stood file p (intervalsIn head) bs t
-stand-blocks file s p head [] t h g f = record { each = tt; s = s; from = f }
-stand-blocks file s p head (b ∷ bs) t h g f =
-    let n : ℕ = intervalsIn head in
-    let w = stand-blocks file (s ++ text (rowsOf b)) (behind p (rowsOf b)) head bs t h (g .1) (from-block file s p b (blocksThen bs t) f) in
+stand-blocks : (file s : List ℕ) (p : ℕ) (c : Row) (bs : List Block) (t : List Record) → IsRecord 200 0 (c .cells) → Each (IsBlock (intervalsIn (c .cells))) bs
+    → From file s p (blocksThen bs t) → Stood file p c bs t
+stand-blocks file s p c [] t h g f = record { each = tt; s = s; from = f }
+stand-blocks file s p c (b ∷ bs) t h g f =
+    let w = stand-blocks file (s ++ text (rowsOf b)) (behind p (rowsOf b)) c bs t h (g .1) (from-block file s p b (blocksThen bs t) f) in
     record {
       each = (
         record {
@@ -79,8 +78,8 @@ stand-blocks file s p head (b ∷ bs) t h g f =
           after = text (blocksThen bs t);
           is = rw (← block-text b (blocksThen bs t)) (f .is);
           place = f .place;
-          head = head;
-          reads = record { is-head = h; block = b; good = g .0; bytes = refl; is = day-anywhere p n b };
+          head = c .cells;
+          reads = record { is-head = h; block = b; good = g .0; bytes = refl; is = day-anywhere p (intervalsIn (c .cells)) b };
         },
         w .each,
       );
@@ -92,8 +91,8 @@ stand-channels : (file s : List ℕ) (p : ℕ) (cs : List Channel) (t : List Rec
 stand-channels file s p [] t h f = tt
 stand-channels file s p (c ∷ cs) t h f =
     let q : ℕ = p + length (join (c .head)) + 2 in
-    let n : ℕ = intervalsIn (c .head) in
-    let w = stand-blocks file (s ++ (join (c .head) ++ 13 ∷ 10 ∷ [])) q (c .head) (c .blocks) (channelsThen cs t) (h .0 .head) (h .0 .blocks)
+    let n : Row = recordAt p (c .head) in
+    let w = stand-blocks file (s ++ (join (c .head) ++ 13 ∷ 10 ∷ [])) q n (c .blocks) (channelsThen cs t) (h .0 .head) (h .0 .blocks)
     (from-row file s p (c .head) (blocksThen (c .blocks) (channelsThen cs t)) f) in
     each-append (Standing file) (blockDays q n (c .blocks)) (channelDays (behindBlocks q (c .blocks)) cs) (w .each)
     (stand-channels file (w .s) (behindBlocks q (c .blocks)) cs t (h .1) (w .from))
@@ -119,18 +118,18 @@ each-drop P zero xs h = h
 each-drop P (suc k) [] h = tt
 each-drop P (suc k) (x ∷ xs) h = each-drop P k xs (h .1)
 
-map-drop : (k : ℕ) (xs : List DayRows) → drop k (map dayOf xs) ≡ map dayOf (drop k xs)
+map-drop : (k : ℕ) (xs : List DayRows) → drop k (map meant xs) ≡ map meant (drop k xs)
 map-drop zero xs = refl
 map-drop (suc k) [] = refl
 map-drop (suc k) (x ∷ xs) = map-drop k xs
 
 -- a day of the file, read in any way, is what its rows mean
-means-rows : (file : List ℕ) (k : ℕ) (day : Day) (rows : DayRows) (more : List DayRows) → drop k (daysOf file) ≡ rows ∷ more → Means file k day → day ≡ dayOf rows
+means-rows : (file : List ℕ) (k : ℕ) (day : Day) (rows : DayRows) (more : List DayRows) → drop k (daysOf file) ≡ rows ∷ more → Means file k day → day ≡ meant rows
 means-rows file k day rows more e m =
-    let a : map dayOf (drop k (daysOf file)) ≡ day ∷ m .more =
+    let a : map meant (drop k (daysOf file)) ≡ day ∷ m .more =
     sym (map-drop k (daysOf file)) ∙ ap (drop k) (meaning file (m .v) (m .c) (m .d) (m .how)) ∙ m .is in
-    let b : dayOf rows ∷ map dayOf more ≡ day ∷ m .more = rw e at a in
-    let z : day ≡ dayOf rows = cc in
+    let b : meant rows ∷ map meant more ≡ day ∷ m .more = rw e at a in
+    let z : day ≡ meant rows = cc in
     z
 
 module _ (file : List ℕ) (v c d : ℕ) (e : checkOf file ≡ accepted (v ∷ c ∷ d ∷ [])) (k : ℕ) where
@@ -146,13 +145,13 @@ module _ (file : List ℕ) (v c d : ℕ) (e : checkOf file ≡ accepted (v ∷ c
       rw z at (from-row file [] 0 (h .header) (contentThen (h .content) (h .last ∷ [])) (record { is = h .bytes; place = refl })) in
       let s : Each (Standing file) (daysOf file) = rw (days file v c d h) (stand-content file (join (h .header) ++ 13 ∷ 10 ∷ []) p v (h .content) (h .last ∷ []) (h .is-content) f) in
       let t : Each (Standing file) (w .rows ∷ w .more) = rw (w .is) at (each-drop (Standing file) k (daysOf file) s) in
-      let b : drop k (meanings (h .content)) ≡ dayOf (w .rows) ∷ map dayOf (w .more) =
-      ap (drop k) (sym (meaning file v c d h)) ∙ map-drop k (daysOf file) ∙ ap (map dayOf) (w .is) in
+      let b : drop k (meanings (h .content)) ≡ meant (w .rows) ∷ map meant (w .more) =
+      ap (drop k) (sym (meaning file v c d h)) ∙ map-drop k (daysOf file) ∙ ap (map meant) (w .is) in
       record {
         rows = w .rows;
         more = w .more;
         found = w .is;
-        means = record { v = v; c = c; d = d; how = h; more = map dayOf (w .more); is = b };
+        means = record { v = v; c = c; d = d; how = h; more = map meant (w .more); is = b };
         only = λ other m. means-rows file k other (w .rows) (w .more) (w .is) m;
         stands = t .0;
       }

@@ -9,6 +9,7 @@ use native.Mathlib.Numerals.{add-one}
 use lib.ListN.{length, take, drop, length-append, length-take, take-append-drop}
 use lib.Dec.{eqb}
 use borrow.Author.Tests.{eqb-true, eqb-false, eq-eqb, ne-eqb}
+use Rattle.ground.proofs.Cases.{by}
 use Rattle.format.specs.Cut.{Lines, line, rest, lines}
 use Rattle.format.specs.Order.{Due, begun}
 use Rattle.format.specs.Faults.{faultOf}
@@ -16,12 +17,11 @@ use Rattle.format.specs.Answers.{Answer, accepted, refused}
 use Rattle.format.specs.File.{after, orGoOn, walkOf, checkOf}
 use Rattle.format.specs.declared.Fault.{Fault}
 use Rattle.format.specs.declared.Fault.the-variants.{Fine, Stop}
+use Rattle.format.proofs.Cut.{bytesOf}
+use Rattle.passing.proofs.Walk.{walk-of, of-walk}
 use Rattle.theorems.specs.First.{Clear}
 use Rattle.theorems.specs.Places.{placeIn, placeOf, past, stateIn, stateAt}
-use Rattle.theorems.proofs.Tests.{by}
-use Rattle.theorems.proofs.Bytes.{bytesOf}
 use Rattle.theorems.proofs.Cuts.{Has, keep, lines-cut, has-next, keep-next}
-use Rattle.theorems.proofs.Format.{walk-of, of-walk}
 use Rattle.theorems.proofs.Links.{fine-none, fault-number}
 
 -- why a record is refused with x at q and field i, where it would start at p in the state st, and ls are the lines from there on
@@ -145,17 +145,14 @@ module _ (file : List ℕ) (k : ℕ) (h : Has k (lines file)) (s : (m : Lines) �
       of-walk (take (placeOf k file) file) a (omega (arith, length-take (placeOf k file) file)) (rw (d, s (rest [])) e)
 
 module _ (file : List ℕ) (x q k i : ℕ) (e : checkOf file ≡ refused x q k i) where
+  there : (x ≡ 1 → ⊥) → (length file ≤ 1048576) × Refusal file x q k i
+  there n = refusal-of file x q k i e n
+
   -- where the check refuses at record k, the bytes before it alone are refused with 2 at its start
   pub prefix : 2 ≤ x → x ≤ 12 → checkOf (take (placeOf k file) file) ≡ refused 2 (placeOf k file) k 0
   unfolding walkOf
-  prefix lo hi = cut-there file k (w .has) (w .same) (c .0) (refused 2 (placeOf k file) k 0) (go (w .why))
+  prefix lo hi = let c = there (λ z. omega arith) in cut-there file k (c .1 .has) (c .1 .same) (c .0) (refused 2 (placeOf k file) k 0) (go (c .1 .why))
     where
-      c : (length file ≤ 1048576) × Refusal file x q k i
-      c = refusal-of file x q k i e (λ z. omega arith)
-
-      w : Refusal file x q k i
-      w = c .1
-
       go : Why (stateAt k file) (placeOf k file) (past k (lines file)) x q i → walkOf (stateAt k file) (placeOf k file) k (rest []) ≡ refused 2 (placeOf k file) k 0
       go (unfinished t a o b d f) = rw (ne-eqb _ _ o)
       go (faulty r more o a n b d) = rw (ne-eqb _ _ n)
@@ -168,15 +165,10 @@ module _ (file : List ℕ) (x q k i : ℕ) (e : checkOf file ≡ refused x q k i
     stateAt k file .version,
     stateAt k file .channels,
     stateAt k file .days,
-    cut-there file k (w .has) (w .same) (c .0) (accepted (stateAt k file .version ∷ stateAt k file .channels ∷ stateAt k file .days ∷ [])) (go (w .why)),
+    let c = there (λ z. omega arith) in
+        cut-there file k (c .1 .has) (c .1 .same) (c .0) (accepted (stateAt k file .version ∷ stateAt k file .channels ∷ stateAt k file .days ∷ [])) (go (c .1 .why)),
   )
     where
-      c : (length file ≤ 1048576) × Refusal file x q k i
-      c = refusal-of file x q k i e (λ z. omega arith)
-
-      w : Refusal file x q k i
-      w = c .1
-
       go : Why (stateAt k file) (placeOf k file) (past k (lines file)) x q i
           → walkOf (stateAt k file) (placeOf k file) k (rest []) ≡ accepted (stateAt k file .version ∷ stateAt k file .channels ∷ stateAt k file .days ∷ [])
       go (unfinished t a o b d f) = absurd (let z : ⊥ = omega arith in z)
@@ -188,14 +180,12 @@ module _ (file : List ℕ) (x q k i : ℕ) (e : checkOf file ≡ refused x q k i
   -- what stands behind record k's CR LF plays no part
   pub locality : 3 ≤ x → x ≤ 12 → (t : List ℕ) → length (take (placeOf (k + 1) file) file ++ t) ≤ 1048576 → checkOf (take (placeOf (k + 1) file) file ++ t) ≡ refused x q k i
   unfolding walkOf
-  locality lo hi t l = of-walk (take (placeOf (k + 1) file) file ++ t) (refused x q k i) l (go (w .why))
+  locality lo hi t l = let w = there (λ z. omega arith) .1 in of-walk (take (placeOf (k + 1) file) file ++ t) (refused x q k i) l (go w (w .why))
     where
-      w : Refusal file x q k i
-      w = refusal-of file x q k i e (λ z. omega arith) .1
-
-      go : Why (stateAt k file) (placeOf k file) (past k (lines file)) x q i → walkOf begun 0 0 (lines (take (placeOf (k + 1) file) file ++ t)) ≡ refused x q k i
-      go (unfinished y a o b d f) = absurd (let z : ⊥ = omega arith in z)
-      go (faulty r more o a n b d) =
+      go : Refusal file x q k i → Why (stateAt k file) (placeOf k file) (past k (lines file)) x q i
+          → walkOf begun 0 0 (lines (take (placeOf (k + 1) file) file ++ t)) ≡ refused x q k i
+      go w (unfinished y a o b d f) = absurd (let z : ⊥ = omega arith in z)
+      go w (faulty r more o a n b d) =
           rw (
             add-one k,
             lines-cut (suc k) file t (has-next r more k (lines file) (w .has) a),
@@ -205,7 +195,7 @@ module _ (file : List ℕ) (x q k i : ℕ) (e : checkOf file ≡ refused x q k i
             b,
             d,
           )
-      go (trailing a b d f g) = absurd (let y : ⊥ = omega arith in y)
+      go w (trailing a b d f g) = absurd (let y : ⊥ = omega arith in y)
 
   -- and so every file that agrees with this one up to there is refused alike
   pub locality-of : 3 ≤ x → x ≤ 12 → (other : List ℕ) → length other ≤ 1048576 → take (placeOf (k + 1) file) other ≡ take (placeOf (k + 1) file) file → checkOf other ≡ refused x q k i

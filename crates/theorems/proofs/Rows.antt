@@ -6,14 +6,15 @@ use mathlib.Core.List.{List, [], _∷_}
 use native.Mathlib.Omega.{arith}
 use lib.ListN.{length, getD, drop}
 use lib.Seq.{getD-drop, drop-drop}
+use Rattle.ground.proofs.Cases.{by}
 use Rattle.format.specs.Bytes.{endSpace}
 use Rattle.format.specs.Records.{kindIn, rowOf, countOf, ruleOf, obeys}
-use Rattle.format.specs.Faults.{faultIn, brokenIn}
+use Rattle.format.specs.Faults.{faultIn}
 use Rattle.format.specs.declared.Fault.the-variants.{Fine, Stop}
 use Rattle.format.specs.declared.Rule.{Rule}
 use Rattle.format.specs.declared.Rule.the-variants.{Indicator}
+use Rattle.passing.proofs.Fit.{Ok}
 use Rattle.theorems.specs.Grammar.{Each, Record, Meets, IsRecord}
-use Rattle.theorems.proofs.Tests.{by}
 use Rattle.theorems.proofs.Bytes.{Bytes}
 use Rattle.theorems.proofs.Ends.{Tidy, tidied, indicator-tidy}
 use Rattle.theorems.proofs.Across.{unbroken-together, together-unbroken}
@@ -98,10 +99,6 @@ obeyed-meets k (u ∷ us) (f ∷ fs) h b s = ((b .0, s .0), h .0, obeyed-meets k
 -- fields of bytes that a field may hold
 abbrev pub Fields : Record → Type 0
 Fields fs = (1 ≤ length fs) × Bytes fs
-
--- what 5, 6 and 7 ask
-abbrev pub Ok : ℕ → ℕ → Record → Type 0
-Ok k n fs = (length fs ≡ countOf k n) × (faultIn k n 0 0 fs ≡ Fine) × (brokenIn k n fs ≡ 0)
 
 -- the rules imply that no field of a record begins or ends with a space
 pub no-end-space : (k n : ℕ) (fs : Record) → (kindIn fs ≡ 0 → ⊥) → Obeyed k (rowOf k n) fs → Each (λ f. endSpace f ≡ false) fs

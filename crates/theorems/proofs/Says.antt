@@ -10,6 +10,8 @@ use lib.Dec.{eqb}
 use borrow.Author.Tests.{eqb-true, eqb-false, eq-eqb, ne-eqb}
 use Rattle.ground.specs.Lists.{same}
 use Rattle.ground.specs.Text.{bytes}
+use Rattle.ground.proofs.Tests.{or-other, or-right}
+use Rattle.ground.proofs.Cases.{by}
 use Rattle.format.specs.Texts.{versionOf}
 use Rattle.format.specs.Numbers.{isNumber, numberIn, that, numberOf, smallOf, isLength, lengthOf, intervalsOf}
 use Rattle.format.specs.Dates.{isDay, isDate, isTime, dateOf, timeOf, readTimeOf}
@@ -17,23 +19,17 @@ use Rattle.format.specs.Cut.{field}
 use Rattle.format.specs.Records.{rowOf, obeys, versionIn, intervalsIn, dateIn, readTimeIn}
 use Rattle.format.specs.Faults.{onDay}
 use Rattle.format.specs.declared.Number.{Number}
-use Rattle.format.specs.declared.Number.the-variants.{Is, Bad}
+use Rattle.format.proofs.Numbers.{that-holds}
 use Rattle.theorems.specs.Grammar.{Record, IsRecord, Extra}
-use Rattle.theorems.proofs.Tests.{by, or-true, or-right}
 use Rattle.theorems.proofs.Rows.{meets-at}
 
--- a number that passes a test
-that-passes : (p : ℕ → Bool) (x : Number) → isNumber (that p x) ≡ true → p (numberIn (that p x)) ≡ true
-that-passes p (Is v) h = by (p v) (λ e. rw (e, e)) (λ e. absurd (let z : false ≡ true = (rw e at h) in false≢true z))
-that-passes p Bad h = absurd (false≢true h)
-
--- which 0 does not pass
+-- a number that passes a test which 0 does not pass
 that-some : (p : ℕ → Bool) (x : Number) → p 0 ≡ false → isNumber (that p x) ≡ true → 1 ≤ numberIn (that p x)
 that-some p x z h =
     by (eqb (numberIn (that p x)) 0)
     (λ e.
     let v : numberIn (that p x) ≡ 0 = eqb-true _ _ e in
-    absurd (true≢false (let y : p 0 ≡ true = (rw v at (that-passes p x h)) in sym y ∙ z)))
+    absurd (true≢false (let y : p 0 ≡ true = (rw v at (that-holds p x h)) in sym y ∙ z)))
     (λ e. let n : numberIn (that p x) ≡ 0 → ⊥ = eqb-false _ _ e in omega arith)
 
 -- ---- a 300's date
@@ -48,7 +44,7 @@ pub intervals-of : (fs : Record) → IsRecord 200 0 fs → (intervalsIn fs ≡ 2
 unfolding rowOf obeys intervalsIn lengthOf intervalsOf isLength
 intervals-of fs h =
     let m : ℕ = numberIn (lengthOf (field 8 fs)) in
-    let p : isLength m ≡ true = that-passes isLength (smallOf 2 (field 8 fs)) (meets-at 200 (rowOf 200 0) fs 8 (h .meets) (omega arith)) in
+    let p : isLength m ≡ true = that-holds isLength (smallOf 2 (field 8 fs)) (meets-at 200 (rowOf 200 0) fs 8 (h .meets) (omega arith)) in
     by (eqb m 5) (λ e. inl (rw (eqb-true m 5 e)))
     λ e₁. by (eqb m 15) (λ e. inr (inl (rw (eqb-true m 15 e))))
     λ e₂. inr (inr (let e : m ≡ 30 = eqb-true m 30 (let z : eqb m 30 ≡ true = (rw (e₁, e₂) at p) in z) in rw e))
@@ -91,7 +87,7 @@ module _ (t : ℕ) (fs : Record) (h : IsRecord 500 0 fs) where
   on-day d = (
     h,
     λ l. let s : 1 ≤ readTimeIn fs = time-some l in
-        eqb-true _ _ (or-true (eqb (readTimeIn fs) 0) (eqb (readTimeIn fs / 1000000) t) d (ne-eqb (readTimeIn fs) 0 (λ z. omega arith))),
+        eqb-true _ _ (or-other (eqb (readTimeIn fs) 0) (eqb (readTimeIn fs / 1000000) t) d (ne-eqb (readTimeIn fs) 0 (λ z. omega arith))),
   )
 
 pub day-on : (t : ℕ) (fs : Record) → Extra t fs → onDay t (readTimeIn fs) ≡ true

@@ -8,6 +8,8 @@ use lib.ListN.{length}
 use lib.Dec.{eqb}
 use borrow.Author.Tests.{eqb-true, eq-eqb, ne-eqb, le-leb, lt-leb}
 use Rattle.ground.specs.Lists.{all}
+use Rattle.ground.proofs.Tests.{or-right}
+use Rattle.ground.proofs.Cases.{by}
 use Rattle.format.specs.Bytes.{plain}
 use Rattle.format.specs.Cut.{lines, fields}
 use Rattle.format.specs.Records.{kindIn, versionIn, intervalsIn, dateIn, firstIn, lastIn}
@@ -15,12 +17,12 @@ use Rattle.format.specs.Order.{Due, begun, between, mayCome, isVaried, alikeWit
 use Rattle.format.specs.Faults.{isOpen, size, isNotLater, covers, isOff, isAlike, isElsewhere}
 use Rattle.format.specs.Answers.{accepted}
 use Rattle.format.specs.File.{walkOf}
+use Rattle.passing.proofs.Fit.{Ok, Fit, fit-fine, free-if, free-400}
 use Rattle.theorems.specs.Grammar.{Each, Rising, Record, join, text, IsRecord, Block, Covers, Marked, Extra, IsBlock, datesOf, Channel, IsChannel, Reading, IsReading, Content, nem12, nem13, IsContent, blocksThen, channelsThen, readingsThen, contentThen, channelsIn, blocksIn, daysIn, InFormat}
-use Rattle.theorems.proofs.Tests.{by, or-right}
 use Rattle.theorems.proofs.Bytes.{fields-join, plain-join, lines-row}
-use Rattle.theorems.proofs.Rows.{Fields, Ok, record-fields, record-ok}
+use Rattle.theorems.proofs.Rows.{Fields, record-fields, record-ok}
 use Rattle.theorems.proofs.Says.{date-some, day-on}
-use Rattle.theorems.proofs.Fit.{Fit, fit-fine, free-if, free-400, Apart, apart-on, marked-end}
+use Rattle.theorems.proofs.Apart.{Apart, apart-on, marked-end}
 
 -- ---- one record on
 
@@ -32,7 +34,7 @@ abbrev Takes : Due → List Record → ℕ → ℕ → ℕ → Type 0
 Takes st rows v c d = (p k : ℕ) → walkOf st p k (lines (text rows)) ≡ accepted (v ∷ c ∷ d ∷ [])
 
 -- the tests, on the fields
-record Passes (st : Due) (fs : Record) : Type 0 where
+record Tests (st : Due) (fs : Record) : Type 0 where
   free : isOpen st (kindIn fs) ≡ false
   may : mayCome (st .expect) (kindIn fs) ≡ true
   ok : Ok (kindIn fs) (size st (kindIn fs)) fs
@@ -42,11 +44,11 @@ record Passes (st : Due) (fs : Record) : Type 0 where
   day : isElsewhere st (kindIn fs) fs ≡ false
 
 module _ (st : Due) (fs : Record) (rows : List Record) (v c d : ℕ) where
-  takes-row : Fields fs → (st .expect ≡ 9 → ⊥) → Passes st fs → Takes (afterOf st (kindIn fs) fs) rows v c d → Takes st (fs ∷ rows) v c d
+  takes-row : Fields fs → (st .expect ≡ 9 → ⊥) → Tests st fs → Takes (afterOf st (kindIn fs) fs) rows v c d → Takes st (fs ∷ rows) v c d
   unfolding text walkOf
   takes-row h x ps t p k =
       let w = fields-of fs h in
-      let g : Passes st (fields (join fs)) = subst (Passes st) (sym (w .0)) ps in
+      let g : Tests st (fields (join fs)) = subst (Tests st) (sym (w .0)) ps in
       let f : Fit st (join fs) =
       record { bytes = w .1; free = g .free; may = g .may; ok = g .ok; rises = g .rises; cover = g .cover; apart = g .apart; day = g .day } in
       rw (lines-row (join fs) (text rows) (w .1), ne-eqb _ _ x, fit-fine st (join fs) f, w .0) (t (p + length (join fs) + 2) (k + 1))
@@ -57,7 +59,7 @@ ok-of : (st : Due) (fs : Record) (k : ℕ) → kindIn fs ≡ k → Ok k (cond (e
 ok-of st fs k e h = subst (λ (x : ℕ). Ok x (cond (eqb x 300) (st .n) 0) fs) (sym e) h
 
 pass : (st : Due) (fs : Record) (k : ℕ) → IsRecord k 0 fs → (k ≡ 300 → ⊥) → (k ≡ 400 → ⊥) → (k ≡ 500 → ⊥)
-    → mayCome (st .expect) k ≡ true → (st .expect ≡ 4 → st .n < st .next) → Passes st fs
+    → mayCome (st .expect) k ≡ true → (st .expect ≡ 4 → st .n < st .next) → Tests st fs
 unfolding isNotLater isOff isAlike isElsewhere
 pass st fs k h n₃ n₄ n₅ m f =
     record {
@@ -74,7 +76,7 @@ in-between : (a b x : ℕ) → a ≤ x → x ≤ b → between a b x ≡ true
 in-between a b x h k = rw (le-leb a x h, le-leb x b k)
 
 module _ (st : Due) (fs : Record) where
-  pass-300 : IsRecord 300 (st .n) fs → st .date < dateIn fs → 2 ≤ st .expect → st .expect ≤ 5 → (st .expect ≡ 4 → st .n < st .next) → Passes st fs
+  pass-300 : IsRecord 300 (st .n) fs → st .date < dateIn fs → 2 ≤ st .expect → st .expect ≤ 5 → (st .expect ≡ 4 → st .n < st .next) → Tests st fs
   unfolding mayCome isNotLater isOff isAlike isElsewhere
   pass-300 h r a b f =
       record {
@@ -87,7 +89,7 @@ module _ (st : Due) (fs : Record) where
         day = rw (h .indicator);
       }
 
-  pass-500 : Extra (st .date) fs → 3 ≤ st .expect → st .expect ≤ 5 → (st .expect ≡ 4 → st .n < st .next) → Passes st fs
+  pass-500 : Extra (st .date) fs → 3 ≤ st .expect → st .expect ≤ 5 → (st .expect ≡ 4 → st .n < st .next) → Tests st fs
   unfolding mayCome isNotLater isOff isAlike isElsewhere
   pass-500 h a b f =
       record {
@@ -101,7 +103,7 @@ module _ (st : Due) (fs : Record) where
       }
 
   pass-400 : IsRecord 400 0 fs → st .expect ≡ 4 → firstIn fs ≡ st .next → firstIn fs ≤ lastIn fs → lastIn fs ≤ st .n
-      → (lastIn fs ≡ st .n → alikeWith st fs ≡ false) → Passes st fs
+      → (lastIn fs ≡ st .n → alikeWith st fs ≡ false) → Tests st fs
   unfolding mayCome isNotLater isOff covers isAlike isElsewhere
   pass-400 h x s o w al =
       record {

@@ -1,60 +1,41 @@
 -- What is accepted is written by the grammar: by induction on the records, with a claim for each state. Assumes nothing.
-use Prim.Native.Nat.{ℕ, suc, _+_, _≤_, _<_}
+use Prim.Native.Nat.{ℕ, _+_, _≤_, _<_}
 use mathlib.Core.Path.{_≡_, refl, sym, ap, _∙_, subst}
 use mathlib.Core.Bool.{Bool, true, false, true≢false, cond, _&&_}
 use mathlib.Core.List.{List, [], _∷_, _++_}
 use native.Mathlib.Omega.{arith}
 use lib.ListN.{length}
-use lib.Dec.{eqb, leb}
-use borrow.Author.Tests.{eqb-true, eqb-false, eq-eqb, ne-eqb, leb-true, leb-false, not-false}
+use lib.Dec.{eqb}
+use borrow.Author.Tests.{eqb-true, eqb-false, eq-eqb, ne-eqb, not-false}
+use Rattle.ground.proofs.Cases.{by}
 use Rattle.format.specs.Cut.{Lines, line, rest, lines, fields}
 use Rattle.format.specs.Records.{kindIn, versionIn, dateIn, firstIn, lastIn, readTimeIn}
-use Rattle.format.specs.Order.{Due, begun, isVaried, alikeWith, on100, on200, on300, on400, on500, on250, on550, on900, afterOf}
-use Rattle.format.specs.Faults.{isNotLater, covers, isOff, isAlike, onDay, isElsewhere, faultOf}
-use Rattle.format.specs.Answers.{accepted, refused}
-use Rattle.format.specs.File.{after, orGoOn, walkOf}
-use Rattle.format.specs.declared.Fault.{Fault}
-use Rattle.format.specs.declared.Fault.the-variants.{Fine, Stop}
+use Rattle.format.specs.Order.{Due, begun, isVaried, alikeWith, on100, on200, on300, on400, on500, on250, on550, on900}
+use Rattle.format.specs.Faults.{covers, isAlike, onDay, isElsewhere}
+use Rattle.format.specs.Answers.{accepted}
+use Rattle.format.specs.File.{after, walkOf}
+use Rattle.format.proofs.Cut.{bytesOf, bytes-lines, fields-some}
+use Rattle.passing.proofs.Fit.{Ok, Fit, fit-later, fit-cover, Head, h100, h200, more200, h300, h400, h500, h250, h550, h900, basic900, head, only, not-ended, free-of}
+use Rattle.passing.proofs.Steps.{after-100, after-200, after-300, after-400, after-500, after-250, after-550, after-900}
+use Rattle.passing.proofs.Walk.{goes, ends}
 use Rattle.theorems.specs.Grammar.{Each, Rising, Record, text, IsRecord, Block, Covers, Extra, IsBlock, datesOf, Channel, IsChannel, Reading, IsReading, nem12, nem13, blocksThen, channelsThen, readingsThen, blocksIn, InFormat}
-use Rattle.theorems.proofs.Tests.{by, and-true}
-use Rattle.theorems.proofs.Bytes.{bytesOf, bytes-lines, join-fields, fields-some, fields-bytes}
-use Rattle.theorems.proofs.Rows.{Fields, Ok, is-record}
+use Rattle.theorems.proofs.Bytes.{join-fields, fields-bytes}
+use Rattle.theorems.proofs.Rows.{Fields, is-record}
 use Rattle.theorems.proofs.Says.{intervals-some, version-13, on-day}
-use Rattle.theorems.proofs.Fit.{Fit, fine-fit, Head, h100, h200, more200, h300, h400, h500, h250, h550, h900, basic900, head, only, free-of, Apart, apart-back}
-
-not-refused : {A : Type 0} (n p k f v c d : ℕ) → refused n p k f ≡ accepted (v ∷ c ∷ d ∷ []) → A
-not-refused n p k f v c d e = absurd (let z : true ≡ false = cc in true≢false z)
+use Rattle.theorems.proofs.Apart.{Apart, apart-back}
 
 -- ---- one record on
 
 module _ (st : Due) (p k v c d : ℕ) where
-  told-line : (r : List ℕ) (ls : Lines) → walkOf st p k (line r ls) ≡ accepted (v ∷ c ∷ d ∷ [])
-      → Fit st r × (walkOf (after st r) (p + length r + 2) (k + 1) ls ≡ accepted (v ∷ c ∷ d ∷ []))
-  unfolding walkOf
-  told-line r ls e =
-      by (eqb (st .expect) 9)
-      (λ t. not-refused 13 p k 0 v c d (rw t at e))
-      (λ t. go (faultOf st r) refl (rw t at e))
-    where
-      go : (f : Fault) → faultOf st r ≡ f → orGoOn p k (faultOf st r) (walkOf (after st r) (p + length r + 2) (k + 1) ls) ≡ accepted (v ∷ c ∷ d ∷ [])
-          → Fit st r × (walkOf (after st r) (p + length r + 2) (k + 1) ls ≡ accepted (v ∷ c ∷ d ∷ []))
-      go Fine q h = (fine-fit st r q, rw q at h)
-      go (Stop n o f) q h = not-refused n (p + o) k f v c d (rw q at h)
-
   told-open : (t : List ℕ) → (st .expect ≡ 9 → ⊥) → walkOf st p k (rest t) ≡ accepted (v ∷ c ∷ d ∷ []) → ⊥
-  unfolding walkOf
-  told-open t x e = not-refused 2 p k 0 v c d (rw (ne-eqb _ _ x) at e)
+  told-open t x e = x (ends st p k t (v ∷ c ∷ d ∷ []) e .expected)
 
   told-end : (ls : Lines) → st .expect ≡ 9 → walkOf st p k ls ≡ accepted (v ∷ c ∷ d ∷ []) → (bytesOf ls ≡ []) × (v ≡ st .version) × (c ≡ st .channels) × (d ≡ st .days)
-  unfolding walkOf
-  told-end (line r ls) x e = not-refused 13 p k 0 v c d (rw (eq-eqb _ _ x) at e)
-  told-end (rest []) x e =
-      let z : accepted (st .version ∷ st .channels ∷ st .days ∷ []) ≡ accepted (v ∷ c ∷ d ∷ []) = rw (eq-eqb _ _ x) at e in
-      (refl, cc, cc, cc)
-  told-end (rest (b ∷ t)) x e =
-      not-refused 13 p k 0 v c d
-      (let z : cond (eqb (suc (length t)) 0) (accepted (st .version ∷ st .channels ∷ st .days ∷ [])) (refused 13 p k 0) ≡ accepted (v ∷ c ∷ d ∷ []) = (rw (eq-eqb _ _ x) at e) in
-      rw (ne-eqb (suc (length t)) 0 (λ q. omega arith)) at z)
+  told-end (line r ls) x e = absurd (not-ended _ _ (head _ _ (goes st p k r ls (v ∷ c ∷ d ∷ []) e .fit .may)) x)
+  told-end (rest t) x e =
+      let w = ends st p k t (v ∷ c ∷ d ∷ []) e in
+      let z : v ∷ c ∷ d ∷ [] ≡ st .version ∷ st .channels ∷ st .days ∷ [] = w .answer in
+      (w .none-left, cc, cc, cc)
 
 -- ---- the fields of a fit record: one law for all kinds
 
@@ -67,10 +48,9 @@ fit-rec st r k f e z n =
     is-record k 0 (fields r) z (fit-fields st r f) e (subst (λ (b : Bool). Ok k (cond b (st .n) 0) (fields r)) (ne-eqb k 300 n) o)
 
 fit-300 : (st : Due) (r : List ℕ) → Fit st r → kindIn (fields r) ≡ 300 → IsRecord 300 (st .n) (fields r) × (st .date < dateIn (fields r))
-unfolding isNotLater
 fit-300 st r f e = (
   is-record 300 (st .n) (fields r) (λ z. omega arith) (fit-fields st r f) e (subst (λ (x : ℕ). Ok x (cond (eqb x 300) (st .n) 0) (fields r)) e (f .ok)),
-  leb-false _ _ (rw e at (f .rises)),
+  fit-later st r f e,
 )
 
 row-bytes : (r : List ℕ) (ls : Lines) (rows : List Record) → bytesOf ls ≡ text rows → bytesOf (line r ls) ≡ text (fields r ∷ rows)
@@ -163,45 +143,12 @@ pub record Told (ls : Lines) (v c d : ℕ) : Type 0 where
 
 -- ---- a record of each kind
 
-module _ (st : Due) (r : List ℕ) where
-  next-100 : kindIn (fields r) ≡ 100 → after st r ≡ on100 st (fields r)
-  unfolding afterOf
-  next-100 e = rw e
-
-  next-200 : kindIn (fields r) ≡ 200 → after st r ≡ on200 st (fields r)
-  unfolding afterOf
-  next-200 e = rw e
-
-  next-300 : kindIn (fields r) ≡ 300 → after st r ≡ on300 st (fields r)
-  unfolding afterOf
-  next-300 e = rw e
-
-  next-400 : kindIn (fields r) ≡ 400 → after st r ≡ on400 st (fields r)
-  unfolding afterOf
-  next-400 e = rw e
-
-  next-500 : kindIn (fields r) ≡ 500 → after st r ≡ on500 st (fields r)
-  unfolding afterOf
-  next-500 e = rw e
-
-  next-250 : kindIn (fields r) ≡ 250 → after st r ≡ on250 st (fields r)
-  unfolding afterOf
-  next-250 e = rw e
-
-  next-550 : kindIn (fields r) ≡ 550 → after st r ≡ on550 st (fields r)
-  unfolding afterOf
-  next-550 e = rw e
-
-  next-900 : kindIn (fields r) ≡ 900 → after st r ≡ on900 st (fields r)
-  unfolding afterOf
-  next-900 e = rw e
-
 module _ (st : Due) (p k v c d : ℕ) (r : List ℕ) (ls : Lines) (ih : Told ls v c d) (fit : Fit st r)
     (e : walkOf (after st r) p k ls ≡ accepted (v ∷ c ∷ d ∷ [])) where
   by-500 : 1 ≤ st .n → kindIn (fields r) ≡ 500 → Extras st (line r ls) v c d
   unfolding isElsewhere
   by-500 s q =
-      let u = ih .ext (on500 st (fields r)) p k s (omega arith) (omega arith) (λ z. omega arith) (rw (next-500 st r q) at e) in
+      let u = ih .ext (on500 st (fields r)) p k s (omega arith) (omega arith) (λ z. omega arith) (rw (after-500 st r q) at e) in
       let t : onDay (st .date) (readTimeIn (fields r)) ≡ true = not-false _ (rw q at (fit .day)) in
       let g = fit-rec st r 500 fit q (λ z. omega arith) (λ z. omega arith) in
       record {
@@ -215,7 +162,7 @@ module _ (st : Due) (p k v c d : ℕ) (r : List ℕ) (ls : Lines) (ih : Told ls 
   by-900 : kindIn (fields r) ≡ 900 → (rows : List Record) × Rest (st .n) (st .date) (st .version) (st .channels) (st .days) v c d rows × (bytesOf (line r ls) ≡ text rows)
   unfolding text
   by-900 q =
-      let w = told-end (on900 st (fields r)) p k v c d ls refl (rw (next-900 st r q) at e) in (
+      let w = told-end (on900 st (fields r)) p k v c d ls refl (rw (after-900 st r q) at e) in (
         fields r ∷ [],
         record {
           blocks = [];
@@ -236,7 +183,7 @@ module _ (st : Due) (p k v c d : ℕ) (r : List ℕ) (ls : Lines) (ih : Told ls 
   by-200 : kindIn (fields r) ≡ 200 → Chans st (line r ls) v c d
   by-200 q =
       let g = fit-rec st r 200 fit q (λ z. omega arith) (λ z. omega arith) in
-      let u = ih .first (on200 st (fields r)) p k (intervals-some (fields r) g) refl (rw (next-200 st r q) at e) in
+      let u = ih .first (on200 st (fields r)) p k (intervals-some (fields r) g) refl (rw (after-200 st r q) at e) in
       let m = u .more in
       record {
         channels = record { head = fields r; blocks = m .blocks } ∷ m .channels;
@@ -275,7 +222,7 @@ module _ (st : Due) (p k v c d : ℕ) (r : List ℕ) (ls : Lines) (ih : Told ls 
 
   by-300 : 1 ≤ st .n → kindIn (fields r) ≡ 300 → Firsts st (line r ls) v c d
   by-300 s q =
-      let h : walkOf (on300 st (fields r)) p k ls ≡ accepted (v ∷ c ∷ d ∷ []) = rw (next-300 st r q) at e in
+      let h : walkOf (on300 st (fields r)) p k ls ≡ accepted (v ∷ c ∷ d ∷ []) = rw (after-300 st r q) at e in
       let g = fit-300 st r fit q .0 in
       by (isVaried (st .n) (fields r))
       (λ t.
@@ -304,18 +251,17 @@ module _ (st : Due) (p k v c d : ℕ) (r : List ℕ) (ls : Lines) (ih : Told ls 
       (u .more) (u .bytes))
 
   by-400 : Inner st → kindIn (fields r) ≡ 400 → Under st (line r ls) v c d
-  unfolding isOff covers isAlike
+  unfolding isAlike
   by-400 i q =
       let fs : Record = fields r in
-      let x = and-true (eqb (firstIn fs) (st .next)) (leb (firstIn fs) (lastIn fs) && leb (lastIn fs) (st .n)) (not-false _ (rw q at (fit .cover))) in
-      let y = and-true (leb (firstIn fs) (lastIn fs)) (leb (lastIn fs) (st .n)) (x .1) in
-      let a : firstIn fs ≡ st .next = eqb-true _ _ (x .0) in
-      let o : firstIn fs ≤ lastIn fs = leb-true _ _ (y .0) in
-      let w : lastIn fs ≤ st .n = leb-true _ _ (y .1) in
+      let x = fit-cover st r fit q in
+      let a : firstIn fs ≡ st .next = x .0 in
+      let o : firstIn fs ≤ lastIn fs = x .1 in
+      let w : lastIn fs ≤ st .n = x .2 in
       let t : (eqb (lastIn fs) (st .n) && alikeWith st fs) ≡ false = rw q at (fit .apart) in
       let no : st .n < lastIn fs + 1 → alikeWith st fs ≡ false =
       λ z. (let b : lastIn fs ≡ st .n = omega arith in let g : alikeWith st fs ≡ false = (rw (eq-eqb _ _ b) at t) in g) in
-      let u = ih .under (on400 st fs) p k (record { in-v = refl; some = i .some; low = omega arith; high = omega arith; apart = no }) (rw (next-400 st r q) at e) in
+      let u = ih .under (on400 st fs) p k (record { in-v = refl; some = i .some; low = omega arith; high = omega arith; apart = no }) (rw (after-400 st r q) at e) in
       record {
         runs = fs ∷ u .runs;
         each = (fit-rec st r 400 fit q (λ z. omega arith) (λ z. omega arith), u .each);
@@ -331,7 +277,7 @@ module _ (st : Due) (p k v c d : ℕ) (r : List ℕ) (ls : Lines) (ih : Told ls 
   last-13 : kindIn (fields r) ≡ 900 → (rows : List Record) × Basics (st .version) (st .channels) (st .days) v c d rows × (bytesOf (line r ls) ≡ text rows)
   unfolding text
   last-13 q =
-      let w = told-end (on900 st (fields r)) p k v c d ls refl (rw (next-900 st r q) at e) in (
+      let w = told-end (on900 st (fields r)) p k v c d ls refl (rw (after-900 st r q) at e) in (
         fields r ∷ [],
         record { readings = []; each = tt; last = fields r; last-ok = fit-rec st r 900 fit q (λ z. omega arith) (λ z. omega arith); is = refl; version = w .1; count = omega (arith, w .2); no-days = w .3 },
         row-bytes r ls [] (w .0),
@@ -339,12 +285,12 @@ module _ (st : Due) (p k v c d : ℕ) (r : List ℕ) (ls : Lines) (ih : Told ls 
 
   by-550 : kindIn (fields r) ≡ 550 → Seven st (line r ls) v c d
   by-550 q =
-      let u = ih .eight (on550 st (fields r)) p k refl (rw (next-550 st r q) at e) in
+      let u = ih .eight (on550 st (fields r)) p k refl (rw (after-550 st r q) at e) in
       one (fields r) (u .0) (fit-rec st r 550 fit q (λ z. omega arith) (λ z. omega arith)) (u .1) (row-bytes r ls (u .0) (u .2))
 
   by-250 : kindIn (fields r) ≡ 250
       → (rows : List Record) × (b : Basics (st .version) (st .channels) (st .days) v c d rows) × (bytesOf (line r ls) ≡ text rows) × (1 ≤ length (b .readings))
-  by-250 q = go (ih .seven (on250 st (fields r)) p k refl (rw (next-250 st r q) at e))
+  by-250 q = go (ih .seven (on250 st (fields r)) p k refl (rw (after-250 st r q) at e))
     where
       g : IsRecord 250 0 (fields r)
       g = fit-rec st r 250 fit q (λ z. omega arith) (λ z. omega arith)
@@ -468,14 +414,14 @@ all-told (rest t) v c d =
 all-told (line r ls) v c d =
     let ih = all-told ls v c d in
     record {
-      ext = λ st p k s a b x e. (let w = told-line st p k v c d r ls e in ext-on st (p + length r + 2) (k + 1) v c d r ls ih (w .0) (w .1) s a b (λ z y. x z) (head _ _ (w .0 .may)));
-      under = λ st p k i e. (let w = told-line st p k v c d r ls e in under-on st (p + length r + 2) (k + 1) v c d r ls ih (w .0) (w .1) i (head _ _ (w .0 .may)));
-      first = λ st p k s x e. (let w = told-line st p k v c d r ls e in by-300 st (p + length r + 2) (k + 1) v c d r ls ih (w .0) (w .1) s (only _ _ (head _ _ (w .0 .may)) .at-2 x));
-      seven = λ st p k x e. (let w = told-line st p k v c d r ls e in
+      ext = λ st p k s a b x e. (let w = goes st p k r ls (v ∷ c ∷ d ∷ []) e in ext-on st (p + length r + 2) (k + 1) v c d r ls ih (w .fit) (w .on) s a b (λ z y. x z) (head _ _ (w .fit .may)));
+      under = λ st p k i e. (let w = goes st p k r ls (v ∷ c ∷ d ∷ []) e in under-on st (p + length r + 2) (k + 1) v c d r ls ih (w .fit) (w .on) i (head _ _ (w .fit .may)));
+      first = λ st p k s x e. (let w = goes st p k r ls (v ∷ c ∷ d ∷ []) e in by-300 st (p + length r + 2) (k + 1) v c d r ls ih (w .fit) (w .on) s (only _ _ (head _ _ (w .fit .may)) .at-2 x));
+      seven = λ st p k x e. (let w = goes st p k r ls (v ∷ c ∷ d ∷ []) e in
           by (eqb (kindIn (fields r)) 550)
-          (λ t. by-550 st (p + length r + 2) (k + 1) v c d r ls ih (w .0) (w .1) (eqb-true _ _ t))
-          (λ t. let u = seven-on st (p + length r + 2) (k + 1) v c d r ls ih (w .0) (w .1) (omega arith) (omega arith) (head _ _ (w .0 .may)) (λ y z. eqb-false _ _ t y) in none (u .0) (u .1) (u .2)));
-      eight = λ st p k x e. (let w = told-line st p k v c d r ls e in seven-on st (p + length r + 2) (k + 1) v c d r ls ih (w .0) (w .1) (omega arith) (omega arith) (head _ _ (w .0 .may)) (λ y z. omega arith));
+          (λ t. by-550 st (p + length r + 2) (k + 1) v c d r ls ih (w .fit) (w .on) (eqb-true _ _ t))
+          (λ t. let u = seven-on st (p + length r + 2) (k + 1) v c d r ls ih (w .fit) (w .on) (omega arith) (omega arith) (head _ _ (w .fit .may)) (λ y z. eqb-false _ _ t y) in none (u .0) (u .1) (u .2)));
+      eight = λ st p k x e. (let w = goes st p k r ls (v ∷ c ∷ d ∷ []) e in seven-on st (p + length r + 2) (k + 1) v c d r ls ih (w .fit) (w .on) (omega arith) (omega arith) (head _ _ (w .fit .may)) (λ y z. omega arith));
     }
 
 -- ---- the header, and the file
@@ -483,23 +429,23 @@ all-told (line r ls) v c d =
 channels-on : (st : Due) (p k v c d : ℕ) (ls : Lines) → st .expect ≡ 1 → walkOf st p k ls ≡ accepted (v ∷ c ∷ d ∷ []) → Chans st ls v c d
 channels-on st p k v c d (rest t) x e = absurd (told-open st p k v c d t (λ z. omega arith) e)
 channels-on st p k v c d (line r ls) x e =
-    let w = told-line st p k v c d r ls e in
-    by-200 st (p + length r + 2) (k + 1) v c d r ls (all-told ls v c d) (w .0) (w .1) (only _ _ (head _ _ (w .0 .may)) .at-1 x)
+    let w = goes st p k r ls (v ∷ c ∷ d ∷ []) e in
+    by-200 st (p + length r + 2) (k + 1) v c d r ls (all-told ls v c d) (w .fit) (w .on) (only _ _ (head _ _ (w .fit .may)) .at-1 x)
 
 readings-on : (st : Due) (p k v c d : ℕ) (ls : Lines) → st .expect ≡ 6 → walkOf st p k ls ≡ accepted (v ∷ c ∷ d ∷ [])
     → (rows : List Record) × (b : Basics (st .version) (st .channels) (st .days) v c d rows) × (bytesOf ls ≡ text rows) × (1 ≤ length (b .readings))
 readings-on st p k v c d (rest t) x e = absurd (told-open st p k v c d t (λ z. omega arith) e)
 readings-on st p k v c d (line r ls) x e =
-    let w = told-line st p k v c d r ls e in
-    by-250 st (p + length r + 2) (k + 1) v c d r ls (all-told ls v c d) (w .0) (w .1) (only _ _ (head _ _ (w .0 .may)) .at-6 x)
+    let w = goes st p k r ls (v ∷ c ∷ d ∷ []) e in
+    by-250 st (p + length r + 2) (k + 1) v c d r ls (all-told ls v c d) (w .fit) (w .on) (only _ _ (head _ _ (w .fit .may)) .at-6 x)
 
 whole : (v c d : ℕ) (ls : Lines) → length (bytesOf ls) ≤ 1048576 → walkOf begun 0 0 ls ≡ accepted (v ∷ c ∷ d ∷ []) → InFormat (bytesOf ls) v c d
 whole v c d (rest t) m e = absurd (told-open begun 0 0 v c d t (λ z. omega arith) e)
 whole v c d (line r ls) m e =
-    let t = told-line begun 0 0 v c d r ls e in
-    let q : kindIn (fields r) ≡ 100 = only _ _ (head _ _ (t .0 .may)) .at-0 refl in
-    let h : walkOf (on100 begun (fields r)) (0 + length r + 2) (0 + 1) ls ≡ accepted (v ∷ c ∷ d ∷ []) = rw (next-100 begun r q) at (t .1) in
-    let g = fit-rec begun r 100 (t .0) q (λ z. omega arith) (λ z. omega arith) in
+    let t = goes begun 0 0 r ls (v ∷ c ∷ d ∷ []) e in
+    let q : kindIn (fields r) ≡ 100 = only _ _ (head _ _ (t .fit .may)) .at-0 refl in
+    let h : walkOf (on100 begun (fields r)) (0 + length r + 2) (0 + 1) ls ≡ accepted (v ∷ c ∷ d ∷ []) = rw (after-100 begun r q) at (t .on) in
+    let g = fit-rec begun r 100 (t .fit) q (λ z. omega arith) (λ z. omega arith) in
     by (eqb (versionIn (fields r)) 12)
     (λ x.
     let u = channels-on (on100 begun (fields r)) (0 + length r + 2) (0 + 1) v c d ls (rw x) h in

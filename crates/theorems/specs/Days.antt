@@ -6,7 +6,7 @@ use mathlib.Core.List.{List, [], _∷_, _++_}
 use lib.ListN.{length, drop}
 use Rattle.ground.specs.Lists.{sum}
 use Rattle.format.specs.Records.{intervalsIn, valuesIn, quantityIn}
-use Rattle.format.specs.Day.{Row, DayRows, daysOf, Day, dayOf}
+use Rattle.format.specs.Day.{Row, BlockRows, DayRows, daysOf, Day, dayOf}
 use Rattle.theorems.specs.Grammar.{Record, join, text, IsRecord, Block, IsBlock, Channel, Reading, Content, nem12, nem13, InFormat}
 
 -- ---- places
@@ -16,23 +16,31 @@ abbrev pub behind : ℕ → List Record → ℕ
 behind p [] = p
 behind p (r ∷ rs) = behind (p + length (join r) + 2) rs
 
+-- a record that starts at p
+abbrev pub recordAt : ℕ → Record → Row
+recordAt p r = record { place = p; cells = r }
+
 -- records one after another from p on, with their places
 abbrev pub rowsAt : ℕ → List Record → List Row
 rowsAt p [] = []
-rowsAt p (r ∷ rs) = record { place = p; cells = r } ∷ rowsAt (p + length (join r) + 2) rs
+rowsAt p (r ∷ rs) = recordAt p r ∷ rowsAt (p + length (join r) + 2) rs
 
 -- ---- days
 
 abbrev pub rowsOf : Block → List Record
 rowsOf b = b .top ∷ (b .runs ++ b .extra)
 
--- the day of n intervals that a block at p is
-abbrev pub dayAt : ℕ → ℕ → Block → DayRows
-dayAt p n b = record { n = n; top = record { place = p; cells = b .top }; runs = rowsAt (p + length (join (b .top)) + 2) (b .runs) }
+-- a block of n intervals at p, with the places of its records
+abbrev pub blockAt : ℕ → ℕ → Block → BlockRows
+blockAt p n b = record { n = n; top = recordAt p (b .top); runs = rowsAt (p + length (join (b .top)) + 2) (b .runs) }
 
-abbrev pub blockDays : ℕ → ℕ → List Block → List DayRows
-blockDays p n [] = []
-blockDays p n (b ∷ bs) = dayAt p n b ∷ blockDays (behind p (rowsOf b)) n bs
+-- the day that a block at p is under the 200 c
+abbrev pub dayAt : ℕ → Row → Block → DayRows
+dayAt p c b = record { channel = c; block = blockAt p (intervalsIn (c .cells)) b }
+
+abbrev pub blockDays : ℕ → Row → List Block → List DayRows
+blockDays p c [] = []
+blockDays p c (b ∷ bs) = dayAt p c b ∷ blockDays (behind p (rowsOf b)) c bs
 
 abbrev pub behindBlocks : ℕ → List Block → ℕ
 behindBlocks p [] = p
@@ -41,7 +49,7 @@ behindBlocks p (b ∷ bs) = behindBlocks (behind p (rowsOf b)) bs
 abbrev pub channelDays : ℕ → List Channel → List DayRows
 channelDays p [] = []
 channelDays p (c ∷ cs) =
-    blockDays (p + length (join (c .head)) + 2) (intervalsIn (c .head)) (c .blocks)
+    blockDays (p + length (join (c .head)) + 2) (recordAt p (c .head)) (c .blocks)
     ++ channelDays (behindBlocks (p + length (join (c .head)) + 2) (c .blocks)) cs
 
 -- the days of a content at p; "A NEM13 file has no days."
@@ -53,7 +61,11 @@ contentDays p (nem13 rs) = []
 
 -- a block as a day of n intervals
 unfoldable pub dayIn : ℕ → Block → Day
-dayIn n b = dayOf (dayAt 0 n b)
+dayIn n b = dayOf (blockAt 0 n b)
+
+-- a day of a file
+abbrev pub meant : DayRows → Day
+meant x = dayOf (x .block)
 
 abbrev pub blockMeanings : ℕ → List Block → List Day
 blockMeanings n [] = []
@@ -103,9 +115,9 @@ pub record OneDay (file : List ℕ) (k : ℕ) : Type 0 where
   pub rows : DayRows
   pub more : List DayRows
   pub found : drop k (daysOf file) ≡ rows ∷ more
-  pub means : Means file k (dayOf rows)
-  pub only : (other : Day) → Means file k other → other ≡ dayOf rows
-  pub stands : StandsAt file (rows .top .place) (dayOf rows)
+  pub means : Means file k (meant rows)
+  pub only : (other : Day) → Means file k other → other ≡ meant rows
+  pub stands : StandsAt file (rows .block .top .place) (meant rows)
 
 -- ---- totals: "A 200's total is the sum of its days' values; a 250's is its quantity."
 

@@ -10,7 +10,7 @@ use lib.ListN.{length}
 use Rattle.ground.specs.Lists.{all}
 use Rattle.format.specs.Bytes.{fieldByte, endSpace}
 use Rattle.format.specs.Numbers.{noReason}
-use Rattle.format.specs.Quality.{Mark}
+use Rattle.format.specs.Quality.{flagS, flagF, flagV, Mark}
 use Rattle.format.specs.Cut.{field}
 use Rattle.format.specs.Records.{kindIn, rowOf, obeys, versionIn, intervalsIn, dateIn, firstIn, lastIn, readTimeIn, qualitiesOf, markAt, markIn}
 use Rattle.format.specs.Order.{isVaried}
@@ -59,12 +59,12 @@ Meets k [] (f ∷ fs) = ⊥
 Meets k (u ∷ us) [] = ⊥
 Meets k (u ∷ us) (f ∷ fs) = Clean f × (obeys k u f ≡ true) × Meets k us fs
 
--- "S and F need a reason. Reason 0 needs a description. V has neither." S is 83, F 70 and V 86
+-- "S and F need a reason. Reason 0 needs a description. V has neither."
 pub record Together (m : Mark) : Type 0 where
-  pub s-reason : m .flag ≡ 83 → m .reason ≢ noReason
-  pub f-reason : m .flag ≡ 70 → m .reason ≢ noReason
+  pub s-reason : m .flag ≡ flagS → m .reason ≢ noReason
+  pub f-reason : m .flag ≡ flagF → m .reason ≢ noReason
   pub nought : m .reason ≡ 0 → 1 ≤ length (m .text)
-  pub v-neither : m .flag ≡ 86 → (m .reason ≡ noReason) × (length (m .text) ≡ 0)
+  pub v-neither : m .flag ≡ flagV → (m .reason ≡ noReason) × (length (m .text) ≡ 0)
 
 -- a record of the kind k: its first field is that indicator, its fields are those of the table's row, and where it has a quality (a 250 has two), the rules
 -- across fields hold. n is the number of a 300's intervals, 0 for the other kinds

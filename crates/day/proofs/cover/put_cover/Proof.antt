@@ -1,6 +1,6 @@
 -- `day::cover::put_cover` meets its contract. Assumes nothing.
 use Prim.Native.Nat.{_+_, _≤_, _-_}
-use Rattle.bridge.specs.Sound.{coversFrom}
+use Rattle.passing.specs.Sound.{coversFrom}
 use Rattle.day.proofs.Marks.{turn-order, turn-less, turn-most, turn-room, turn-left, turn-roomy, turn-on, cover-end}
 use Rattle.day.specs.Places.{runsAt, runTags}
 use Rattle.format.specs.Day.{five}

@@ -14,7 +14,7 @@ part-requires : tie.Need-part-requires
 part-requires c κs = search needs
 
 add-days-from : tie.Need-add-days-from
-add-days-from c = let r : c .before .before .before .place .given .0 .1 .0 + 2 ≤ length (c .before .before .before .before .before .before .args .file .now) = search days-room in omega arith
+add-days-from c = let r : c .before .before .before .place .given .0 .1 .0 + 2 ≤ length (c .before .before .before .before .before .before .before .args .file .now) = search days-room in omega arith
 
 days-from-requires : tie.Need-days-from-requires
 days-from-requires c κs = search days-room

@@ -2,7 +2,7 @@
 -- behind them. Assumes nothing.
 use Prim.Native.Nat.{ℕ, suc, _+_, _≤_}
 use mathlib.Core.Path.{_≡_, refl, sym, ap, ap₂, _∙_, subst}
-use mathlib.Core.Bool.{Bool, true, false, cond}
+use mathlib.Core.Bool.{false, cond}
 use mathlib.Core.List.{List, [], _∷_, _++_}
 use native.Mathlib.Omega.{arith}
 use lib.ListN.{length, drop, length-append}
@@ -12,13 +12,15 @@ use borrow.Author.Tests.{eqb-true, eqb-false, ne-eqb}
 use Rattle.ground.proofs.Cases.{by}
 use Rattle.format.specs.Cut.{isCrlf, Lines, line, rest, onFirst, lines, fields}
 use Rattle.format.specs.Records.{kindIn, intervalsIn}
-use Rattle.format.specs.Order.{Due, begun, isVaried, on200, on300, on400, on500, on250, on550, on900, afterOf}
+use Rattle.format.specs.Order.{Due, begun}
 use Rattle.format.specs.File.{after, walkOf}
-use Rattle.format.specs.Day.{Row, DayRows, rowAt, runsFrom, daysFrom, daysOf}
-use Rattle.theorems.proofs.Bytes.{bytesOf, bytes-lines}
-use Rattle.theorems.proofs.Fit.{Fit, fine-fit, Head, h100, h200, more200, h300, h400, h500, h250, h550, h900, basic900, head}
-use Rattle.shortest.specs.Blocks.{Passes, kindsOf}
-use Rattle.shortest.proofs.Steps.{dayFound, days-more, days-skip}
+use Rattle.format.specs.Day.{Row, DayRows, rowAt, runsFrom, dayFrom, daysFrom, noChannel, daysOf}
+use Rattle.format.proofs.Cut.{bytesOf, bytes-lines}
+use Rattle.passing.specs.Passes.{Passes, kindsOf}
+use Rattle.passing.proofs.Fit.{Fit, fine-fit, head, not-ended}
+use Rattle.passing.proofs.Steps.{days-more, days-skip, channel-on}
+use Rattle.passing.proofs.Counts.{Holds, counts-begun, holds-begun, counted}
+use Rattle.passing.specs.Passes.{Counts}
 
 -- ---- lines
 
@@ -65,19 +67,6 @@ passes-append a e f x y h k = subst (λ (ls : Lines). Passes a ls f) (sym (lines
 
 -- ---- the check
 
--- behind the 900 no record is passed
-not-ended : (x k : ℕ) → Head x k → x ≡ 9 → ⊥
-not-ended x k (h100 e a) z = omega arith
-not-ended x k (h200 e a) z = omega arith
-not-ended x k (more200 e a b) z = omega arith
-not-ended x k (h300 e a b) z = omega arith
-not-ended x k (h400 e a) z = omega arith
-not-ended x k (h500 e a b) z = omega arith
-not-ended x k (h250 e a b) z = omega arith
-not-ended x k (h550 e a) z = omega arith
-not-ended x k (h900 e a b) z = omega arith
-not-ended x k (basic900 e a b) z = omega arith
-
 walk-lines : (a e : Due) (p k : ℕ) (ls m : Lines) → Passes a ls e → walkOf a p k (onto ls m) ≡ walkOf e (p + length (bytesOf ls)) (k + length (kindsOf ls)) m
 unfolding walkOf
 walk-lines a e p k (rest t) m h =
@@ -98,98 +87,78 @@ walk-append a e p k x y h =
 
 -- ---- the days
 
--- n of the 200 before, as a reading carries it, is the state's; before the 100 nothing is counted
-record Carries (a : Due) (n : ℕ) : Type 0 where
-  same : a .expect ≤ 5 → a .n ≡ n
-  start : a .expect ≡ 0 → (n ≡ 0) × (a .days ≡ 0)
-
-abbrev Stepped : Due → ℕ → ℕ → List (List ℕ) → Type 0
-Stepped a n k fs = Carries (afterOf a k fs) (cond (eqb k 200) (intervalsIn fs) n) × (afterOf a k fs .days ≡ a .days + cond (eqb k 300) 1 0)
-
--- behind the 100, where days may come, and where none do
-in-12 : (a : Due) (n : ℕ) → 1 ≤ a .expect → a .n ≡ n → Carries a n
-in-12 a n l e = record { same = λ z. e; start = λ z. absurd (let y : ⊥ = omega arith in y) }
-
-in-13 : (a : Due) (n : ℕ) → 6 ≤ a .expect → Carries a n
-in-13 a n l = record { same = λ z. absurd (let y : ⊥ = omega arith in y); start = λ z. absurd (let y : ⊥ = omega arith in y) }
-
-one-or-more : (b : Bool) → 1 ≤ cond b 4 3
-one-or-more true = omega arith
-one-or-more false = omega arith
-
-stepped : (a : Due) (n k : ℕ) (fs : List (List ℕ)) → Carries a n → Head (a .expect) k → Stepped a n k fs
-unfolding afterOf
-stepped a n k fs c (h100 e x) = let w = c .start x in rw e (record { same = λ z. sym (w .0); start = λ z. (w .0, refl) }, omega (arith, w .1))
-stepped a n k fs c (h200 e x) = rw e (in-12 (on200 a fs) (intervalsIn fs) (omega arith) refl, omega arith)
-stepped a n k fs c (more200 e x y) = rw e (in-12 (on200 a fs) (intervalsIn fs) (omega arith) refl, omega arith)
-stepped a n k fs c (h300 e x y) = rw e (in-12 (on300 a fs) n (one-or-more (isVaried (a .n) fs)) (c .same y), refl)
-stepped a n k fs c (h400 e x) = rw e (in-12 (on400 a fs) n (omega arith) (c .same (omega arith)), omega arith)
-stepped a n k fs c (h500 e x y) = rw e (in-12 (on500 a fs) n (omega arith) (c .same y), omega arith)
-stepped a n k fs c (h250 e x y) = rw e (in-13 (on250 a fs) n (omega arith), omega arith)
-stepped a n k fs c (h550 e x) = rw e (in-13 (on550 a fs) n (omega arith), omega arith)
-stepped a n k fs c (h900 e x y) = rw e (in-13 (on900 a fs) n (omega arith), omega arith)
-stepped a n k fs c (basic900 e x y) = rw e (in-13 (on900 a fs) n (omega arith), omega arith)
-
 -- the days of these lines, and then those of others behind them
-record Split (a e : Due) (p n : ℕ) (ls m : Lines) : Type 0 where
+record Split (a e : Due) (p : ℕ) (c : Row) (ls m : Lines) : Type 0 where
   before : List DayRows
-  behind : ℕ
-  is : daysFrom p n (onto ls m) ≡ before ++ daysFrom (p + length (bytesOf ls)) behind m
+  behind : Row
+  is : daysFrom p c (onto ls m) ≡ before ++ daysFrom (p + length (bytesOf ls)) behind m
   count : a .days + length before ≡ e .days
-  carries : Carries e behind
+  holds : Holds e (intervalsIn (behind .cells))
 
-module _ (a e : Due) (p n : ℕ) (r : List ℕ) (ls m : Lines) (f : Fit a r) (c : Carries a n) where
-  split-line : ((n′ : ℕ) → Carries (after a r) n′ → Split (after a r) e (p + length r + 2) n′ ls m) → Split a e p n (line r ls) m
+module _ (a e : Due) (p : ℕ) (c : Row) (r : List ℕ) (ls m : Lines) (f : Fit a r) (n : Counts a) (h : Holds a (intervalsIn (c .cells))) where
+  split-line : ((c′ : Row) → Counts (after a r) → Holds (after a r) (intervalsIn (c′ .cells)) → Split (after a r) e (p + length r + 2) c′ ls m) → Split a e p c (line r ls) m
   split-line g =
-      let s = stepped a n (kindIn (fields r)) (fields r) c (head _ _ (f .may)) in
+      let s = counted a (kindIn (fields r)) (fields r) n (head _ _ (f .may)) in
+      let o = s .holds (intervalsIn (c .cells)) h in
       let u : p + length r + 2 + length (bytesOf ls) ≡ p + length (r ++ 13 ∷ 10 ∷ bytesOf ls) = omega (arith, length-append r (13 ∷ 10 ∷ bytesOf ls)) in
       by (eqb (kindIn (fields r)) 300)
       (λ t.
       let k : kindIn (fields r) ≡ 300 = eqb-true _ _ t in
-      let w = g n (subst (λ (x : ℕ). Carries (after a r) (cond (eqb x 200) (intervalsIn (fields r)) n)) k (s .0)) in
+      let w = g c (s .counts) (subst (λ (x : ℕ). Holds (after a r) (cond (eqb x 200) (intervalsIn (fields r)) (intervalsIn (c .cells)))) k o) in
       record {
-        before = dayFound p r (onto ls m) n ∷ w .before;
+        before = dayFrom p c r (onto ls m) ∷ w .before;
         behind = w .behind;
         is =
-            days-more p r (onto ls m) n k
-            ∙ ap (λ (x : List DayRows). dayFound p r (onto ls m) n ∷ x) (w .is ∙ ap (λ (i : ℕ). w .before ++ daysFrom i (w .behind) m) u);
-        count = omega (arith, s .1, ap {B = ℕ} (λ (x : Bool). cond x 1 0) t, w .count);
-        carries = w .carries;
+            days-more p r (onto ls m) c k
+            ∙ ap (λ (x : List DayRows). dayFrom p c r (onto ls m) ∷ x) (w .is ∙ ap (λ (i : ℕ). w .before ++ daysFrom i (w .behind) m) u);
+        count = (let n : after a r .days ≡ a .days + 1 = (rw t at (s .days)) in omega (arith, w .count));
+        holds = w .holds;
       })
       (λ t.
-      let w = g (cond (eqb (kindIn (fields r)) 200) (intervalsIn (fields r)) n) (s .0) in
+      let w = g (cond (eqb (kindIn (fields r)) 200) (rowAt p r) c) (s .counts) (rw (channel-on (kindIn (fields r)) p c r) o) in
       record {
         before = w .before;
         behind = w .behind;
-        is = days-skip p r (onto ls m) n (eqb-false _ _ t) ∙ w .is ∙ ap (λ (i : ℕ). w .before ++ daysFrom i (w .behind) m) u;
-        count = omega (arith, s .1, ap {B = ℕ} (λ (x : Bool). cond x 1 0) t, w .count);
-        carries = w .carries;
+        is = days-skip p r (onto ls m) c (eqb-false _ _ t) ∙ w .is ∙ ap (λ (i : ℕ). w .before ++ daysFrom i (w .behind) m) u;
+        count = (let n : after a r .days ≡ a .days = (rw t at (s .days)) in omega (arith, w .count));
+        holds = w .holds;
       })
 
-days-lines : (a e : Due) (p n : ℕ) (ls m : Lines) → Passes a ls e → Carries a n → Split a e p n ls m
-days-lines a e p n (rest t) m h c =
+days-lines : (a e : Due) (p : ℕ) (c : Row) (ls m : Lines) → Passes a ls e → Counts a → Holds a (intervalsIn (c .cells)) → Split a e p c ls m
+days-lines a e p c (rest t) m h n g =
     let u : p ≡ p + length t = omega (arith, ap length (h .0)) in
     record {
       before = [];
-      behind = n;
-      is = ap (λ (i : ℕ). daysFrom i n m) u;
+      behind = c;
+      is = ap (λ (i : ℕ). daysFrom i c m) u;
       count = omega (arith, ap (λ (s : Due). s .days) (h .1));
-      carries = subst (λ (s : Due). Carries s n) (h .1) c;
+      holds = subst (λ (s : Due). Holds s (intervalsIn (c .cells))) (h .1) g;
     }
-days-lines a e p n (line r ls) m h c = split-line a e p n r ls m (fine-fit a r (h .0)) c (λ n′. days-lines (after a r) e (p + length r + 2) n′ ls m (h .1))
+days-lines a e p c (line r ls) m h n g = split-line a e p c r ls m (fine-fit a r (h .0)) n g (λ c′. days-lines (after a r) e (p + length r + 2) c′ ls m (h .1))
 
 -- ---- the days of a file whose first bytes are passed
 
-pub days-append : (e : Due) (x y : List ℕ) → Passes begun (lines x) e → e .expect ≤ 5 → drop (e .days) (daysOf (x ++ y)) ≡ daysFrom (length x) (e .n) (lines y)
+-- what a reading goes on with behind the bytes x: the days from there on, under the 200 before
+pub record Onward (e : Due) (x y : List ℕ) : Type 0 where
+  pub channel : Row
+  pub intervals : intervalsIn (channel .cells) ≡ e .n
+  pub is : drop (e .days) (daysOf (x ++ y)) ≡ daysFrom (length x) channel (lines y)
+
+pub days-append : (e : Due) (x y : List ℕ) → Passes begun (lines x) e → 2 ≤ e .expect → e .expect ≤ 5 → Onward e x y
 unfolding daysOf
-days-append e x y h u =
-    let w = days-lines begun e 0 0 (lines x) (lines y) h (record { same = λ z. refl; start = λ z. (refl, refl) }) in
+days-append e x y h l u =
+    let w = days-lines begun e 0 noChannel (lines x) (lines y) h counts-begun (holds-begun _) in
     let c : length (w .before) ≡ e .days = omega (arith, w .count) in
     let q : 0 + length (bytesOf (lines x)) ≡ length x = omega (arith, ap length (bytes-lines x)) in
-    ap (λ (ls : Lines). drop (e .days) (daysFrom 0 0 ls)) (lines-behind begun e x y h)
-    ∙ ap (drop (e .days)) (w .is)
-    ∙ drop-at (w .before) (daysFrom (0 + length (bytesOf (lines x))) (w .behind) (lines y)) (e .days) c
-    ∙ ap₂ (λ (i j : ℕ). daysFrom i j (lines y)) q (sym (w .carries .same u))
+    record {
+      channel = w .behind;
+      intervals = sym (w .holds l u);
+      is =
+          ap (λ (ls : Lines). drop (e .days) (daysFrom 0 noChannel ls)) (lines-behind begun e x y h)
+          ∙ ap (drop (e .days)) (w .is)
+          ∙ drop-at (w .before) (daysFrom (0 + length (bytesOf (lines x))) (w .behind) (lines y)) (e .days) c
+          ∙ ap (λ (i : ℕ). daysFrom i (w .behind) (lines y)) q;
+    }
 
 -- the 400s at the head of these lines, where no 400 follows behind them
 pub runs-lines : (p : ℕ) (ls m : Lines) → ((q : ℕ) → runsFrom q m ≡ []) → runsFrom p (onto ls m) ≡ runsFrom p ls

@@ -13,7 +13,7 @@ use Rattle.ground.proofs.Tests.{and-true}
 use Rattle.format.specs.Records.{valuesIn, millionths, firstIn, lastIn}
 use Rattle.format.specs.Order.{isVaried}
 use Rattle.format.specs.Day.{Row, BlockRows, coverOf, eachOf, valuesOf}
-use Rattle.bridge.specs.Sound.{coversFrom, isSound}
+use Rattle.passing.specs.Sound.{coversFrom, isSound}
 
 -- what a cover says of its first 400
 pub record Covered (k n : ℕ) (x : Row) (xs : List Row) : Type 0 where
