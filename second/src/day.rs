@@ -1,7 +1,8 @@
 //! Reading one day of a NEM12 file into lent lists.
 
-use crate::check::{read_file, Day};
+use crate::check::read_file;
 use crate::refusal::{Refusal, LENT_TOO_SHORT, NO_SUCH_NUMBER};
+use crate::walk::Day;
 
 /// The six lists that a reader lends. Each has a place for each interval.
 pub struct LentLists<'a> {

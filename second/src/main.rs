@@ -14,6 +14,7 @@ mod refusal;
 #[cfg(test)]
 mod settled;
 mod total;
+mod walk;
 mod write;
 
 use std::io::{self, BufWriter, Read, Write};

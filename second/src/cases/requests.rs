@@ -1,7 +1,8 @@
 //! Cases that put one question to a file: check it, read a day, or total a channel.
 
 use super::chance::Chance;
-use crate::check::{read_file, MeterFile};
+use crate::check::read_file;
+use crate::walk::MeterFile;
 
 /// A case on any file, in which checking is asked for most.
 pub fn for_file(file: &[u8], chance: &mut Chance) -> Vec<u8> {
