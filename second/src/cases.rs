@@ -62,7 +62,7 @@ mod tests {
         let lines = tally.lines();
         assert!(!lines.contains("bad case"), "{lines}");
         for number in 1..TOTAL_TOO_LARGE {
-            assert!(tally.refusals(number) > 0, "refusal {number} never given\n{lines}");
+            assert!(tally.all.refusals(number) > 0, "refusal {number} never given\n{lines}");
         }
     }
 

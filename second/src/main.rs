@@ -3,6 +3,7 @@
 
 #![forbid(unsafe_code)]
 
+mod block;
 mod cases;
 mod check;
 mod day;

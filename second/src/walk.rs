@@ -8,7 +8,7 @@ use crate::refusal::{
     RECORD_OUT_OF_PLACE, RULE_ACROSS_BROKEN, WRONG_FIELD_COUNT,
 };
 
-/// What an accepted file holds.
+/// What an accepted file holds. A block on its own counts as one day of one channel.
 pub struct MeterFile<'a> {
     /// 12 or 13.
     pub version: u64,
@@ -83,6 +83,8 @@ pub struct Walk<'a> {
     last_date: Option<u32>,
     /// The interval at which the next 400 has to start.
     next_interval: usize,
+    /// Whether a block on its own is walked over: one 300 and what stands under it.
+    over_block: bool,
     pub content: MeterFile<'a>,
 }
 
@@ -95,8 +97,22 @@ impl<'a> Walk<'a> {
             n: 0,
             last_date: None,
             next_interval: 1,
+            over_block: false,
             content: MeterFile { version: 0, channels: Vec::new(), days: Vec::new() },
         }
+    }
+
+    /// At the start of a block on its own, as if behind a 200 whose days have n intervals.
+    pub fn at_start_of_block(n: usize) -> Walk<'a> {
+        let mut walk = Walk::at_start_of_file();
+        walk.enter_channel(n);
+        walk.over_block = true;
+        walk
+    }
+
+    /// Whether the walk stands in a V day whose 400s don't reach the last interval yet.
+    pub fn is_in_open_cover(&self) -> bool {
+        self.place == Place::InCover
     }
 
     /// Whether the 900 was taken.
@@ -133,13 +149,20 @@ impl<'a> Walk<'a> {
     /// Refusals 10 and 4.
     fn kind_here(&self, record: &Record) -> Result<Kind, Refusal> {
         let kind = kind_of(record.bytes(1));
-        if self.place == Place::InCover && kind != Some(Kind::R400) {
+        if self.is_in_open_cover() && kind != Some(Kind::R400) {
             return Err(record.refuse(COVER_INCOMPLETE));
         }
         match kind {
-            Some(kind) if self.place.allows(kind) => Ok(kind),
+            Some(kind) if self.may_come(kind) => Ok(kind),
             _ => Err(record.refuse(RECORD_OUT_OF_PLACE)),
         }
+    }
+
+    /// Whether the order of records lets this kind come next. Nothing leaves the one day of a block on its own.
+    fn may_come(&self, kind: Kind) -> bool {
+        let stays_in_day = matches!(kind, Kind::R400 | Kind::R500);
+        let may_leave_day = !self.over_block || self.content.days.is_empty();
+        self.place.allows(kind) && (stays_in_day || may_leave_day)
     }
 
     /// Refusals 5, 6 and 7.
@@ -172,7 +195,12 @@ impl<'a> Walk<'a> {
     }
 
     fn take_channel(&mut self, record: &Record) {
-        self.n = fields::intervals_for_field(record.bytes(9)).expect("an interval length that keeps its rule");
+        let n = fields::intervals_for_field(record.bytes(9)).expect("an interval length that keeps its rule");
+        self.enter_channel(n);
+    }
+
+    fn enter_channel(&mut self, n: usize) {
+        self.n = n;
         self.last_date = None;
         self.content.channels.push(Channel { total: 0 });
         self.place = Place::AfterChannel;
