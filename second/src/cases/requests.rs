@@ -59,9 +59,10 @@ fn some_list_length(chance: &mut Chance, content: Option<&MeterFile>, day: usize
     }
 }
 
-fn case(request: &str, file: &[u8]) -> Vec<u8> {
-    let mut case = format!("{request} {}\n", file.len()).into_bytes();
-    case.extend(file);
+/// The words of a request, then the bytes that it is put to.
+pub fn case(request: &str, bytes: &[u8]) -> Vec<u8> {
+    let mut case = format!("{request} {}\n", bytes.len()).into_bytes();
+    case.extend(bytes);
     case.push(b'\n');
     case
 }
