@@ -1,6 +1,7 @@
 //! Fresh cases for the probe, made from a seed. A case depends on the seed and its own number alone.
 
 mod aimed;
+mod blocks;
 mod chance;
 mod damage;
 mod files;
@@ -14,13 +15,21 @@ use chance::Chance;
 /// The cases with these numbers have files at the limit of length and above it. There are few, as they are large.
 const LARGE_CASES: [u64; 3] = [250, 500, 750];
 
+/// The case with this number has a block that is longer than any file may be.
+const LARGE_BLOCK_CASE: u64 = 1000;
+
 /// The refusals that a file's content can be aimed at, each in turn, those with many ways to earn them more often.
 const AIMS: [u64; 16] = [2, 3, 4, 5, 6, 7, 8, 9, 6, 10, 11, 12, 13, 7, 6, 9];
 
-/// Cases come in rounds of this many. In each round so many are aimed at refusals, and so many sweep the fields.
-const ROUND: u64 = 25;
+/// The refusals that a block on its own can be aimed at, likewise.
+const BLOCK_AIMS: [u64; 16] = [2, 3, 4, 5, 6, 7, 9, 10, 11, 12, 16, 4, 10, 2, 16, 11];
+
+/// Cases come in rounds of this many. In each round so many files are aimed at refusals, and so many sweep the fields.
+const ROUND: u64 = 34;
 const AIMED_PER_ROUND: u64 = 4;
-const SWEPT_PER_ROUND: u64 = 6;
+const SWEPT_PER_ROUND: u64 = 9;
+/// So many blocks sweep theirs.
+const SWEPT_BLOCKS_PER_ROUND: u64 = 3;
 
 /// One case, its line and its bytes.
 pub fn case(seed: u64, index: u64) -> Vec<u8> {
@@ -28,24 +37,34 @@ pub fn case(seed: u64, index: u64) -> Vec<u8> {
     if let Some(which) = LARGE_CASES.iter().position(|large| *large == index) {
         return requests::for_file(&files::large(chance, which), chance);
     }
+    if index == LARGE_BLOCK_CASE {
+        return blocks::large(chance);
+    }
     let round = index / ROUND;
+    // Which one of a sweep: another seed begins elsewhere.
+    let swept = |per_round: u64, place: u64| seed.wrapping_add(round * per_round + place);
     match index % ROUND {
-        0..=3 => requests::for_accepted_file(&files::accepted(chance).bytes(), chance),
-        4..=6 => requests::for_file(&damage::damaged_file(chance), chance),
-        place @ 7..=10 => {
-            let turn = round * AIMED_PER_ROUND + (place - 7);
+        0..=2 => requests::for_accepted_file(&files::accepted(chance).bytes(), chance),
+        3..=5 => requests::for_file(&damage::damaged(chance, &files::accepted), chance),
+        place @ 6..=9 => {
+            let turn = round * AIMED_PER_ROUND + (place - 6);
             let aim = AIMS[turn as usize % AIMS.len()];
-            requests::for_file(&aimed::file_for(chance, aim), chance)
+            requests::for_file(&aimed::bytes_for(chance, &files::accepted, aim), chance)
         }
-        11..=12 => requests::for_file(&damage::tangled_file(chance), chance),
-        place @ 13..=18 => {
-            let turn = round * SWEPT_PER_ROUND + (place - 13);
-            requests::for_file(&sweep::file_with_field(chance, seed.wrapping_add(turn)), chance)
+        10..=11 => requests::for_file(&damage::tangled(chance, &files::accepted), chance),
+        place @ 12..=20 => {
+            let turn = swept(SWEPT_PER_ROUND, place - 12);
+            requests::for_file(&sweep::file_with_field(chance, turn), chance)
         }
-        19 => requests::for_file(&sweep::file_with_order(chance, seed.wrapping_add(round)), chance),
-        20..=21 => writes::fit(chance),
-        22..=23 => writes::unfit(chance),
-        _ => writes::with_several_faults(chance),
+        21 => requests::for_file(&sweep::file_with_order(chance, swept(1, 0)), chance),
+        22..=23 => writes::fit(chance),
+        24..=25 => writes::unfit(chance),
+        26 => writes::with_several_faults(chance),
+        27 => blocks::accepted(chance),
+        28 => blocks::damaged(chance),
+        29 => blocks::aimed(chance, BLOCK_AIMS[round as usize % BLOCK_AIMS.len()]),
+        30 => blocks::with_order(chance, swept(1, 0)),
+        place => blocks::with_field(chance, swept(SWEPT_BLOCKS_PER_ROUND, place - 31)),
     }
 }
 
@@ -62,7 +81,12 @@ mod tests {
         let lines = tally.lines();
         assert!(!lines.contains("bad case"), "{lines}");
         for number in 1..TOTAL_TOO_LARGE {
-            assert!(tally.refusals(number) > 0, "refusal {number} never given\n{lines}");
+            assert!(tally.all.refusals(number) > 0, "refusal {number} never given\n{lines}");
+        }
+        assert!(tally.blocks.accepted > 0);
+        for number in 1..TOTAL_TOO_LARGE {
+            let can_come = BLOCK_AIMS.contains(&number);
+            assert_eq!(tally.blocks.refusals(number) > 0, can_come, "refusal {number} of a block\n{lines}");
         }
     }
 

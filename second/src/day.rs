@@ -1,7 +1,8 @@
 //! Reading one day of a NEM12 file into lent lists.
 
-use crate::check::{read_file, Day};
+use crate::check::read_file;
 use crate::refusal::{Refusal, LENT_TOO_SHORT, NO_SUCH_NUMBER};
+use crate::walk::Day;
 
 /// The six lists that a reader lends. Each has a place for each interval.
 pub struct LentLists<'a> {
@@ -47,13 +48,18 @@ pub struct DayRead {
     pub load: u64,
 }
 
+impl DayRead {
+    pub fn of(day: &Day) -> DayRead {
+        DayRead { date: day.date, n: day.values.len(), update: day.update, load: day.load }
+    }
+}
+
 pub fn read_day(file: &[u8], number: usize, mut lists: LentLists) -> Result<DayRead, Refusal> {
     let content = read_file(file)?;
     let day = content.days.get(number).ok_or(Refusal::without_place(NO_SUCH_NUMBER))?;
-    let n = day.values.len();
-    if lists.shortest() < n {
+    if lists.shortest() < day.values.len() {
         return Err(Refusal::without_place(LENT_TOO_SHORT));
     }
     lists.fill(day);
-    Ok(DayRead { date: day.date, n, update: day.update, load: day.load })
+    Ok(DayRead::of(day))
 }

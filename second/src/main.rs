@@ -3,6 +3,7 @@
 
 #![forbid(unsafe_code)]
 
+mod block;
 mod cases;
 mod check;
 mod day;
@@ -14,6 +15,7 @@ mod refusal;
 #[cfg(test)]
 mod settled;
 mod total;
+mod walk;
 mod write;
 
 use std::io::{self, BufWriter, Read, Write};

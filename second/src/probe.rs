@@ -1,5 +1,6 @@
 //! The probe: cases in, answers out, line by line.
 
+use crate::block::check_block;
 use crate::check::check;
 use crate::day::{read_day, DayRead, LentLists};
 use crate::refusal::{self, Refusal};
@@ -7,20 +8,20 @@ use crate::total::total;
 use crate::write::{write_day, DayHead, DayLists};
 use std::io::{self, Write};
 
-const LONGEST_LENT_FILE: u64 = 1_100_000;
+/// Of a file or a block.
+const LONGEST_LENT: u64 = 1_100_000;
 const LONGEST_LIST: u64 = 300;
 const LONGEST_TEXT: u64 = 4_096;
 const LARGEST_ROOM: u64 = 131_072;
 
 /// How often each answer was given.
 #[derive(Default)]
-pub struct Tally {
-    accepted: u64,
+pub struct Counts {
+    pub accepted: u64,
     refused: [u64; refusal::LAST as usize + 1],
-    bad_case: bool,
 }
 
-impl Tally {
+impl Counts {
     fn count<T>(&mut self, answer: &Result<T, Refusal>) {
         match answer {
             Ok(_) => self.accepted += 1,
@@ -34,11 +35,37 @@ impl Tally {
         self.refused[number as usize]
     }
 
-    pub fn lines(&self) -> String {
-        let mut lines = format!("accepted {}\n", self.accepted);
+    /// A line for each answer, with these words before it.
+    fn lines(&self, before: &str) -> String {
+        let mut lines = format!("{before}accepted {}\n", self.accepted);
         for number in 1..=refusal::LAST {
-            lines += &format!("refused {number} {}\n", self.refused[number as usize]);
+            lines += &format!("{before}refused {number} {}\n", self.refused[number as usize]);
         }
+        lines
+    }
+}
+
+/// The answers of a run.
+#[derive(Default)]
+pub struct Tally {
+    pub all: Counts,
+    /// Those to `block` cases, which are among all too.
+    pub blocks: Counts,
+    bad_case: bool,
+}
+
+impl Tally {
+    fn count<T>(&mut self, answer: &Result<T, Refusal>) {
+        self.all.count(answer);
+    }
+
+    fn count_block<T>(&mut self, answer: &Result<T, Refusal>) {
+        self.all.count(answer);
+        self.blocks.count(answer);
+    }
+
+    pub fn lines(&self) -> String {
+        let mut lines = self.all.lines("") + &self.blocks.lines("block ");
         if self.bad_case {
             lines += "bad case 1\n";
         }
@@ -68,15 +95,19 @@ fn answer_case(input: &mut Input, tally: &mut Tally) -> Option<Vec<u8>> {
     let line = input.line()?;
     let words: Vec<&[u8]> = line.split(|byte| *byte == b' ').collect();
     match words[..] {
-        [b"check", length] => answer_check(input.file(length)?, tally),
+        [b"check", length] => answer_check(input.lent(length)?, tally),
         [b"day", day, places, length] => {
             let day = number(day, usize::MAX as u64)? as usize;
             let places = number(places, LONGEST_LIST)? as usize;
-            answer_day(input.file(length)?, day, places, tally)
+            answer_day(input.lent(length)?, day, places, tally)
         }
         [b"total", channel, length] => {
             let channel = number(channel, usize::MAX as u64)? as usize;
-            answer_total(input.file(length)?, channel, tally)
+            answer_total(input.lent(length)?, channel, tally)
+        }
+        [b"block", interval_length, length] => {
+            let interval_length = number(interval_length, u64::from(u32::MAX))? as u32;
+            answer_block(input.lent(length)?, interval_length, tally)
         }
         [b"write", ref numbers @ ..] => answer_write(input, numbers, tally),
         _ => None,
@@ -107,6 +138,15 @@ fn answer_total(file: &[u8], channel: usize, tally: &mut Tally) -> Option<Vec<u8
     tally.count(&answer);
     Some(match answer {
         Ok(total) => format!("accepted {total}\n").into_bytes(),
+        Err(refusal) => refusal_line(refusal, false),
+    })
+}
+
+fn answer_block(block: &[u8], interval_length: u32, tally: &mut Tally) -> Option<Vec<u8>> {
+    let answer = check_block(block, interval_length);
+    tally.count_block(&answer);
+    Some(match answer {
+        Ok(read) => format!("{} {}\n", day_words(read.day), read.records).into_bytes(),
         Err(refusal) => refusal_line(refusal, false),
     })
 }
@@ -223,10 +263,15 @@ fn refusal_line(refusal: Refusal, changed: bool) -> Vec<u8> {
     line
 }
 
-fn day_line(read: DayRead, lists: &OwnLists) -> Vec<u8> {
+/// What an answer says of an accepted day before its intervals or records.
+fn day_words(read: DayRead) -> String {
     let DayRead { date, n, update, load } = read;
-    let mut line = format!("accepted {date} {n} {update} {load}").into_bytes();
-    for index in 0..n {
+    format!("accepted {date} {n} {update} {load}")
+}
+
+fn day_line(read: DayRead, lists: &OwnLists) -> Vec<u8> {
+    let mut line = day_words(read).into_bytes();
+    for index in 0..read.n {
         let interval = format!(
             " {}/{}/{}/{}/{}/{}",
             lists.values[index],
@@ -238,7 +283,7 @@ fn day_line(read: DayRead, lists: &OwnLists) -> Vec<u8> {
         );
         line.extend(interval.bytes());
     }
-    end_line(&mut line, lists.changed_from(n));
+    end_line(&mut line, lists.changed_from(read.n));
     line
 }
 
@@ -280,8 +325,9 @@ impl<'a> Input<'a> {
         (self.take(1)? == b"\n").then_some(bytes)
     }
 
-    fn file(&mut self, length: &[u8]) -> Option<&'a [u8]> {
-        let length = number(length, LONGEST_LENT_FILE)?;
+    /// A file or a block of as many bytes as the word says, and the LF that ends the case.
+    fn lent(&mut self, length: &[u8]) -> Option<&'a [u8]> {
+        let length = number(length, LONGEST_LENT)?;
         self.announced(length as usize)
     }
 
@@ -359,6 +405,14 @@ mod tests {
             "day 0 301 0\n\n",
             "day 18446744073709551616 48 0\n\n",
             "total 0\n\n",
+            "block\n\n",
+            "block 30\n\n",
+            "block 30 0 \n\n",
+            "block -30 0\n\n",
+            "block 4294967296 0\n\n",
+            "block 30 1100001\n\n",
+            "block 30 1\n",
+            "block 30 0\nx",
             "write 20030922 30 20030922092231 0 10 0 0 0 0 0 0\n\n\n\n\n\n\n\n",
             "write 4294967296 30 20030922092231 0 10 0 0 0 0 0 0 0\n\n\n\n\n\n\n\n",
             "write 20030922 30 20030922092231 0 131073 0 0 0 0 0 0 0\n\n\n\n\n\n\n\n",
@@ -389,6 +443,29 @@ mod tests {
         assert_eq!(answers(&case), "refused 15 0 0 0\n");
         let case = write_case("0 31 0 0 0 0 0 0 0 0 0 0", 0, "");
         assert_eq!(answers(&case), "refused 16 0 0 0\n");
+    }
+
+    #[test]
+    fn a_block_is_answered_by_its_day_and_its_records() {
+        let day = format!("300,20030501,{}V,,,20030501153445,\r\n", "1,".repeat(48));
+        let block = format!("{day}400,1,24,A,,\r\n400,25,48,E52,,\r\n500,S,,,\r\n");
+        let case = |length: &str, block: &str| format!("block {length} {}\n{block}\n", block.len());
+        assert_eq!(answers(&case("30", &block)), "accepted 20030501 48 20030501153445 0 4\n");
+        assert_eq!(answers(&case("030", &block)), "accepted 20030501 48 20030501153445 0 4\n");
+        assert_eq!(answers(&case("30", &day)), format!("refused 10 {} 1 0\n", day.len()));
+        assert_eq!(answers(&case("4294967295", "")), "refused 16 0 0 0\n");
+        assert_eq!(answers(&case("15", "")), "refused 2 0 0 0\n");
+    }
+
+    #[test]
+    fn answers_to_blocks_are_counted_among_all_and_apart() {
+        let tally = run(b"block 30 0\n\ncheck 0\n\nblock 60 0\n\n", &mut io::sink()).unwrap();
+        assert_eq!((tally.all.refusals(2), tally.blocks.refusals(2)), (2, 1));
+        assert_eq!((tally.all.refusals(16), tally.blocks.refusals(16)), (1, 1));
+        let lines = tally.lines();
+        for line in ["refused 2 2\n", "block refused 2 1\n", "block accepted 0\n"] {
+            assert!(lines.contains(line), "{lines}");
+        }
     }
 
     #[test]

@@ -26,6 +26,7 @@ pub const READ_DATE_DIFFERS: u64 = 12;
 pub const BYTES_AFTER_END: u64 = 13;
 pub const NO_SUCH_NUMBER: u64 = 14;
 pub const LENT_TOO_SHORT: u64 = 15;
+/// Also an interval length that is none, of a block on its own.
 pub const DAY_UNFIT: u64 = 16;
 pub const TOTAL_TOO_LARGE: u64 = 17;
 

@@ -1,18 +1,19 @@
-//! Files aimed at one refusal that a file's content can earn. Some have a further damage, which may be met earlier.
+//! Files and blocks aimed at one refusal that their content can earn. Some have a further damage, which may be met
+//! earlier.
 
 use super::chance::Chance;
 use super::damage;
-use super::files::{self, rules_of, Draft, Row};
+use super::files::{self, rules_of, Draft, Make, Row};
 use super::words::{self, number_word, Word};
 use crate::records::{kind_of, Kind};
 
-pub fn file_for(chance: &mut Chance, aim: u64) -> Vec<u8> {
+pub fn bytes_for(chance: &mut Chance, make: Make, aim: u64) -> Vec<u8> {
     let mut bytes = match aim {
-        2 => no_record_end(chance),
-        3 => byte_outside(chance),
-        13 => bytes_after_end(chance),
+        2 => no_record_end(chance, make),
+        3 => byte_outside(chance, make),
+        13 => bytes_after_end(chance, make),
         _ => {
-            let mut draft = draft_for(chance, aim);
+            let mut draft = draft_for(chance, make, aim);
             if chance.one_in(6) {
                 damage::damage_draft(chance, &mut draft);
             }
@@ -25,25 +26,25 @@ pub fn file_for(chance: &mut Chance, aim: u64) -> Vec<u8> {
     bytes
 }
 
-fn draft_for(chance: &mut Chance, aim: u64) -> Draft {
+fn draft_for(chance: &mut Chance, make: Make, aim: u64) -> Draft {
     match aim {
-        4 => record_out_of_place(chance),
-        5 => wrong_field_count(chance),
-        6 => field_breaks_rule(chance),
-        7 => rule_across_broken(chance),
-        8 => date_not_later(chance),
-        9 => cover_broken(chance),
-        10 => cover_incomplete(chance),
-        11 => day_all_alike(chance),
-        12 => read_date_differs(chance),
+        4 => record_out_of_place(chance, make),
+        5 => wrong_field_count(chance, make),
+        6 => field_breaks_rule(chance, make),
+        7 => rule_across_broken(chance, make),
+        8 => date_not_later(chance, make),
+        9 => cover_broken(chance, make),
+        10 => cover_incomplete(chance, make),
+        11 => day_all_alike(chance, make),
+        12 => read_date_differs(chance, make),
         _ => unreachable!("no content is aimed at refusal {aim}"),
     }
 }
 
 // --- Bytes: refusals 2, 3 and 13 ---
 
-fn no_record_end(chance: &mut Chance) -> Vec<u8> {
-    let mut draft = files::accepted(chance);
+fn no_record_end(chance: &mut Chance, make: Make) -> Vec<u8> {
+    let mut draft = make(chance);
     match chance.below(6) {
         0 => {
             draft.rows.pop();
@@ -62,8 +63,8 @@ fn no_record_end(chance: &mut Chance) -> Vec<u8> {
     }
 }
 
-fn byte_outside(chance: &mut Chance) -> Vec<u8> {
-    let mut bytes = files::accepted(chance).bytes();
+fn byte_outside(chance: &mut Chance, make: Make) -> Vec<u8> {
+    let mut bytes = make(chance).bytes();
     for _ in 0..chance.between(1, 2) {
         let place = chance.below(bytes.len() - 1);
         let byte = chance.pick(damage::BYTES_OUTSIDE);
@@ -76,14 +77,14 @@ fn byte_outside(chance: &mut Chance) -> Vec<u8> {
     bytes
 }
 
-fn bytes_after_end(chance: &mut Chance) -> Vec<u8> {
-    let mut bytes = files::accepted(chance).bytes();
+fn bytes_after_end(chance: &mut Chance, make: Make) -> Vec<u8> {
+    let mut bytes = make(chance).bytes();
     match chance.below(8) {
         0 => bytes.extend(b"\r\n"),
         1 => bytes.extend(b"900\r\n"),
         2 => bytes.push(b'\n'),
         3 => bytes.push(b' '),
-        4 => bytes.extend(files::accepted(chance).bytes()),
+        4 => bytes.extend(make(chance).bytes()),
         5 => bytes.extend(b"no record end"),
         6 => bytes.push(0),
         _ => bytes.push(chance.below(256) as u8),
@@ -93,8 +94,8 @@ fn bytes_after_end(chance: &mut Chance) -> Vec<u8> {
 
 // --- Records and fields: refusals 4, 5, 6 and 7 ---
 
-fn record_out_of_place(chance: &mut Chance) -> Draft {
-    let mut draft = files::accepted(chance);
+fn record_out_of_place(chance: &mut Chance, make: Make) -> Draft {
+    let mut draft = make(chance);
     let place = chance.below(draft.rows.len());
     match chance.below(6) {
         0 => draft.rows[place][0] = words::breaking_indicator(chance),
@@ -122,9 +123,9 @@ fn put_cover_behind_order(chance: &mut Chance, draft: &mut Draft) {
     draft.rows.insert(place, files::cover_row(1, 48, &note));
 }
 
-fn wrong_field_count(chance: &mut Chance) -> Draft {
-    let mut draft = files::accepted(chance);
-    let place = some_row(chance, &draft);
+fn wrong_field_count(chance: &mut Chance, make: Make) -> Draft {
+    let mut draft = make(chance);
+    let place = some_row(chance, &draft, |_| true);
     let row = &mut draft.rows[place];
     match chance.below(5) {
         0 => row.push(Vec::new()),
@@ -144,35 +145,34 @@ fn wrong_field_count(chance: &mut Chance) -> Draft {
     draft
 }
 
-fn field_breaks_rule(chance: &mut Chance) -> Draft {
-    let mut draft = files::accepted(chance);
-    // The last row is the 900, which has no further field.
-    let end = draft.rows.pop();
-    let place = some_row(chance, &draft);
+fn field_breaks_rule(chance: &mut Chance, make: Make) -> Draft {
+    let mut draft = make(chance);
+    // A 900 has no field but its indicator.
+    let place = some_row(chance, &draft, |row| row.len() > 1);
     let row = &mut draft.rows[place];
     for _ in 0..chance.between(1, 2) {
         let field = damage::telling_field(chance, row).max(1);
         row[field] = words::breaking(chance, rules_of(row)[field]);
     }
-    draft.rows.extend(end);
     draft
 }
 
-/// The place of a row, each kind of record in the file being as likely as each other.
-fn some_row(chance: &mut Chance, draft: &Draft) -> usize {
+/// The place of a row that is wanted, each kind of record there being as likely as each other.
+fn some_row(chance: &mut Chance, draft: &Draft, wanted: impl Fn(&Row) -> bool) -> usize {
     use Kind::*;
+    let is_wanted = |place: &usize| wanted(&draft.rows[*place]);
     let places_by_kind: Vec<Vec<usize>> = [R100, R200, R300, R400, R500, R250, R550, R900]
         .into_iter()
-        .map(|kind| draft.places_of(kind))
-        .filter(|places| !places.is_empty())
+        .map(|kind| draft.places_of(kind).into_iter().filter(is_wanted).collect())
+        .filter(|places: &Vec<usize>| !places.is_empty())
         .collect();
     let kind = chance.below(places_by_kind.len());
     chance.pick(&places_by_kind[kind])
 }
 
-fn rule_across_broken(chance: &mut Chance) -> Draft {
+fn rule_across_broken(chance: &mut Chance, make: Make) -> Draft {
     let has_note = |row: &Row| matches!(kind_of(&row[0]), Some(Kind::R300 | Kind::R400 | Kind::R250));
-    let mut draft = files::accepted(chance);
+    let mut draft = make(chance);
     let places: Vec<usize> = (0..draft.rows.len()).filter(|place| has_note(&draft.rows[*place])).collect();
     let place = chance.pick(&places);
     for _ in 0..chance.between(1, 2) {
@@ -191,8 +191,8 @@ fn day_and_day_before(draft: &Draft) -> Option<(usize, usize)> {
     days.windows(2).find(together).map(|pair| (pair[1], pair[0]))
 }
 
-fn date_not_later(chance: &mut Chance) -> Draft {
-    let mut draft = files::accepted_with(chance, |draft| day_and_day_before(draft).is_some());
+fn date_not_later(chance: &mut Chance, make: Make) -> Draft {
+    let mut draft = files::made_with(chance, make, |draft| day_and_day_before(draft).is_some());
     if let Some((day, before)) = day_and_day_before(&draft) {
         let date_before = draft.rows[before][1].clone();
         let other_date = number_word(words::date(chance));
@@ -205,8 +205,8 @@ fn date_not_later(chance: &mut Chance) -> Draft {
     draft
 }
 
-fn accepted_with_cover(chance: &mut Chance) -> Draft {
-    files::accepted_with(chance, |draft| !draft.places_of(Kind::R400).is_empty())
+fn made_with_cover(chance: &mut Chance, make: Make) -> Draft {
+    files::made_with(chance, make, |draft| !draft.places_of(Kind::R400).is_empty())
 }
 
 /// The places of the 400s of one V day, from the first up to behind the last, and the day's n.
@@ -218,8 +218,8 @@ fn some_cover(chance: &mut Chance, draft: &Draft) -> (usize, usize, usize) {
     (first, first + length, draft.rows[first - 1].len() - 7)
 }
 
-fn cover_broken(chance: &mut Chance) -> Draft {
-    let mut draft = accepted_with_cover(chance);
+fn cover_broken(chance: &mut Chance, make: Make) -> Draft {
+    let mut draft = made_with_cover(chance, make);
     let (first, behind, n) = some_cover(chance, &draft);
     if chance.one_in(4) {
         draft.rows.insert(behind, further_cover(chance, n));
@@ -264,8 +264,8 @@ fn near_interval(chance: &mut Chance, from: &[u8], n: usize) -> Word {
     }
 }
 
-fn cover_incomplete(chance: &mut Chance) -> Draft {
-    let mut draft = accepted_with_cover(chance);
+fn cover_incomplete(chance: &mut Chance, make: Make) -> Draft {
+    let mut draft = made_with_cover(chance, make);
     let (first, behind, _) = some_cover(chance, &draft);
     let cut = chance.between(first, behind - 1);
     draft.rows.drain(cut..behind);
@@ -277,16 +277,16 @@ fn cover_incomplete(chance: &mut Chance) -> Draft {
     draft
 }
 
-fn day_all_alike(chance: &mut Chance) -> Draft {
-    let mut draft = accepted_with_cover(chance);
+fn day_all_alike(chance: &mut Chance, make: Make) -> Draft {
+    let mut draft = made_with_cover(chance, make);
     let (first, behind, n) = some_cover(chance, &draft);
     let cover = files::cover_all_alike(chance, n);
     draft.rows.splice(first..behind, cover);
     draft
 }
 
-fn read_date_differs(chance: &mut Chance) -> Draft {
-    let mut draft = files::accepted_with(chance, |draft| !draft.places_of(Kind::R500).is_empty());
+fn read_date_differs(chance: &mut Chance, make: Make) -> Draft {
+    let mut draft = files::made_with(chance, make, |draft| !draft.places_of(Kind::R500).is_empty());
     let orders = draft.places_of(Kind::R500);
     let place = chance.pick(&orders);
     draft.rows[place][3] = number_word(words::time(chance));

@@ -1,7 +1,8 @@
-//! Damage to accepted files: bytes, fields and records changed without an aim, or one record tangled in several ways.
+//! Damage to accepted files and blocks: bytes, fields and records changed without an aim, or one record tangled in
+//! several ways.
 
 use super::chance::Chance;
-use super::files::{self, rules_of, Draft, Row};
+use super::files::{self, rules_of, Draft, Make, Row};
 use super::words;
 use crate::records::{kind_of, quality_fields, Kind};
 
@@ -11,9 +12,9 @@ const EDGE_BYTES: &[u8] = b"\x00\x09\x0a\x0d\x1f\x20\x21#+,-./09:@AEFISVZ[`az{~\
 /// Bytes that may not stand in a record.
 pub const BYTES_OUTSIDE: &[u8] = b"\x00\x09\x0a\x0b\x0d\x1a\x1f\x7f\x80\x85\xa0\xff";
 
-/// A file with one to three damages.
-pub fn damaged_file(chance: &mut Chance) -> Vec<u8> {
-    let mut draft = files::accepted(chance);
+/// A file or block with one to three damages.
+pub fn damaged(chance: &mut Chance, make: Make) -> Vec<u8> {
+    let mut draft = make(chance);
     let damages = chance.between(1, 3);
     let to_bytes = chance.below(damages + 1);
     for _ in to_bytes..damages {
@@ -174,9 +175,9 @@ fn damage_record_end(chance: &mut Chance, bytes: &mut Vec<u8>) {
 
 // --- Several faults in one record ---
 
-/// A file in one record of which several things are changed, so that the order of refusals counts.
-pub fn tangled_file(chance: &mut Chance) -> Vec<u8> {
-    let mut draft = files::accepted(chance);
+/// A file or block in one record of which several things are changed, so that the order of refusals counts.
+pub fn tangled(chance: &mut Chance, make: Make) -> Vec<u8> {
+    let mut draft = make(chance);
     let place = chance.below(draft.rows.len());
     tangle(chance, &mut draft, place);
     if chance.one_in(4) {

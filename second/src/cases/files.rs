@@ -1,4 +1,4 @@
-//! Whole files that are accepted, and large ones at the limit of length.
+//! Whole files and single day blocks that are accepted, and large ones at the limit of length.
 
 use super::chance::Chance;
 use super::words::{self, number_word, NoteWords, Word};
@@ -10,7 +10,7 @@ use crate::write::record_bytes;
 /// A record's fields.
 pub type Row = Vec<Word>;
 
-/// A file as rows of fields, before it is bytes.
+/// A file or a block as rows of fields, before it is bytes.
 #[derive(Clone, Debug)]
 pub struct Draft {
     pub rows: Vec<Row>,
@@ -63,10 +63,13 @@ pub fn accepted(chance: &mut Chance) -> Draft {
     }
 }
 
-/// An accepted file that has what is asked for.
-pub fn accepted_with(chance: &mut Chance, has: impl Fn(&Draft) -> bool) -> Draft {
+/// Makes an accepted draft, of a file or of a block.
+pub type Make<'a> = &'a dyn Fn(&mut Chance) -> Draft;
+
+/// An accepted draft that has what is asked for.
+pub fn made_with(chance: &mut Chance, make: Make, has: impl Fn(&Draft) -> bool) -> Draft {
     loop {
-        let draft = accepted(chance);
+        let draft = make(chance);
         if has(&draft) {
             return draft;
         }
@@ -106,6 +109,12 @@ fn channel(chance: &mut Chance) -> Vec<Row> {
         rows.extend(day_block(chance, n, date));
     }
     rows
+}
+
+/// A day block on its own, of a date in any year that may stand.
+pub fn block(chance: &mut Chance, n: usize) -> Draft {
+    let date = words::date(chance);
+    Draft { rows: day_block(chance, n, date) }
 }
 
 fn day_block(chance: &mut Chance, n: usize, date: u32) -> Vec<Row> {
@@ -220,7 +229,7 @@ pub fn accumulation(chance: &mut Chance) -> Row {
     accumulation
 }
 
-// --- Large files ---
+// --- Large files and blocks ---
 
 /// A file of the largest length, of one byte more, or of many bytes more. Only its length is against it.
 pub fn large(chance: &mut Chance, which: usize) -> Vec<u8> {
@@ -246,6 +255,14 @@ fn file_of_length(chance: &mut Chance, length: usize) -> Vec<u8> {
     }
     fill_with_orders(&mut bytes, length - END.len());
     bytes.extend(END);
+    bytes
+}
+
+/// A half-hour block that is longer than any file may be.
+pub fn large_block(chance: &mut Chance) -> Vec<u8> {
+    let length = chance.between(LONGEST_FILE + 1, 1_100_000);
+    let mut bytes = block(chance, 48).bytes();
+    fill_with_orders(&mut bytes, length);
     bytes
 }
 

@@ -1,7 +1,8 @@
 //! Cases that put one question to a file: check it, read a day, or total a channel.
 
 use super::chance::Chance;
-use crate::check::{read_file, MeterFile};
+use crate::check::read_file;
+use crate::walk::MeterFile;
 
 /// A case on any file, in which checking is asked for most.
 pub fn for_file(file: &[u8], chance: &mut Chance) -> Vec<u8> {
@@ -58,9 +59,10 @@ fn some_list_length(chance: &mut Chance, content: Option<&MeterFile>, day: usize
     }
 }
 
-fn case(request: &str, file: &[u8]) -> Vec<u8> {
-    let mut case = format!("{request} {}\n", file.len()).into_bytes();
-    case.extend(file);
+/// The words of a request, then the bytes that it is put to.
+pub fn case(request: &str, bytes: &[u8]) -> Vec<u8> {
+    let mut case = format!("{request} {}\n", bytes.len()).into_bytes();
+    case.extend(bytes);
     case.push(b'\n');
     case
 }

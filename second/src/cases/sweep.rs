@@ -1,14 +1,19 @@
 //! Sweeps: every field with every content that is interesting there, and every kind of record at every place in the
-//! order of records, one after another. A long run leaves none of them out.
+//! order of records, one after another, in files and in blocks on their own. A long run leaves none of them out.
 
 use super::chance::Chance;
-use super::files::{self, Draft, Row};
+use super::damage;
+use super::files::{self, Draft, Make, Row};
 use super::words::{self, Word};
 use crate::fields::Rule;
 use crate::records::{layout, Kind};
+use crate::write::record_bytes;
 
 const KINDS: [Kind; 8] =
     [Kind::R100, Kind::R200, Kind::R300, Kind::R400, Kind::R500, Kind::R250, Kind::R550, Kind::R900];
+
+/// The kinds of record that a block has.
+const KINDS_OF_BLOCK: [Kind; 3] = [Kind::R300, Kind::R400, Kind::R500];
 
 /// A step that shares no divisor with the number of things swept, so that a short run is spread over them too.
 const STEP: u64 = 367;
@@ -23,9 +28,9 @@ struct Target {
     content: Word,
 }
 
-fn targets() -> Vec<Target> {
+fn targets(kinds: &[Kind]) -> Vec<Target> {
     let mut targets = Vec::new();
-    for kind in KINDS {
+    for &kind in kinds {
         // Indicators are swept with the order of records.
         for (place, rule) in layout(kind, 1).into_iter().enumerate().skip(1) {
             let contents = words::edges(rule).into_iter();
@@ -37,10 +42,19 @@ fn targets() -> Vec<Target> {
 
 /// A file that is accepted but for one field, if that field's content isn't.
 pub fn file_with_field(chance: &mut Chance, turn: u64) -> Vec<u8> {
-    let mut targets = targets();
+    with_field(chance, &files::accepted, &KINDS, turn)
+}
+
+/// A block of n intervals that is accepted but for one field, if that field's content isn't.
+pub fn block_with_field(chance: &mut Chance, n: usize, turn: u64) -> Vec<u8> {
+    with_field(chance, &|chance| files::block(chance, n), &KINDS_OF_BLOCK, turn)
+}
+
+fn with_field(chance: &mut Chance, make: Make, kinds: &[Kind], turn: u64) -> Vec<u8> {
+    let mut targets = targets(kinds);
     let which = turn.wrapping_mul(STEP) % targets.len() as u64;
     let target = targets.swap_remove(which as usize);
-    let mut draft = files::accepted_with(chance, |draft| !draft.places_of(target.kind).is_empty());
+    let mut draft = files::made_with(chance, make, |draft| !draft.places_of(target.kind).is_empty());
     let rows = draft.places_of(target.kind);
     let row = &mut draft.rows[chance.pick(&rows)];
     let field = place_in_row(chance, &target, row);
@@ -61,7 +75,7 @@ fn place_in_row(chance: &mut Chance, target: &Target, row: &Row) -> usize {
 
 // --- Order of records ---
 
-/// The records that lead to each place in the order of records. The days are half-hour days.
+/// The records that lead to each place in the order of a file's records. The days are half-hour days.
 fn leads(chance: &mut Chance) -> Vec<Vec<Row>> {
     let [header_12, header_13] = [b"NEM12", b"NEM13"].map(|version| {
         let mut header = files::row(chance, Kind::R100, 0);
@@ -70,45 +84,59 @@ fn leads(chance: &mut Chance) -> Vec<Vec<Row>> {
     });
     let mut channel = files::row(chance, Kind::R200, 0);
     channel[8] = b"30".to_vec();
-    let [v_day, plain_day] = [true, false].map(|v| half_hour_day(chance, v));
-    let cover = files::cover(chance, 48);
-    let mut order = files::row(chance, Kind::R500, 0);
-    order[3] = Vec::new();
     let accumulation = files::accumulation(chance);
     let order_13 = files::row(chance, Kind::R550, 0);
     let end = files::row(chance, Kind::R900, 0);
 
     let start_12 = vec![header_12, channel];
-    let in_v_day = [start_12.clone(), vec![v_day]].concat();
-    let covered = [in_v_day.clone(), cover.clone()].concat();
-    let in_plain_day = [start_12.clone(), vec![plain_day]].concat();
     let start_13 = vec![header_13, accumulation];
-    vec![
+    let in_channel: Vec<Vec<Row>> =
+        leads_of_block(chance, 48).into_iter().map(|lead| [start_12.clone(), lead].concat()).collect();
+    let complete_12 = [start_12.clone(), vec![plain_day(chance, 48), end.clone()]].concat();
+    let mut leads = vec![
         Vec::new(),
         start_12[..1].to_vec(),
-        start_12,
+        complete_12,
+        start_13[..1].to_vec(),
+        [start_13.clone(), vec![order_13]].concat(),
+        [start_13.clone(), vec![end]].concat(),
+        start_13,
+    ];
+    leads.extend(in_channel);
+    leads
+}
+
+/// The records that lead to each place in the order of a block's records, the block's start being the first.
+fn leads_of_block(chance: &mut Chance, n: usize) -> Vec<Vec<Row>> {
+    let cover = files::cover(chance, n);
+    let mut order = files::row(chance, Kind::R500, 0);
+    order[3] = Vec::new();
+
+    let in_v_day = vec![files::day(chance, n, DATE, &[b"V".to_vec(), Vec::new(), Vec::new()])];
+    let covered = [in_v_day.clone(), cover.clone()].concat();
+    let in_plain_day = vec![plain_day(chance, n)];
+    vec![
+        Vec::new(),
         [in_v_day.clone(), cover[..1].to_vec()].concat(),
         in_v_day,
         [covered.clone(), vec![order.clone()]].concat(),
         covered,
         [in_plain_day.clone(), vec![order]].concat(),
-        [in_plain_day.clone(), vec![end.clone()]].concat(),
         in_plain_day,
-        start_13[..1].to_vec(),
-        [start_13.clone(), vec![order_13]].concat(),
-        [start_13.clone(), vec![end]].concat(),
-        start_13,
     ]
 }
 
-fn half_hour_day(chance: &mut Chance, v: bool) -> Row {
-    let note = if v { [b"V".to_vec(), Vec::new(), Vec::new()] } else { words::note(chance).fields() };
-    files::day(chance, 48, 20_030_501, &note)
+/// The date of the days in whose order records are swept.
+const DATE: u32 = 20_030_501;
+
+fn plain_day(chance: &mut Chance, n: usize) -> Row {
+    let note = words::note(chance);
+    files::day(chance, n, DATE, &note.fields())
 }
 
 /// A record of each kind, and ones that are of no kind.
-fn next_rows(chance: &mut Chance) -> Vec<Row> {
-    let mut rows: Vec<Row> = KINDS.into_iter().map(|kind| files::row(chance, kind, 48)).collect();
+fn next_rows(chance: &mut Chance, n: usize) -> Vec<Row> {
+    let mut rows: Vec<Row> = KINDS.into_iter().map(|kind| files::row(chance, kind, n)).collect();
     rows.push(vec![Vec::new()]);
     rows.push(vec![words::breaking_indicator(chance)]);
     rows
@@ -116,7 +144,7 @@ fn next_rows(chance: &mut Chance) -> Vec<Row> {
 
 /// A file with one kind of record at one place in the order, and a 900 behind it.
 pub fn file_with_order(chance: &mut Chance, turn: u64) -> Vec<u8> {
-    let (leads, next_rows) = (leads(chance), next_rows(chance));
+    let (leads, next_rows) = (leads(chance), next_rows(chance, 48));
     let which = (turn.wrapping_mul(STEP) % (leads.len() * next_rows.len()) as u64) as usize;
     let mut rows = leads[which / next_rows.len()].clone();
     rows.push(next_rows[which % next_rows.len()].clone());
@@ -124,10 +152,31 @@ pub fn file_with_order(chance: &mut Chance, turn: u64) -> Vec<u8> {
     Draft { rows }.bytes()
 }
 
+/// What a block may end with: nothing, a record of each kind or of none, one with a byte outside, one without its end.
+fn block_ends(chance: &mut Chance, n: usize) -> Vec<Vec<u8>> {
+    let mut ends: Vec<Vec<u8>> = next_rows(chance, n).iter().map(|row| record_bytes(row)).collect();
+    let [mut outside, mut cut] = [0, 1].map(|_| ends[chance.below(KINDS.len())].clone());
+    // Before the record's CR at the latest, so that the record still ends.
+    let place = chance.below(outside.len() - 1);
+    outside.insert(place, chance.pick(damage::BYTES_OUTSIDE));
+    cut.truncate(cut.len() - chance.between(1, 2));
+    ends.extend([Vec::new(), outside, cut]);
+    ends
+}
+
+/// A block of n intervals that has one thing behind one place in the order, and ends there.
+pub fn block_with_order(chance: &mut Chance, n: usize, turn: u64) -> Vec<u8> {
+    let (leads, ends) = (leads_of_block(chance, n), block_ends(chance, n));
+    let which = (turn.wrapping_mul(STEP) % (leads.len() * ends.len()) as u64) as usize;
+    let mut bytes = Draft { rows: leads[which / ends.len()].clone() }.bytes();
+    bytes.extend(&ends[which % ends.len()]);
+    bytes
+}
+
 #[cfg(test)]
 mod tests {
     use super::*;
-    use crate::cases::{ROUND, SWEPT_PER_ROUND};
+    use crate::cases::{ROUND, SWEPT_BLOCKS_PER_ROUND, SWEPT_PER_ROUND};
 
     fn share_no_divisor(number: u64, other: u64) -> bool {
         if other == 0 {
@@ -140,10 +189,17 @@ mod tests {
     #[test]
     fn a_run_of_5000_leaves_nothing_out() {
         let chance = &mut Chance::for_case(1, 1);
-        let (fields, orders) = (targets().len() as u64, (leads(chance).len() * next_rows(chance).len()) as u64);
         let rounds = 5000 / ROUND;
-        assert!(fields <= rounds * SWEPT_PER_ROUND, "{fields} fields to sweep");
-        assert!(orders <= rounds, "{orders} orders to sweep");
-        assert!(share_no_divisor(fields, STEP) && share_no_divisor(orders, STEP));
+        let orders = leads(chance).len() * next_rows(chance, 48).len();
+        let orders_of_block = leads_of_block(chance, 48).len() * block_ends(chance, 48).len();
+        for (what, count, per_round) in [
+            ("fields", targets(&KINDS).len(), SWEPT_PER_ROUND),
+            ("orders", orders, 1),
+            ("fields of blocks", targets(&KINDS_OF_BLOCK).len(), SWEPT_BLOCKS_PER_ROUND),
+            ("orders of blocks", orders_of_block, 1),
+        ] {
+            assert!(count as u64 <= rounds * per_round, "{count} {what} to sweep");
+            assert!(share_no_divisor(count as u64, STEP), "{count} {what}");
+        }
     }
 }

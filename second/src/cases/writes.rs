@@ -235,7 +235,7 @@ fn shorten_list(chance: &mut Chance, draft: &mut Draft) {
 // --- Faults ---
 
 fn spoil_interval_length(chance: &mut Chance, draft: &mut Draft) {
-    draft.head.length = chance.pick(&[0, 1, 4, 6, 10, 14, 16, 29, 31, 45, 60, 288, 300, 1440, u32::MAX]);
+    draft.head.length = words::no_interval_length(chance);
 }
 
 fn spoil_head(chance: &mut Chance, draft: &mut Draft) {

@@ -1,0 +1,195 @@
+//! Cases that hand in a day block on its own: accepted ones, damaged ones, aimed ones and sweeps.
+
+use super::chance::Chance;
+use super::files::{self, Draft};
+use super::{aimed, damage, requests, sweep, words};
+use crate::records::Kind;
+
+/// An interval length in minutes, and the intervals of its day. Blocks of 5 minutes are large, and so they are fewer.
+fn some_length(chance: &mut Chance) -> (u32, usize) {
+    match chance.below(8) {
+        0 => (5, 288),
+        1..=2 => (15, 96),
+        _ => (30, 48),
+    }
+}
+
+fn case(minutes: u32, block: &[u8]) -> Vec<u8> {
+    requests::case(&format!("block {minutes}"), block)
+}
+
+pub fn accepted(chance: &mut Chance) -> Vec<u8> {
+    let (minutes, n) = some_length(chance);
+    case(minutes, &files::block(chance, n).bytes())
+}
+
+/// A block that is longer than any file may be, and accepted all the same.
+pub fn large(chance: &mut Chance) -> Vec<u8> {
+    case(30, &files::large_block(chance))
+}
+
+/// A block with several changes, anywhere or in one record.
+pub fn damaged(chance: &mut Chance) -> Vec<u8> {
+    let (minutes, n) = some_length(chance);
+    case(minutes, &damaged_bytes(chance, n))
+}
+
+fn damaged_bytes(chance: &mut Chance, n: usize) -> Vec<u8> {
+    let make = |chance: &mut Chance| files::block(chance, n);
+    if chance.one_in(3) {
+        damage::tangled(chance, &make)
+    } else {
+        damage::damaged(chance, &make)
+    }
+}
+
+/// A block with each field's interesting contents in turn.
+pub fn with_field(chance: &mut Chance, turn: u64) -> Vec<u8> {
+    let (minutes, n) = some_length(chance);
+    case(minutes, &sweep::block_with_field(chance, n, turn))
+}
+
+/// A block with each thing at each place in the order of its records in turn.
+pub fn with_order(chance: &mut Chance, turn: u64) -> Vec<u8> {
+    let (minutes, n) = some_length(chance);
+    case(minutes, &sweep::block_with_order(chance, n, turn))
+}
+
+// --- Aimed blocks ---
+
+/// A block aimed at one refusal.
+pub fn aimed(chance: &mut Chance, aim: u64) -> Vec<u8> {
+    let (minutes, n) = some_length(chance);
+    let bytes = match aim {
+        2 if chance.one_in(2) => bytes_behind(chance, n),
+        4 if chance.one_in(2) => record_behind(chance, n),
+        5 if chance.one_in(3) => block_of_other_length(chance, n),
+        16 => any_bytes(chance, n),
+        _ => aimed::bytes_for(chance, &|chance| files::block(chance, n), aim),
+    };
+    let minutes = if aim == 16 { words::no_interval_length(chance) } else { minutes };
+    case(minutes, &bytes)
+}
+
+/// A block or what may be left of one, with bytes behind it that don't end a record.
+fn bytes_behind(chance: &mut Chance, n: usize) -> Vec<u8> {
+    let mut bytes = block_or_part(chance, n).bytes();
+    let behind = chance.pick(&[b"\r".as_slice(), b"\n", b"900", b"500,S,,,", b"400,1,1,A,,\r", b"\x00", b" "]);
+    bytes.extend(behind);
+    bytes
+}
+
+/// A block or what may be left of one, with a record behind it that leaves the day, or with any other.
+fn record_behind(chance: &mut Chance, n: usize) -> Vec<u8> {
+    let mut draft = block_or_part(chance, n);
+    match chance.below(4) {
+        0 => draft.rows.push(files::row(chance, Kind::R200, n)),
+        1 => draft.rows.extend(files::block(chance, n).rows),
+        2 => draft.rows.push(files::row(chance, Kind::R900, n)),
+        _ => draft.rows.push(damage::any_row(chance)),
+    }
+    draft.bytes()
+}
+
+/// A block, of which some last records may be missing, so that its cover may be open.
+fn block_or_part(chance: &mut Chance, n: usize) -> Draft {
+    let mut draft = files::block(chance, n);
+    if chance.one_in(2) {
+        let keep = chance.below(draft.rows.len());
+        draft.rows.truncate(keep);
+    }
+    draft
+}
+
+fn block_of_other_length(chance: &mut Chance, n: usize) -> Vec<u8> {
+    loop {
+        let other = chance.pick(&[48, 96, 288]);
+        if other != n {
+            return files::block(chance, other).bytes();
+        }
+    }
+}
+
+/// Bytes of a block in any state, or none.
+fn any_bytes(chance: &mut Chance, n: usize) -> Vec<u8> {
+    match chance.below(3) {
+        0 => Vec::new(),
+        1 => damaged_bytes(chance, n),
+        _ => files::block(chance, n).bytes(),
+    }
+}
+
+#[cfg(test)]
+mod tests {
+    use super::*;
+    use crate::block::check_block;
+    use crate::cases::BLOCK_AIMS;
+    use crate::check::{check, Summary, LONGEST_FILE};
+    use crate::refusal::{Refusal, DAY_UNFIT, NO_RECORD_END, RECORD_OUT_OF_PLACE};
+
+    const HEADER: &str = "100,NEM12,200301011534,MDP1,Ret1\r\n";
+
+    /// The interval length and the bytes of a `block` case.
+    fn parts(case: &[u8]) -> (u32, &[u8]) {
+        let line_end = case.iter().position(|byte| *byte == b'\n').expect("a line");
+        let line = std::str::from_utf8(&case[..line_end]).expect("words");
+        let minutes = line.split(' ').nth(1).expect("an interval length");
+        (minutes.parse().expect("a number"), &case[line_end + 1..case.len() - 1])
+    }
+
+    /// What the block's refusal would be if it stood in a file behind a header and a 200.
+    fn in_file(refusal: Refusal, before: usize) -> Refusal {
+        Refusal { place: refusal.place + before, record: refusal.record + 2, ..refusal }
+    }
+
+    /// Holds the answer to a block against the answer to a file of which it is the only day.
+    fn compare_with_file(case: &[u8]) {
+        let (minutes, block) = parts(case);
+        let channel = format!("{HEADER}200,VABD000163,E1,,E1,,,kWh,{minutes},\r\n");
+        let file = [channel.as_bytes(), block, b"900\r\n"].concat();
+        let in_block = check_block(block, minutes);
+        match (in_block, check(&file)) {
+            (Ok(_), answer) => assert_eq!(answer, Ok(Summary { version: 12, channels: 1, days: 1 })),
+            // There is no such 200.
+            (Err(refusal), _) if refusal.number == DAY_UNFIT => assert_eq!(refusal, Refusal::without_place(DAY_UNFIT)),
+            // The file's 900 goes on where the block ends.
+            (Err(refusal), _) if refusal.number == NO_RECORD_END => {
+                assert!(!block[refusal.place..].windows(2).any(|pair| pair == b"\r\n"));
+            }
+            (Err(refusal), answer) if refusal.number == RECORD_OUT_OF_PLACE => {
+                let leaves_day = [b"200", b"300", b"900"].iter().any(|kind| block[refusal.place..].starts_with(*kind));
+                assert!(leaves_day && refusal.record > 0 || answer == Err(in_file(refusal, channel.len())));
+            }
+            (Err(refusal), answer) => assert_eq!(answer, Err(in_file(refusal, channel.len()))),
+        }
+    }
+
+    #[test]
+    fn blocks_meant_to_be_accepted_are_accepted() {
+        for index in 0..300 {
+            let case = accepted(&mut Chance::for_case(5, index));
+            let (minutes, block) = parts(&case);
+            let answer = check_block(block, minutes);
+            assert!(answer.is_ok(), "{answer:?}\n{}", String::from_utf8_lossy(block));
+        }
+    }
+
+    #[test]
+    fn a_large_block_is_longer_than_a_file_may_be() {
+        let case = large(&mut Chance::for_case(5, 0));
+        let (minutes, block) = parts(&case);
+        assert!(block.len() > LONGEST_FILE && check_block(block, minutes).is_ok());
+    }
+
+    #[test]
+    fn a_block_is_answered_as_the_only_day_of_a_file() {
+        for index in 0..400 {
+            let chance = &mut Chance::for_case(5, index);
+            compare_with_file(&accepted(chance));
+            compare_with_file(&damaged(chance));
+            compare_with_file(&aimed(chance, BLOCK_AIMS[index as usize % BLOCK_AIMS.len()]));
+            compare_with_file(&with_field(chance, index));
+            compare_with_file(&with_order(chance, index));
+        }
+    }
+}
