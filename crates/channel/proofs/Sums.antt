@@ -22,8 +22,8 @@ use Rattle.format.specs.Answers.{Answer, accepted, refusal}
 use Rattle.format.specs.Total.{sumFrom, totalFirst}
 use Rattle.format.specs.declared.Number.{Number}
 use Rattle.format.specs.declared.Number.the-variants.{Is, Bad}
-use Rattle.quick.specs.Shapes.{isThousandths}
-use Rattle.quick.proofs.Shapes.{thousandths-plain}
+use Rattle.quick_values.specs.Shapes.{isThousandths}
+use Rattle.quick_values.proofs.Shapes.{thousandths-plain}
 use Rattle.record.specs.Places.{LineEnd, Cut, Rest}
 use Rattle.record.proofs.Ends.{line-none, line-more}
 use Rattle.record.proofs.Cuts.{rest-whole, rest-next, rest-on, rest-first}

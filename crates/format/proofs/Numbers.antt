@@ -1,7 +1,7 @@
 -- Numbers: the cases of `numberOf`, `smallOf`, `valueOf` and `isRead` as the code meets them, and what a number that was read says of its bytes.
 -- Assumes nothing.
 use mathlib.Core.Path.{_≡_, refl, sym, ap, _∙_}
-use mathlib.Core.Bool.{Bool, true, false, cond}
+use mathlib.Core.Bool.{Bool, true, false, cond, false≢true}
 use mathlib.Core.List.{List}
 use Prim.Native.Nat.{ℕ, _+_, _-_, _*_, _^_, _≤_, _<_, min}
 use native.Mathlib.Nat.{mul-lt-mul-of-pos-right, one-le-pow}
@@ -18,7 +18,7 @@ use Rattle.ground.proofs.Tests.{tests, and-false, and-true}
 use Rattle.ground.proofs.Lists.{passed-stops, passed-all, to-end}
 use Rattle.ground.proofs.Decimal.{Read, decimal-below, pow-below}
 use Rattle.format.specs.Bytes.{areAll}
-use Rattle.format.specs.Numbers.{that, orEmpty, numberOf, leadingZero, smallOf, point, before, behind, times, fractionOf, amount, valueOf, areDigits, isRead}
+use Rattle.format.specs.Numbers.{isNumber, that, orEmpty, numberOf, leadingZero, smallOf, point, before, behind, times, fractionOf, amount, valueOf, areDigits, isRead}
 use Rattle.format.specs.declared.Number.{Number}
 use Rattle.format.specs.declared.Number.the-variants.{Is, Bad}
 
@@ -195,6 +195,15 @@ value-below d s v e = one (eqb (point s) (length s)) e
     one : (b : Bool) → cond b (amount (numberOf 1 7 s) (Is 0)) (amount (numberOf 1 7 (before s)) (fractionOf d (behind s))) ≡ Is v → v < 10 ^ 13
     one true q = amount-below (numberOf 1 7 s) (Is 0) v (number-under 1 7 s) (lit≤ tt) q
     one false q = amount-below (numberOf 1 7 (before s)) (fractionOf d (behind s)) v (number-under 1 7 (before s)) (fraction-under d (behind s)) q
+
+-- ---- digits whose number passes a test
+
+pub digits-of : (p : ℕ → Bool) (k : ℕ) (s : List ℕ) → isNumber (that p (numberOf k k s)) ≡ true → all isDigit s ≡ true
+digits-of p k s t = one (numberOf k k s) refl t
+  where
+    one : (n : Number) → numberOf k k s ≡ n → isNumber (that p n) ≡ true → all isDigit s ≡ true
+    one (Is v) e h = got k k s v e .is
+    one Bad e h = absurd (false≢true h)
 
 -- ---- register reads
 
