@@ -1,12 +1,12 @@
 // Marks: compared, measured and written. A mark is a tag, and its description stands in the lent text.
+use field_texts::marks::put_quality;
+use field_texts::marks::put_reason;
+use field_texts::marks::quality_len;
+use field_texts::marks::reason_len;
 use format::Tag;
 use leaf::bytes::same_bytes;
 use text::bytes::put_byte;
 use text::bytes::put_part;
-use text::marks::put_quality;
-use text::marks::put_reason;
-use text::marks::quality_len;
-use text::marks::reason_len;
 ghost use mathlib.Core.Path.{_≡_};
 ghost use mathlib.Core.Bool.{true};
 ghost use Prim.Native.Nat.{_+_, _≤_};

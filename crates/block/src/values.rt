@@ -1,8 +1,8 @@
 // A day's values, each with a comma behind it.
 use super::Measured;
+use field_texts::values::put_value;
+use field_texts::values::value_len;
 use text::bytes::put_byte;
-use text::values::put_value;
-use text::values::value_len;
 ghost use mathlib.Core.Path.{_≡_};
 ghost use Prim.Native.Nat.{_+_, _≤_};
 ghost use lib.ListN.{length};

@@ -1,9 +1,9 @@
 // Which marks a day that is handed in may have: those that a single 400 may carry, each description inside the lent text.
-use field::quality::across;
-use field::texts::description;
 use format::Tag;
-use leaf::flags::stands_alone;
-use leaf::flags::takes_method;
+use quality_rules::across;
+use quality_rules::flags::stands_alone;
+use quality_rules::flags::takes_method;
+use text_rules::description;
 ghost use mathlib.Core.Path.{_≡_};
 ghost use mathlib.Core.Bool.{_&&_};
 ghost use Prim.Native.Nat.{suc};

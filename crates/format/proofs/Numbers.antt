@@ -201,6 +201,15 @@ value-below d s v e = one (eqb (point s) (length s)) e
     one true q = amount-below (numberOf 1 7 s) (Is 0) v (number-under 1 7 s) (lit≤ tt) q
     one false q = amount-below (numberOf 1 7 (before s)) (fractionOf d (behind s)) v (number-under 1 7 (before s)) (fraction-under d (behind s)) q
 
+-- ---- digits whose number passes a test
+
+pub digits-of : (p : ℕ → Bool) (k : ℕ) (s : List ℕ) → isNumber (that p (numberOf k k s)) ≡ true → all isDigit s ≡ true
+digits-of p k s t = one (numberOf k k s) refl t
+  where
+    one : (n : Number) → numberOf k k s ≡ n → isNumber (that p n) ≡ true → all isDigit s ≡ true
+    one (Is v) e h = got k k s v e .is
+    one Bad e h = absurd (false≢true h)
+
 -- ---- register reads
 
 module _ (s : List ℕ) {p : ℕ} {b : Bool} (h : length s ≤ 15) (e : p ≡ spanOf (other 46) s) where

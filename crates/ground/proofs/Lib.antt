@@ -1,4 +1,5 @@
 pub mod Tests
+pub mod Rows
 pub mod Cases
 pub mod Lists
 pub mod Same
@@ -6,6 +7,7 @@ pub mod Decimal
 pub mod Spans
 pub mod Prefix
 pub mod Digits
+pub mod Bytes
 pub mod From
 pub mod Room
 pub mod Runs

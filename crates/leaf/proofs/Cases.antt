@@ -1,60 +1,13 @@
--- The cases of classes of bytes, one law for a return of the code.
+-- The cases of texts and their ends, one law for a return of the code.
 -- Assumes nothing.
 use mathlib.Core.Path.{_≡_, refl}
-use mathlib.Core.Bool.{Bool, true, false, not}
+use mathlib.Core.Bool.{Bool, false, not}
 use mathlib.Core.List.{List, [], _∷_}
-use Prim.Native.Nat.{ℕ, _≤_, _<_}
+use Prim.Native.Nat.{ℕ, _≤_}
 use native.Mathlib.Omega.{arith}
 use lib.ListN.{length}
-use lib.Dec.{leb, eqb}
 use borrow.Author.Tests.{le-leb}
-use Rattle.ground.specs.Text.{bytes}
-use Rattle.ground.specs.Digits.{isDigit}
-use Rattle.ground.proofs.Tests.{tests}
-use Rattle.format.specs.Bytes.{isCapital, isLetter, isAlnum, endSpace, isText}
-use Rattle.leaf.specs.Classes.{inClass}
-use Rattle.leaf.specs.declared.Class.{Class}
-use Rattle.leaf.specs.declared.Class.the-variants.{Digit, Capital, Letter, Alnum, NoHash}
-
--- ---- bytes
-
-module _ (b : ℕ) {c : Bool} (e : c ≡ isCapital b) where
-  pub letter-capital : c ≡ true → true ≡ isLetter b
-  unfolding isLetter
-  letter-capital t = rw (← e, t)
-
-  pub letter-none : c ≡ false → b < 97 → false ≡ isLetter b
-  unfolding isLetter
-  letter-none t h = rw (← e, t) (search tests)
-
-  pub letter-last : c ≡ false → 97 ≤ b → leb b 122 ≡ isLetter b
-  unfolding isLetter
-  letter-last t h = rw (← e, t) (search tests)
-
-module _ (b : ℕ) {d : Bool} (e : d ≡ isDigit b) where
-  pub alnum-digit : d ≡ true → true ≡ isAlnum b
-  unfolding isAlnum
-  alnum-digit t = rw (← e, t)
-
-  pub alnum-letter : {l : Bool} → d ≡ false → l ≡ isLetter b → l ≡ isAlnum b
-  unfolding isAlnum
-  alnum-letter t q = rw (← e, t) q
-
-module _ (c : Class) (b : ℕ) {r : Bool} where
-  pub class-digit : c ≡ Digit → r ≡ isDigit b → r ≡ inClass c b
-  class-digit e q = rw e q
-
-  pub class-capital : c ≡ Capital → r ≡ isCapital b → r ≡ inClass c b
-  class-capital e q = rw e q
-
-  pub class-letter : c ≡ Letter → r ≡ isLetter b → r ≡ inClass c b
-  class-letter e q = rw e q
-
-  pub class-alnum : c ≡ Alnum → r ≡ isAlnum b → r ≡ inClass c b
-  class-alnum e q = rw e q
-
-pub class-no-hash : (c : Class) (b : ℕ) → c ≡ NoHash → not (eqb b 35) ≡ inClass c b
-class-no-hash c b e = rw e
+use Rattle.format.specs.Bytes.{endSpace, isText}
 
 pub no-end : (s : List ℕ) → length s ≡ 0 → false ≡ endSpace s
 unfolding endSpace

@@ -2,7 +2,17 @@
 use format::Number;
 ghost use mathlib.Core.Path.{_≡_};
 ghost use Prim.Native.Nat.{min};
-ghost use Rattle.format.specs.Numbers.{numberOf, leadingZero, smallOf};
+ghost use Rattle.format.specs.Numbers.{isNumber, numberOf, leadingZero, smallOf};
+
+// There is a number.
+pub fn is_number(x: Number) -> bool
+    ensures { λ r. ⌜ r ≡ isNumber x ⌝ }
+{
+    match x {
+        Number::Is(_) => true,
+        Number::Bad => false,
+    }
+}
 
 // The number that least to most digits write, of which no more than 14 are read.
 pub fn digits(f: &[u8], least: usize, most: usize) -> Number

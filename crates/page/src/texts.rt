@@ -1,7 +1,7 @@
 // Texts put on a page from a place on, as much of each as there is room for. Each function answers the place behind what it put.
+use field_texts::values::put_value;
 use text::bytes::put_bytes;
 use text::digits::put_dec;
-use text::values::put_value;
 ghost use mathlib.Core.Path.{_≡_};
 ghost use mathlib.Core.List.{_∷_};
 ghost use Rattle.ground.specs.Lists.{part as Lists·part};

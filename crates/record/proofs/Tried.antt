@@ -28,11 +28,11 @@ use Rattle.format.specs.declared.Rule.the-variants as rule
 use Rattle.format.specs.declared.Number.{Number}
 use Rattle.format.specs.declared.Number.the-variants.{Is}
 use Rattle.format.proofs.Cut.{field-here}
-use Rattle.quick.specs.Shapes.{isThousandths}
-use Rattle.quick.proofs.Shapes.{thousandths-value, thousandths-plain}
-use Rattle.quick.proofs.Bytes.{holds-none}
-use Rattle.quick.proofs.CommonDates.{date-plain, time-plain}
-use Rattle.quick.proofs.Indicators.{indicator-plain}
+use Rattle.quick_values.specs.Shapes.{isThousandths}
+use Rattle.quick_values.proofs.Shapes.{thousandths-value, thousandths-plain}
+use Rattle.ground.proofs.Bytes.{holds-none}
+use Rattle.quick_dates.proofs.CommonDates.{date-plain, time-plain}
+use Rattle.quick_kinds.proofs.Indicators.{indicator-plain}
 use Rattle.record.specs.Walk.{Stops, Ended, heldOf}
 use Rattle.record.specs.declared.Held.{Held}
 use Rattle.record.specs.declared.Held.the-variants.{To, Broken}

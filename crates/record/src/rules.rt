@@ -1,13 +1,9 @@
 // The rule of each field by its number from 0, and a field held to its rule.
-use field::dates;
-use field::numbers;
-use field::quality;
-use field::texts;
 use format::Graded;
 use format::Rule;
-use quick::is_number;
-use quick::is_read;
-use quick::is_value;
+use leaf::digits::is_number;
+use quick_values::is_read;
+use quick_values::is_value;
 ghost use mathlib.Core.Path.{_≡_};
 ghost use Prim.Native.Nat.{_≤_};
 ghost use lib.ListN.{getD};
@@ -184,31 +180,31 @@ pub fn obeys(kind: u64, rule: Rule, f: &[u8]) -> bool
 {
     match rule {
         Rule::Indicator => true,
-        Rule::Version => is_number(texts::version(f)),
-        Rule::Created => is_number(dates::created(f)),
-        Rule::Party => texts::party(f),
-        Rule::Nmi => texts::nmi(f),
-        Rule::Configuration => texts::configuration(f),
-        Rule::Register => texts::register(f),
-        Rule::Suffix => texts::suffix(f),
-        Rule::Stream => texts::data_stream(f),
-        Rule::Serial => texts::serial(f),
-        Rule::Unit => texts::unit(f),
-        Rule::Length => is_number(numbers::interval_length(f)),
-        Rule::NextRead => is_number(dates::next_read_date(f)),
-        Rule::Date => is_number(dates::date(f)),
+        Rule::Version => is_number(text_rules::version(f)),
+        Rule::Created => is_number(date_rules::created(f)),
+        Rule::Party => text_rules::party(f),
+        Rule::Nmi => text_rules::nmi(f),
+        Rule::Configuration => text_rules::configuration(f),
+        Rule::Register => text_rules::register(f),
+        Rule::Suffix => text_rules::suffix(f),
+        Rule::Stream => text_rules::data_stream(f),
+        Rule::Serial => text_rules::serial(f),
+        Rule::Unit => text_rules::unit(f),
+        Rule::Length => is_number(number_rules::interval_length(f)),
+        Rule::NextRead => is_number(date_rules::next_read_date(f)),
+        Rule::Date => is_number(date_rules::date(f)),
         Rule::Value => is_value(f),
-        Rule::Quality => is_graded(quality::quality(f, kind)),
-        Rule::Reason => is_number(numbers::reason(f)),
-        Rule::Description => texts::description(f),
-        Rule::Time => is_number(dates::time(f)),
-        Rule::Load => is_number(dates::load_time(f)),
-        Rule::Interval => is_number(numbers::interval(f)),
-        Rule::TransCode => texts::trans_code(f),
-        Rule::ServiceOrder => texts::service_order(f),
-        Rule::ReadTime => is_number(dates::read_time(f)),
-        Rule::IndexRead => numbers::index_read(f),
-        Rule::Direction => texts::direction(f),
+        Rule::Quality => is_graded(quality_rules::quality(f, kind)),
+        Rule::Reason => is_number(number_rules::reason(f)),
+        Rule::Description => text_rules::description(f),
+        Rule::Time => is_number(date_rules::time(f)),
+        Rule::Load => is_number(date_rules::load_time(f)),
+        Rule::Interval => is_number(number_rules::interval(f)),
+        Rule::TransCode => text_rules::trans_code(f),
+        Rule::ServiceOrder => text_rules::service_order(f),
+        Rule::ReadTime => is_number(date_rules::read_time(f)),
+        Rule::IndexRead => value_rules::index_read(f),
+        Rule::Direction => text_rules::direction(f),
         Rule::RegisterRead => is_read(f),
     }
 }

@@ -2,9 +2,6 @@
 use super::Run;
 use super::pieces::field_end;
 use super::says::start_of;
-use field::numbers;
-use field::quality;
-use field::texts;
 use format::Graded;
 use format::Number;
 use format::Tag;
@@ -31,12 +28,12 @@ fn reasoned(
 {
     let x = b + 1;
     let c = x + field_end(&file[x..e]);
-    let r = numbers::reason(&file[x..c]);
+    let r = number_rules::reason(&file[x..c]);
     let Number::Is(reason) = r else {
         return Run::Broken(x - at, 5);
     };
     let y = c + 1;
-    if !texts::description(&file[y..e]) {
+    if !text_rules::description(&file[y..e]) {
         return Run::Broken(y - at, 6);
     }
     let n = e - y;
@@ -61,7 +58,7 @@ fn graded(file: &[u8], at: usize, e: usize, b: usize, from: usize, to: usize) ->
 {
     let q = b + 1;
     let c = q + field_end(&file[q..e]);
-    let g = quality::quality(&file[q..c], 400);
+    let g = quality_rules::quality(&file[q..c], 400);
     let Graded::Of(flag, method) = g else {
         return Run::Broken(q - at, 4);
     };
@@ -75,7 +72,7 @@ fn ended(file: &[u8], at: usize, e: usize, b: usize, from: usize) -> Run
 {
     let p = b + 1;
     let c = p + field_end(&file[p..e]);
-    let x = numbers::interval(&file[p..c]);
+    let x = number_rules::interval(&file[p..c]);
     let Number::Is(to) = x else {
         return Run::Broken(p - at, 3);
     };
@@ -90,7 +87,7 @@ pub fn run_at(file: &[u8], at: usize, e: usize) -> Run
     let b = at + 3;
     let a = b + 1;
     let c = a + field_end(&file[a..e]);
-    let x = numbers::interval(&file[a..c]);
+    let x = number_rules::interval(&file[a..c]);
     let Number::Is(from) = x else {
         return Run::Broken(a - at, 2);
     };

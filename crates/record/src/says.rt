@@ -1,14 +1,9 @@
 // What the field at a place of the file says, in a record that ends at e. Where the field breaks its rule, the number is 0.
 use super::pieces::field_at;
 use super::pieces::first_field;
-use field::dates;
-use field::numbers;
-use field::quality;
-use field::texts;
 use format::Graded;
 use format::Number;
 use format::Tag;
-use quick::kinds;
 ghost use mathlib.Core.Path.{_≡_};
 ghost use mathlib.Core.Bool.{cond};
 ghost use Prim.Native.Nat.{_≤_, _<_, _^_};
@@ -41,21 +36,21 @@ pub fn kind_at(file: &[u8], at: usize, e: usize) -> u64
     if 3 < e - at {
         let z = at + 3;
         if file[z] == 44 {
-            let x = kinds::indicator(&file[at..z]);
+            let x = quick_kinds::indicator(&file[at..z]);
             match x {
                 Number::Is(k) => return k,
                 Number::Bad => {}
             }
         }
     }
-    number_in(numbers::indicator(first_field(file, at, e)))
+    number_in(number_rules::indicator(first_field(file, at, e)))
 }
 
 pub fn version_at(file: &[u8], a: usize, e: usize) -> u64
     requires { ⌜ (a ≤ e) × (e ≤ length (now file)) ⌝ }
     ensures { λ r. ⌜ r ≡ numberIn (versionOf (field 0 (fields (part (now (file .entry)) a e)))) ⌝ }
 {
-    number_in(texts::version(first_field(file, a, e)))
+    number_in(text_rules::version(first_field(file, a, e)))
 }
 
 // n, where the field is the interval length.
@@ -63,7 +58,7 @@ pub fn intervals_at(file: &[u8], a: usize, e: usize) -> usize
     requires { ⌜ (a ≤ e) × (e ≤ length (now file)) ⌝ }
     ensures { λ r. ⌜ r ≡ intervalsOf (numberIn (lengthOf (field 0 (fields (part (now (file .entry)) a e))))) ⌝ }
 {
-    numbers::intervals(number_in(numbers::interval_length(first_field(file, a, e))))
+    number_rules::intervals(number_in(number_rules::interval_length(first_field(file, a, e))))
 }
 
 pub fn date_at(file: &[u8], a: usize, e: usize) -> u64
@@ -71,14 +66,14 @@ pub fn date_at(file: &[u8], a: usize, e: usize) -> u64
     ensures is { λ r. ⌜ r ≡ numberIn (dateOf (field 0 (fields (part (now (file .entry)) a e)))) ⌝ }
     ensures small { λ r. ⌜ r < 10 ^ 8 ⌝ }
 {
-    number_in(dates::date(first_field(file, a, e)))
+    number_in(date_rules::date(first_field(file, a, e)))
 }
 
 pub fn read_time_at(file: &[u8], a: usize, e: usize) -> u64
     requires { ⌜ (a ≤ e) × (e ≤ length (now file)) ⌝ }
     ensures { λ r. ⌜ r ≡ numberIn (readTimeOf (field 0 (fields (part (now (file .entry)) a e)))) ⌝ }
 {
-    number_in(dates::read_time(first_field(file, a, e)))
+    number_in(date_rules::read_time(first_field(file, a, e)))
 }
 
 // An update time.
@@ -86,14 +81,14 @@ pub fn time_at(file: &[u8], a: usize, e: usize) -> u64
     requires { ⌜ (a ≤ e) × (e ≤ length (now file)) ⌝ }
     ensures { λ r. ⌜ r ≡ numberIn (timeOf (field 0 (fields (part (now (file .entry)) a e)))) ⌝ }
 {
-    number_in(dates::time(first_field(file, a, e)))
+    number_in(date_rules::time(first_field(file, a, e)))
 }
 
 pub fn load_time_at(file: &[u8], a: usize, e: usize) -> u64
     requires { ⌜ (a ≤ e) × (e ≤ length (now file)) ⌝ }
     ensures { λ r. ⌜ r ≡ numberIn (loadOf (field 0 (fields (part (now (file .entry)) a e)))) ⌝ }
 {
-    number_in(dates::load_time(first_field(file, a, e)))
+    number_in(date_rules::load_time(first_field(file, a, e)))
 }
 
 // A value or a quantity, in millionths.
@@ -101,7 +96,7 @@ pub fn value_of(f: &[u8]) -> u64
     ensures is { λ r. ⌜ r ≡ millionths (now (f .entry)) ⌝ }
     ensures small { λ r. ⌜ r < 10 ^ 13 ⌝ }
 {
-    number_in(numbers::value(f, 6))
+    number_in(value_rules::value(f, 6))
 }
 
 // A 400's start or end.
@@ -110,7 +105,7 @@ pub fn interval_at(file: &[u8], a: usize, e: usize) -> usize
     ensures is { λ r. ⌜ r ≡ numberIn (intervalOf (field 0 (fields (part (now (file .entry)) a e)))) ⌝ }
     ensures small { λ r. ⌜ r < 10000 ⌝ }
 {
-    number_in(numbers::interval(first_field(file, a, e))) as usize
+    number_in(number_rules::interval(first_field(file, a, e))) as usize
 }
 
 fn flag_in(g: Graded) -> u8
@@ -134,7 +129,7 @@ fn method_in(g: Graded) -> u8
 fn reason_of(f: &[u8]) -> u16
     ensures { λ r. ⌜ r ≡ numberIn (reasonOf (now (f .entry))) ⌝ }
 {
-    number_in(numbers::reason(f)) as u16
+    number_in(number_rules::reason(f)) as u16
 }
 
 // The place of a stretch, 0 where it is empty.
@@ -160,7 +155,7 @@ pub fn tag_at(file: &[u8], a: usize, e: usize, kind: u64) -> Tag
     let y = r.next;
     let d = field_at(file, y, e);
     let n = d.to - y;
-    let g = quality::quality(&file[a..b], kind);
+    let g = quality_rules::quality(&file[a..b], kind);
     Tag {
         flag: flag_in(g),
         method: method_in(g),

@@ -21,8 +21,8 @@ use Rattle.format.specs.Records.{kindIn, millionths, valuesIn}
 use Rattle.format.specs.Total.{sumFrom}
 use Rattle.format.specs.declared.Number.{Number}
 use Rattle.format.specs.declared.Number.the-variants.{Is, Bad}
-use Rattle.quick.specs.Shapes.{isThousandths}
-use Rattle.quick.proofs.Shapes.{thousandths-plain}
+use Rattle.quick_values.specs.Shapes.{isThousandths}
+use Rattle.quick_values.proofs.Shapes.{thousandths-plain}
 use Rattle.record.specs.Places.{LineEnd, Cut, Rest}
 use Rattle.record.proofs.Ends.{line-none, line-more}
 use Rattle.record.proofs.Cuts.{rest-whole, rest-next, rest-on, rest-first}

@@ -1,6 +1,6 @@
--- What a turn and the end of each loop go by: bytes copied, digits written from the last one on, digits counted, zeros trimmed. Each invariant says
+-- What a turn and the end of each loop go by: bytes copied, digits written from the last one on, digits counted. Each invariant says
 -- what is left to do. Assumes nothing.
-use Prim.Native.Nat.{ℕ, zero, suc, _+_, _-_, _/_, _%_, _^_, _≤_, _<_}
+use Prim.Native.Nat.{ℕ, _+_, _-_, _/_, _%_, _^_, _≤_, _<_}
 use mathlib.Core.Path.{_≡_, refl, sym, ap, _∙_}
 use mathlib.Core.List.{List}
 use native.Mathlib.Nat.{add-zero}
@@ -9,13 +9,10 @@ use lib.ListN.{length, set, drop, getD, length-set, drop-of-length-le}
 use lib.Seq.{sets}
 use mir.Val.{Fits}
 use mir.Syntax.{w64}
-use borrow.Author.Tests.{eq-eqb, ne-eqb}
 use Rattle.ground.specs.Digits.{padded, width}
 use Rattle.ground.specs.Room.{Put}
 use Rattle.ground.proofs.Digits.{length-padded, padded-step, width-step, width-small, width-most, width-pos}
 use Rattle.ground.proofs.Room.{sets-snoc, sets-next}
-use Rattle.format.specs.Block.{places, trimmed}
-use Rattle.text.specs.Trims.{Trims}
 
 -- ---- copying: i bytes of src are written
 
@@ -85,36 +82,3 @@ module _ (n : ℕ) where
 
   pub counted-all : (w m : ℕ) → m < 10 → Counted n w m → w ≡ width n
   counted-all w m h r = omega (arith, r .sum, width-small m h)
-
--- ---- trimming: of p decimals that write m, as many are left as of all six
-
-pub record Cut (f p m : ℕ) : Type 0 where
-  pub within : p ≤ 6
-  pub left : places p m ≡ places 6 f
-  pub number : trimmed p m ≡ trimmed 6 f
-
-module _ (f : ℕ) where
-  pub cut-none : Cut f 6 f
-  cut-none = record { within = omega arith; left = refl; number = refl }
-
-  pub cut-more : (p m : ℕ) → 0 < p → m % 10 ≡ 0 → Cut f p m → Cut f (p - 1) (m / 10)
-  unfolding places trimmed
-  cut-more zero m h e r = absurd (omega arith)
-  cut-more (suc p) m h e r =
-      let s : suc p - 1 ≡ p = omega arith in
-      record {
-        within = omega (arith, r .within);
-        left = rw s (rw (eq-eqb (m % 10) 0 e) at (r .left));
-        number = rw s (rw (eq-eqb (m % 10) 0 e) at (r .number));
-      }
-
-  pub cut-stops : (p m : ℕ) → 0 < p → (m % 10 ≡ 0 → ⊥) → Cut f p m → Trims f p m
-  unfolding places trimmed
-  cut-stops zero m h e r = absurd (omega arith)
-  cut-stops (suc p) m h e r =
-      record { left = rw (ne-eqb (m % 10) 0 e) at (r .left); number = rw (ne-eqb (m % 10) 0 e) at (r .number); most = r .within }
-
-  pub cut-all : (p m : ℕ) → p ≤ 0 → Cut f p m → Trims f p m
-  unfolding places trimmed
-  cut-all zero m h r = record { left = r .left; number = r .number; most = r .within }
-  cut-all (suc p) m h r = absurd (omega arith)

@@ -1,2 +1,1 @@
 pub mod Inside
-pub mod Trims

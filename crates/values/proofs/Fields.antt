@@ -11,8 +11,8 @@ use Rattle.ground.proofs.Spans.{span-le, part-length}
 use Rattle.format.specs.Cut.{fields, field}
 use Rattle.format.specs.Records.{millionths}
 use Rattle.format.proofs.Cut.{field-here}
-use Rattle.quick.specs.Shapes.{isThousandths}
-use Rattle.quick.proofs.Shapes.{thousandths-plain}
+use Rattle.quick_values.specs.Shapes.{isThousandths}
+use Rattle.quick_values.proofs.Shapes.{thousandths-plain}
 use Rattle.record.specs.Places.{Cut}
 use Rattle.record.proofs.Tried.{comma-field, comma-whole}
 use Rattle.values.specs.declared.Taken.{Taken}

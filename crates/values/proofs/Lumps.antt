@@ -15,8 +15,8 @@ use Rattle.ground.proofs.Lists.{rest}
 use Rattle.ground.proofs.Decimal.{digit-is}
 use Rattle.ground.proofs.Spans.{part-length}
 use Rattle.format.specs.Records.{millionths}
-use Rattle.quick.specs.Shapes.{isThousandths}
-use Rattle.quick.proofs.Shapes.{thousandths-number}
+use Rattle.quick_values.specs.Shapes.{isThousandths}
+use Rattle.quick_values.proofs.Shapes.{thousandths-number}
 use Rattle.values.specs.Lumps.{noLess, Alike}
 
 -- ---- two lists, byte by byte

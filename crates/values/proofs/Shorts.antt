@@ -19,7 +19,7 @@ use Rattle.format.specs.Records.{millionths}
 use Rattle.format.specs.declared.Number.the-variants.{Is}
 use Rattle.format.proofs.Numbers.{value-below}
 use Rattle.format.proofs.NumberText.{digits-are}
-use Rattle.quick.proofs.Bytes.{digit-range, digits-plain, holds-none}
+use Rattle.ground.proofs.Bytes.{digit-range, digits-plain, holds-none}
 use Rattle.values.specs.Shapes.{Whole, Pointed, Complete}
 
 -- ---- a byte more

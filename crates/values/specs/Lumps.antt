@@ -6,7 +6,7 @@ use mathlib.Core.Bool.{Bool, true, _&&_}
 use lib.ListN.{getD}
 use lib.Dec.{leb}
 use Rattle.ground.specs.Lists.{part}
-use Rattle.quick.specs.Shapes.{isThousandths}
+use Rattle.quick_values.specs.Shapes.{isThousandths}
 
 -- every byte of a list is at least the byte of another list at its place
 abbrev pub noLess : List ℕ → List ℕ → Bool

@@ -4,7 +4,7 @@ pub mod lump;
 pub mod short;
 
 use lump::thousand;
-use quick::thousandths;
+use quick_values::thousandths;
 use record::pieces::field_at;
 use record::says::value_of;
 ghost use mathlib.Core.Path.{_≡_};

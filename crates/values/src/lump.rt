@@ -6,7 +6,7 @@ ghost use Prim.Native.Nat.{_+_, _≤_, _<_, _^_};
 ghost use lib.ListN.{length};
 ghost use Rattle.ground.specs.Lists.{part};
 ghost use Rattle.format.specs.Records.{millionths};
-ghost use Rattle.quick.specs.Shapes.{isThousandths};
+ghost use Rattle.quick_values.specs.Shapes.{isThousandths};
 ghost use Rattle.values.specs.Lumps.{noLess, Alike};
 
 // Each byte of s is at least the byte of t at its place.

@@ -4,7 +4,7 @@ use super::Digits;
 use super::Taken;
 use super::Valued;
 use super::value_at;
-use leaf::bytes::is_digit;
+use classes::is_digit;
 ghost use mathlib.Core.Path.{_≡_};
 ghost use Prim.Native.Nat.{_+_, _-_, _*_, _≤_, _<_, _^_};
 ghost use lib.ListN.{length};

@@ -2,11 +2,11 @@
 mod pieces;
 
 use block::Measured;
-use field::numbers::intervals;
 use format::DayHead;
 use format::Refusal;
 use format::Written;
 use lists::enough;
+use number_rules::intervals;
 use pieces::fit_day;
 use pieces::measure_block;
 use pieces::put_block;

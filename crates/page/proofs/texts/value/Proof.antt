@@ -5,7 +5,7 @@ use Rattle.page.proofs.texts.value.Tie as tie
 use Rattle.page.proofs.texts.value.Reads as reads
 use Rattle.page.proofs.texts.value.Lts as lts
 use Rattle.page.proofs.texts.put.Reads as put-reads
-use Rattle.text.proofs.values.put_value.Reads as put-value-reads
+use Rattle.field_texts.proofs.values.put_value.Reads as put-value-reads
 
 -- src/texts.rt:38:23
 slice-aggregate-put-value : tie.Need-slice-aggregate-put-value

@@ -1,5 +1,5 @@
 -- `values::lump::thousand` meets its contract. Assumes nothing.
-use Rattle.quick.proofs.Shapes.{thousandths-bytes}
+use Rattle.quick_values.proofs.Shapes.{thousandths-bytes}
 use Rattle.values.proofs.Lumps.{thousand-is}
 use native.Mathlib.Omega.{arith}
 use Rattle.values.proofs.lump.thousand.Statement.{statement}

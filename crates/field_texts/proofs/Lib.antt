@@ -1,0 +1,2 @@
+pub mod Trimming
+pub mod Texts
