@@ -11,9 +11,9 @@ use Rattle.format.specs.Cut.{fields, field}
 use Rattle.format.specs.Records.{kindIn, intervalsIn, millionths, quantityIn}
 use Rattle.format.specs.Answers.{Answer, accepted, refusal}
 use Rattle.format.specs.Total.{totalsFrom, totalFirst}
-use Rattle.record.specs.Places.{LineEnd, Cut, Rest}
-use Rattle.record.proofs.Cuts.{rest-here}
-use Rattle.record.proofs.Ends.{line-none, line-more}
+use Rattle.lines.specs.Places.{LineEnd, Cut, Rest}
+use Rattle.lines.proofs.Cuts.{rest-here}
+use Rattle.lines.proofs.Ends.{line-none, line-more}
 use Rattle.channel.specs.Places.{sumAt, totalsAt}
 
 -- the quantity is the nineteenth field of a 250

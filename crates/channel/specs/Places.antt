@@ -11,7 +11,7 @@ use Rattle.format.specs.Answers.{Answer, accepted, refusal}
 use Rattle.format.specs.Total.{sumFrom, totalsFrom, totalFirst}
 use Rattle.format.specs.declared.Number.{Number}
 use Rattle.format.specs.declared.Number.the-variants.{Is, Bad}
-use Rattle.record.specs.Places.{Rest}
+use Rattle.lines.specs.Places.{Rest}
 use Rattle.day.specs.Places.{valuesFrom}
 use Rattle.channel.specs.declared.Channel.{Channel}
 use Rattle.channel.specs.declared.ChannelStart.{ChannelStart}

@@ -11,9 +11,9 @@ use Rattle.format.specs.Numbers.{numberIn, lengthOf, intervalsOf}
 use Rattle.format.specs.Cut.{fields, field}
 use Rattle.format.specs.Records.{kindIn, intervalsIn}
 use Rattle.format.specs.Day.{DayRows, daysFrom}
-use Rattle.record.specs.Places.{LineEnd, Rest}
-use Rattle.record.proofs.Cuts.{rest-first}
-use Rattle.record.proofs.Ends.{line-none, line-more, line-room, line-long}
+use Rattle.lines.specs.Places.{LineEnd, Rest}
+use Rattle.lines.proofs.Cuts.{rest-first}
+use Rattle.lines.proofs.Ends.{line-none, line-more, line-room, line-long}
 use Rattle.day.specs.Places.{dayAt, daysAt}
 
 -- n is in the ninth field of a 200

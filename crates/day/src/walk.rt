@@ -2,9 +2,9 @@
 use super::DayStart;
 use super::Place;
 use super::fields::skip;
-use record::lines::scan;
-use record::says::intervals_at;
-use record::says::kind_at;
+use lines::scan;
+use says::intervals_at;
+use says::kind_at;
 ghost use mathlib.Core.Path.{_≡_};
 ghost use Prim.Native.Nat.{_≤_};
 ghost use lib.ListN.{length, drop};

@@ -7,6 +7,7 @@ pub mod NumberText
 pub mod ValueText
 pub mod MarkText
 pub mod CoverText
+pub mod Forms
 pub mod Settled
 pub mod Refusals
 pub mod Faults

@@ -21,6 +21,8 @@ use Rattle.format.specs.Bytes.{areAll}
 use Rattle.format.specs.Numbers.{that, orEmpty, numberOf, leadingZero, smallOf, point, before, behind, times, fractionOf, amount, valueOf, areDigits, isRead}
 use Rattle.format.specs.declared.Number.{Number}
 use Rattle.format.specs.declared.Number.the-variants.{Is, Bad}
+use Rattle.format.specs.Numbers.{isLength, intervalsOf}
+use Rattle.ground.proofs.Cases.{same-or}
 
 -- a number below k, if it is one
 abbrev pub under : ℕ → Number → Type 0
@@ -211,3 +213,12 @@ module _ (s : List ℕ) {p : ℕ} {b : Bool} (h : length s ≤ 15) (e : p ≡ sp
     pub read-bad : b ≡ false → false ≡ isRead s
     unfolding isRead
     read-bad t = rw (← e, ← q, t) (search tests)
+
+-- ---- n of an interval length
+
+pub few-intervals : (m : ℕ) → intervalsOf m ≤ 288
+unfolding intervalsOf isLength
+few-intervals m =
+    same-or m 5 (λ e. rw e (omega arith))
+    (λ a. same-or m 15 (λ e. rw e (omega arith))
+    (λ b. same-or m 30 (λ e. rw e (omega arith)) (λ c. rw (ne-eqb m 5 a, ne-eqb m 15 b, ne-eqb m 30 c) (omega arith))))

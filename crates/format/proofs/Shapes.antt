@@ -53,7 +53,7 @@ parts d s = one (eqb (point s) (length s))
     one true = rw (whole-is, is-number)
     one false = rw (is-amount, is-times, is-number, is-number)
 
-digit-other : (b : ℕ) → isDigit b ≡ true → other 46 b ≡ true
+pub digit-other : (b : ℕ) → isDigit b ≡ true → other 46 b ≡ true
 unfolding isDigit
 digit-other b t =
     let h = leb-true 48 b (and-true (leb 48 b) (leb b 57) t .0) in

@@ -19,6 +19,7 @@ use Rattle.format.specs.Numbers.{numberOf, times, amount, point, before,
 use Rattle.format.specs.Block.{places, trimmed, fractionText, valueText}
 use Rattle.format.proofs.Numbers.{under-is, Got, got, fraction-under}
 use Rattle.format.proofs.NumberText.{digits-are, got-least}
+use Rattle.format.proofs.Shapes.{digit-other}
 use Rattle.format.specs.declared.Number.{Number}
 use Rattle.format.specs.declared.Number.the-variants.{Is, Bad}
 
@@ -81,16 +82,12 @@ fraction-some f e = rw (ne-eqb f 0 e)
 
 -- ---- where the point is
 
-digit-no-point : (b : ℕ) → isDigit b ≡ true → other 46 b ≡ true
-unfolding isDigit
-digit-no-point b h = ap not (ne-eqb b 46 (λ e. omega (arith, leb-true 48 b (and-true (leb 48 b) (leb b 57) h .0))))
-
-point-behind : (xs ys : List ℕ) → all isDigit xs ≡ true → point (xs ++ ys) ≡ length xs + point ys
+pub point-behind : (xs ys : List ℕ) → all isDigit xs ≡ true → point (xs ++ ys) ≡ length xs + point ys
 unfolding spanOf
 point-behind [] ys h = omega arith
 point-behind (x ∷ xs) ys h =
     let g = and-true (isDigit x) (all isDigit xs) h in
-    rw (digit-no-point x (g .0)) (omega (arith, point-behind xs ys (g .1)))
+    rw (digit-other x (g .0)) (omega (arith, point-behind xs ys (g .1)))
 
 point-le : (s : List ℕ) → point s ≤ length s
 unfolding spanOf

@@ -19,8 +19,8 @@ use Rattle.format.specs.Total.{totalsFrom, totalFirst}
 use Rattle.format.specs.declared.Fault.{Fault}
 use Rattle.format.specs.declared.Fault.the-variants.{Fine, Stop}
 use Rattle.bridge.proofs.Bridge.{fine-may}
-use Rattle.record.specs.Places.{LineEnd}
-use Rattle.record.specs.declared.lines.Found.{Found}
+use Rattle.lines.specs.Places.{LineEnd}
+use Rattle.lines.specs.declared.Found.{Found}
 use Rattle.record.proofs.Turns.{by-test}
 use Rattle.walker.specs.Handed.{recordAt}
 use Rattle.walker.specs.declared.Record.{Record}

@@ -5,7 +5,7 @@ use Rattle.channel.specs.Places.{totalsAt}
 use Rattle.day.proofs.Find.{line-less}
 use Rattle.format.specs.Cut.{lines}
 use Rattle.format.specs.Total.{totalsFrom, totalFirst}
-use Rattle.record.proofs.Ends.{line-room}
+use Rattle.lines.proofs.Ends.{line-room}
 use borrow.Author.Needs.{needs}
 use lib.ListN.{length, drop}
 use mathlib.Core.Path.{_≡_}

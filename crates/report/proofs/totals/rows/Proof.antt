@@ -3,7 +3,7 @@ use Prim.Native.Nat.{_-_, _≤_}
 use mathlib.Core.Path.{_≡_}
 use borrow.Author.Needs.{needs}
 use lib.ListN.{length}
-use Rattle.record.proofs.Ends.{line-room}
+use Rattle.lines.proofs.Ends.{line-room}
 use Rattle.day.proofs.Find.{line-less}
 use Rattle.report.proofs.totals.rows.Statement.{statement}
 use Rattle.report.proofs.totals.rows.Tie as tie
