@@ -14,10 +14,8 @@ use Rattle.ground.specs.Runs.{Run, spell}
 use Rattle.ground.specs.Room.{Put}
 use Rattle.ground.proofs.Tests.{and-true, and-false}
 use Rattle.ground.proofs.Cases.{by}
-use Rattle.ground.proofs.Digits.{length-padded}
 use Rattle.ground.proofs.From.{length-from}
 use Rattle.ground.proofs.Room.{put-then, put-as, put-kept}
-use Rattle.format.specs.Dates.{isDate, isTime}
 use Rattle.format.specs.Quality.{Mark, noMark}
 use Rattle.format.specs.Day.{Five, Day}
 use Rattle.format.specs.Block.{fitValue, loadText, comma, crlf, markText, valuesText, coverText, runsIn, isUniform, topText, tailText, blockOf, recordsOf}
@@ -32,27 +30,9 @@ use Rattle.value_texts.specs.declared.Measured.{Measured}
 use Rattle.value_texts.specs.declared.Measured.the-variants.{Unfit}
 use Rattle.value_texts.proofs.ValueList.{values-most}
 use Rattle.covers.proofs.Covers.{marked-fit}
-use Rattle.block.specs.Pieces.{frontText, timesText, dayWith, fitHead, fitWith, fitOf, FitDay, Sizes}
-
--- ---- the head
-
-module _ (h : DayHead) {a : Bool} (e : a ≡ isDate (h .date)) where
-  pub date-unfit : not a ≡ true → false ≡ fitHead h
-  unfolding fitHead
-  date-unfit t = rw (← e, not-true a t)
-
-  module _ {b : Bool} (s : not a ≡ false) (f : b ≡ isTime (h .update)) where
-    pub update-unfit : not b ≡ true → false ≡ fitHead h
-    unfolding fitHead
-    update-unfit t = rw (← e, not-false a s, ← f, not-true b t)
-
-    pub no-load : not b ≡ false → h .load ≡ 0 → true ≡ fitHead h
-    unfolding fitHead
-    no-load t z = rw (← e, not-false a s, ← f, not-false b t, eq-eqb (h .load) 0 z)
-
-    pub some-load : {x : Bool} → not b ≡ false → (h .load ≡ 0 → ⊥) → x ≡ isTime (h .load) → x ≡ fitHead h
-    unfolding fitHead
-    some-load t z q = rw (← e, not-false a s, ← f, not-false b t, ne-eqb (h .load) 0 z) q
+use Rattle.heads.specs.Heads.{frontText, timesText, fitHead}
+use Rattle.heads.proofs.Heads.{length-front, length-times}
+use Rattle.block.specs.Pieces.{dayWith, fitWith, fitOf, FitDay, Sizes}
 
 -- ---- fit
 
@@ -170,14 +150,6 @@ module _ (h : DayHead) (n : ℕ) (vs : List ℕ) (l : Five) (text : List ℕ) wh
 
 -- ---- how long it is
 
-pub length-front : (date : ℕ) (vs : List ℕ) → length (frontText date vs) ≡ 13 + length (valuesText vs)
-unfolding frontText
-length-front date vs = simp (length-append, length-padded) (omega arith)
-
-pub length-times : (update load : ℕ) → length (timesText update load) ≡ 18 + length (loadText load)
-unfolding timesText
-length-times update load = simp (length-append, length-padded) (omega arith)
-
 module _ (h : DayHead) (n : ℕ) (vs : List ℕ) (l : Five) (text : List ℕ) {k w b r : ℕ} (p : FitDay h n vs l text)
     (e : k ≡ length (valuesText vs)) (f : w ≡ length (loadText (h .load))) (s : Sized (marksFrom l text) n b r) where
   pub uniform-sizes : {t : Tag} {m : ℕ} → r ≡ 1 → t ≡ tagFrom l 0 → m ≡ length (markText (markOf text t)) → Sizes (dayWith h n vs l text) (31 + k + w + m) 1
@@ -198,13 +170,6 @@ module _ (h : DayHead) (n : ℕ) (vs : List ℕ) (l : Five) (text : List ℕ) {k
       }
 
 -- ---- written piece after piece
-
--- the room of two texts is room for each
-pub first-room : (at k : ℕ) (xs ys : List ℕ) → at + length (xs ++ ys) ≤ k → at + length xs ≤ k
-first-room at k xs ys h = omega (arith, length-append xs ys)
-
-pub next-room : {l m : List ℕ} {at i : ℕ} (xs ys : List ℕ) → at + length (xs ++ ys) ≤ length l → Put l at xs i m → i + length ys ≤ length m
-next-room xs ys h p = omega (arith, length-append xs ys, p .behind, put-kept p)
 
 module _ (h : DayHead) (n : ℕ) (vs : List ℕ) (l : Five) (text room : List ℕ) (big : length (blockOf (dayWith h n vs l text)) ≤ length room) where
   pub front-room : length (frontText (h .date) vs) ≤ length room

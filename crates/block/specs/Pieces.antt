@@ -1,36 +1,22 @@
--- The pieces of a day block as they are written, and the day that they say, where the lists are taken together.
+-- The day that a block says, where the lists are taken together: fit, and how long its block is.
 use Prim.Native.Nat.{ℕ, _≤_, _<_}
 use mathlib.Core.Path.{_≡_}
-use mathlib.Core.List.{List, _++_}
-use mathlib.Core.Bool.{Bool, true, cond, _&&_, _||_}
+use mathlib.Core.List.{List}
+use mathlib.Core.Bool.{Bool, true, cond, _&&_}
 use lib.ListN.{length}
-use lib.Dec.{eqb}
 use Rattle.ground.specs.Lists.{all, from}
-use Rattle.ground.specs.Text.{bytes}
-use Rattle.ground.specs.Digits.{padded}
-use Rattle.format.specs.Dates.{isDate, isTime}
 use Rattle.format.specs.Day.{Five, Day}
-use Rattle.format.specs.Block.{fitValue, loadText, comma, crlf, valuesText, blockOf, recordsOf}
+use Rattle.format.specs.Block.{fitValue, valuesText, blockOf, recordsOf}
 use Rattle.format.specs.declared.DayHead.{DayHead}
 use Rattle.fit.specs.Tags.{marksFrom, fitMarks, Long}
+use Rattle.heads.specs.Heads.{fitHead}
 use Rattle.value_texts.specs.declared.Measured.{Measured}
 use Rattle.value_texts.specs.declared.Measured.the-variants.{Bytes, Unfit}
-
--- the 300 up to its values
-unfoldable pub frontText : ℕ → List ℕ → List ℕ
-frontText date vs = bytes "300," ++ padded 8 date ++ comma ++ valuesText vs
-
--- and from the comma behind its description on
-unfoldable pub timesText : ℕ → ℕ → List ℕ
-timesText update load = comma ++ padded 14 update ++ comma ++ loadText load ++ crlf
 
 -- the day of n intervals that has these values and the marks of these lists
 unfoldable pub dayWith : DayHead → ℕ → List ℕ → Five → List ℕ → Day
 dayWith h n vs l text =
     record { date = h .date; n = n; update = h .update; load = h .load; values = vs; marks = from (marksFrom l text) 0 n }
-
-unfoldable pub fitHead : DayHead → Bool
-fitHead h = isDate (h .date) && isTime (h .update) && (eqb (h .load) 0 || isTime (h .load))
 
 unfoldable pub fitWith : DayHead → ℕ → List ℕ → Five → List ℕ → Bool
 fitWith h n vs l text = fitHead h && all fitValue vs && fitMarks l text n

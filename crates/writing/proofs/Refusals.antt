@@ -25,7 +25,8 @@ use Rattle.text.specs.Inside.{inside}
 use Rattle.fit.specs.Tags.{tagFrom, markOf, marksFrom, tagInside, insideAt, fitMarks}
 use Rattle.value_texts.specs.declared.Measured.{Measured}
 use Rattle.value_texts.specs.declared.Measured.the-variants.{Bytes, Unfit}
-use Rattle.block.specs.Pieces.{dayWith, fitHead, fitWith, fitOf, Ready, FitDay, Sizes}
+use Rattle.heads.specs.Heads.{fitHead}
+use Rattle.block.specs.Pieces.{dayWith, fitWith, fitOf, Ready, FitDay, Sizes}
 use Rattle.writing.specs.Layers.{placedOf, answeredOf, Writes}
 
 -- ---- a fit day

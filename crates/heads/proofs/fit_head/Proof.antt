@@ -1,8 +1,8 @@
--- `block::fit_head` meets its contract. Assumes nothing.
-use Rattle.block.proofs.Pieces.{date-unfit, update-unfit, no-load, some-load}
+-- `heads::fit_head` meets its contract. Assumes nothing.
+use Rattle.heads.proofs.Heads.{date-unfit, update-unfit, no-load, some-load}
 use borrow.Author.Needs.{needs}
-use Rattle.block.proofs.fit_head.Statement.{statement}
-use Rattle.block.proofs.fit_head.Tie as tie
+use Rattle.heads.proofs.fit_head.Statement.{statement}
+use Rattle.heads.proofs.fit_head.Tie as tie
 
 cast-is-date : tie.Need-cast-is-date
 cast-is-date c = search needs

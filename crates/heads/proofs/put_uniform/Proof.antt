@@ -1,9 +1,9 @@
--- `block::put_uniform` meets its contract. Assumes nothing.
+-- `heads::put_uniform` meets its contract. Assumes nothing.
 use Rattle.ground.proofs.Room.{put-then}
-use Rattle.block.proofs.Pieces.{first-room, next-room}
+use Rattle.heads.proofs.Heads.{first-room, next-room}
 use borrow.Author.Needs.{needs}
-use Rattle.block.proofs.put_uniform.Statement.{statement}
-use Rattle.block.proofs.put_uniform.Tie as tie
+use Rattle.heads.proofs.put_uniform.Statement.{statement}
+use Rattle.heads.proofs.put_uniform.Tie as tie
 
 put-mark-requires : tie.Need-put-mark-requires
 put-mark-requires c κs = (c .before .before .before .pre .0, search first-room)

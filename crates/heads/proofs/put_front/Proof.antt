@@ -1,13 +1,13 @@
--- `block::put_front` meets its contract. Assumes nothing.
+-- `heads::put_front` meets its contract. Assumes nothing.
 use Rattle.ground.proofs.Digits.{length-padded}
 use Rattle.ground.proofs.Room.{put-then}
-use Rattle.block.proofs.Pieces.{length-front}
-use Rattle.block.specs.Pieces.{frontText}
+use Rattle.heads.proofs.Heads.{length-front}
+use Rattle.heads.specs.Heads.{frontText}
 use borrow.Author.Needs.{needs}
 use denote.Ref.{now}
 use native.Mathlib.Omega.{arith}
-use Rattle.block.proofs.put_front.Statement.{statement}
-use Rattle.block.proofs.put_front.Tie as tie
+use Rattle.heads.proofs.put_front.Statement.{statement}
+use Rattle.heads.proofs.put_front.Tie as tie
 
 slice-aggregate-put-bytes : tie.Need-slice-aggregate-put-bytes
 slice-aggregate-put-bytes c = search needs

@@ -1,12 +1,12 @@
--- `block::put_times` meets its contract. Assumes nothing.
+-- `heads::put_times` meets its contract. Assumes nothing.
 use Rattle.ground.proofs.Digits.{length-padded}
 use Rattle.ground.proofs.Room.{put-then}
-use Rattle.block.proofs.Pieces.{length-times}
-use Rattle.block.specs.Pieces.{timesText}
+use Rattle.heads.proofs.Heads.{length-times}
+use Rattle.heads.specs.Heads.{timesText}
 use borrow.Author.Needs.{needs}
 use native.Mathlib.Omega.{arith}
-use Rattle.block.proofs.put_times.Statement.{statement}
-use Rattle.block.proofs.put_times.Tie as tie
+use Rattle.heads.proofs.put_times.Statement.{statement}
+use Rattle.heads.proofs.put_times.Tie as tie
 
 put-byte-requires : tie.Need-put-byte-requires
 put-byte-requires c κs = omega (arith, length-times (c .before .before .args .update) (c .before .before .args .load))

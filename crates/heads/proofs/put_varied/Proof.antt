@@ -1,8 +1,8 @@
--- `block::put_varied` meets its contract. Assumes nothing.
+-- `heads::put_varied` meets its contract. Assumes nothing.
 use Rattle.ground.proofs.Room.{put-then}
 use borrow.Author.Needs.{needs}
-use Rattle.block.proofs.put_varied.Statement.{statement}
-use Rattle.block.proofs.put_varied.Tie as tie
+use Rattle.heads.proofs.put_varied.Statement.{statement}
+use Rattle.heads.proofs.put_varied.Tie as tie
 
 slice-aggregate-put-bytes : tie.Need-slice-aggregate-put-bytes
 slice-aggregate-put-bytes c = search needs
