@@ -13,9 +13,9 @@ use Rattle.format.specs.Answers.{Answer, accepted, refusal}
 use Rattle.format.specs.Total.{totalsFrom, totalFirst, totalOf}
 use Rattle.format.specs.declared.Number.{Number}
 use Rattle.format.specs.declared.Number.the-variants.{Is, Bad}
-use Rattle.record.specs.Places.{LineEnd, Cut, Rest}
-use Rattle.record.proofs.Cuts.{rest-here}
-use Rattle.record.proofs.Ends.{line-none, line-more}
+use Rattle.lines.specs.Places.{LineEnd, Cut, Rest}
+use Rattle.lines.proofs.Cuts.{rest-here}
+use Rattle.lines.proofs.Ends.{line-none, line-more}
 use Rattle.day.specs.Places.{IsAccepted}
 use Rattle.sums.specs.Sums.{held, sumAt}
 use Rattle.sums.proofs.Sums.{got-is, got-bad, got-fits}

@@ -2,10 +2,10 @@
 use super::Channel;
 use super::ChannelStart;
 use day::fields::skip;
-use record::lines::line_end;
-use record::pieces::field_at;
-use record::says::kind_at;
-use record::says::value_of;
+use lines::line_end;
+use lines::pieces::field_at;
+use says::kind_at;
+use says::value_of;
 ghost use mathlib.Core.Path.{_≡_};
 ghost use Prim.Native.Nat.{_≤_, _<_, _^_};
 ghost use lib.ListN.{length, drop};

@@ -13,9 +13,9 @@ use Rattle.format.specs.Numbers.{numberIn, numberOf, leadingZero, smallOf, isLe
 use Rattle.format.specs.Cut.{lines, fields, field}
 use Rattle.format.specs.Records.{kindIn, intervalsIn}
 use Rattle.format.specs.Day.{DayRows, daysFrom}
-use Rattle.record.specs.Places.{LineEnd, Rest}
-use Rattle.record.proofs.Cuts.{rest-first}
-use Rattle.record.proofs.Ends.{line-none, line-more, line-room, line-long}
+use Rattle.lines.specs.Places.{LineEnd, Rest}
+use Rattle.lines.proofs.Cuts.{rest-first}
+use Rattle.lines.proofs.Ends.{line-none, line-more, line-room, line-long}
 use Rattle.day.specs.Places.{Heads, dayAt, daysAt, inside, Behind}
 use Rattle.day.specs.declared.Under.{Under}
 use Rattle.day.specs.declared.DayStart.{DayStart}
@@ -88,4 +88,3 @@ behind-day file p a e u h i r ra rl ru =
 pub behind-none : (file : List ℕ) (p : Place) → p ≡ Missing → (r : DayStart) → r .at ≡ length file → r .left ≡ 0 → Heads file (r .under) → Behind file p r
 unfolding daysFrom lines
 behind-none file p h r ra rl u = record { within = omega arith; heads = u; is = rw (h, ra, rl, drop-length file) }
-

@@ -15,10 +15,10 @@ use Rattle.format.specs.Cut.{fields, field}
 use Rattle.format.specs.Records.{kindIn, firstIn, lastIn}
 use Rattle.format.specs.Day.{Row, rowAt, Five, runsFrom, coverOf, tagAt}
 use Rattle.format.specs.declared.Tag.{Tag}
-use Rattle.record.specs.Places.{LineEnd, Cut, Rest}
-use Rattle.record.proofs.Cuts.{rest-first, rest-next}
-use Rattle.record.proofs.Fields.{tag-moves}
-use Rattle.record.proofs.Ends.{line-none, line-more, line-room, line-long}
+use Rattle.lines.specs.Places.{LineEnd, Cut, Rest}
+use Rattle.lines.proofs.Cuts.{rest-first, rest-next}
+use Rattle.says.proofs.Fields.{tag-moves}
+use Rattle.lines.proofs.Ends.{line-none, line-more, line-room, line-long}
 use Rattle.lists.specs.Lists.{stored, Roomy}
 use Rattle.lists.proofs.Laws.{stored-append, Even, even-room}
 use Rattle.passing.specs.Sound.{coversFrom}

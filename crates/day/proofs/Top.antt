@@ -12,9 +12,9 @@ use Rattle.format.specs.Cut.{fields, field}
 use Rattle.format.specs.Records.{dateIn, updateIn, loadIn}
 use Rattle.format.specs.Day.{rowAt, tagAt}
 use Rattle.format.specs.declared.Tag.{Tag}
-use Rattle.record.specs.Places.{Cut, Rest}
-use Rattle.record.proofs.Fields.{tag-moves}
-use Rattle.record.proofs.Cuts.{rest-whole, rest-first, rest-next}
+use Rattle.lines.specs.Places.{Cut, Rest}
+use Rattle.says.proofs.Fields.{tag-moves}
+use Rattle.lines.proofs.Cuts.{rest-whole, rest-first, rest-next}
 use Rattle.day.specs.Places.{valuesFrom}
 use Rattle.day.proofs.Values.{values-move}
 

@@ -9,8 +9,8 @@ use lib.Seq.{sets, drop-cons}
 use Rattle.ground.specs.Lists.{part}
 use Rattle.format.specs.Cut.{fields, field}
 use Rattle.format.specs.Records.{millionths, valuesIn}
-use Rattle.record.specs.Places.{Rest}
-use Rattle.record.proofs.Cuts.{rest-first}
+use Rattle.lines.specs.Places.{Rest}
+use Rattle.lines.proofs.Cuts.{rest-first}
 use Rattle.day.specs.Places.{valuesFrom}
 
 -- a turn: the value of field i stored

@@ -1,11 +1,11 @@
 // The marks of a day, put into the five lists: on a V day those of its 400s, each over its own intervals, else the 300's own.
 use super::fields::skip;
 use format::Tag;
+use lines::line_end;
+use lines::pieces::field_at;
 use lists::put_tag;
-use record::lines::line_end;
-use record::pieces::field_at;
-use record::says::interval_at;
-use record::says::tag_at;
+use says::interval_at;
+use says::tag_at;
 ghost use mathlib.Core.Path.{_≡_};
 ghost use mathlib.Core.Bool.{true};
 ghost use Prim.Native.Nat.{_≤_};

@@ -1,5 +1,5 @@
 // The fields of a record one after the other, from a place of the file on: passed over, or stored as values.
-use record::pieces::field_at;
+use lines::pieces::field_at;
 use values::value_at;
 ghost use mathlib.Core.Path.{_≡_};
 ghost use Prim.Native.Nat.{_≤_};
@@ -7,7 +7,7 @@ ghost use lib.ListN.{length};
 ghost use lib.Seq.{sets};
 ghost use Rattle.ground.specs.Lists.{part};
 ghost use Rattle.format.specs.Cut.{fields};
-ghost use Rattle.record.specs.Places.{Rest};
+ghost use Rattle.lines.specs.Places.{Rest};
 ghost use Rattle.day.specs.Places.{valuesFrom};
 
 // Where the field behind n fields starts.

@@ -2,11 +2,11 @@
 use super::fields::fill_values;
 use super::fields::skip;
 use format::Tag;
-use record::pieces::field_at;
-use record::says::date_at;
-use record::says::load_time_at;
-use record::says::tag_at;
-use record::says::time_at;
+use lines::pieces::field_at;
+use says::date_at;
+use says::load_time_at;
+use says::tag_at;
+use says::time_at;
 ghost use mathlib.Core.Path.{_≡_};
 ghost use Prim.Native.Nat.{_+_, _≤_};
 ghost use lib.ListN.{length};
@@ -17,7 +17,7 @@ ghost use Rattle.format.specs.Dates.{timeOf, loadOf};
 ghost use Rattle.format.specs.Cut.{fields, field};
 ghost use Rattle.format.specs.Records.{dateIn, updateIn, loadIn};
 ghost use Rattle.format.specs.Day.{rowAt, tagAt};
-ghost use Rattle.record.specs.Places.{Rest};
+ghost use Rattle.lines.specs.Places.{Rest};
 ghost use Rattle.day.specs.Places.{valuesFrom};
 
 // Its date, and where its values start.

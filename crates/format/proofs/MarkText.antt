@@ -50,6 +50,24 @@ mark-sound a b e =
     let c3 = and-true (eqb (a .flag) (b .flag)) (eqb (a .method) (b .method)) (c2 .0) in
     alike (eqb-true _ _ (c3 .0)) (eqb-true _ _ (c3 .1)) (eqb-true _ _ (c2 .1)) (same-sound _ _ (c1 .1))
 
+-- two marks, one part after the other
+module _ (a b : Mark) where
+  pub flags-differ : (a .flag ≡ b .flag → ⊥) → false ≡ sameMark a b
+  unfolding sameMark
+  flags-differ h = rw (ne-eqb _ _ h)
+
+  pub methods-differ : a .flag ≡ b .flag → (a .method ≡ b .method → ⊥) → false ≡ sameMark a b
+  unfolding sameMark
+  methods-differ e h = rw (eq-eqb _ _ e, ne-eqb _ _ h)
+
+  pub reasons-differ : a .flag ≡ b .flag → a .method ≡ b .method → (a .reason ≡ b .reason → ⊥) → false ≡ sameMark a b
+  unfolding sameMark
+  reasons-differ e f h = rw (eq-eqb _ _ e, eq-eqb _ _ f, ne-eqb _ _ h)
+
+  pub texts-compared : {d : Bool} → a .flag ≡ b .flag → a .method ≡ b .method → a .reason ≡ b .reason → d ≡ same (a .text) (b .text) → d ≡ sameMark a b
+  unfolding sameMark
+  texts-compared e f g h = rw (eq-eqb _ _ e, eq-eqb _ _ f, eq-eqb _ _ g) h
+
 -- ---- a quality
 
 -- what stands alone in a 400 is A, and has no method

@@ -11,6 +11,7 @@ use Rattle.format.specs.Quality.{Mark, sameMark}
 use Rattle.format.specs.Order.{Due, between, inDay, mayCome}
 use Rattle.format.specs.declared.Tag.{Tag}
 use Rattle.order.specs.State.{markOf, alikeTo}
+use Rattle.format.proofs.MarkText.{flags-differ, methods-differ, reasons-differ, texts-compared}
 
 -- ---- what may come
 
@@ -46,25 +47,12 @@ pub ruleset may = (may-is, may-200, may-900, may-200-first, may-900-day, may-non
 -- ---- two marks
 
 module _ (file : List ℕ) (s t : Tag) where
-  pub flag-differs : (s .flag ≡ t .flag → ⊥) → false ≡ sameMark (markOf file s) (markOf file t)
-  unfolding sameMark
-  flag-differs h = rw (ne-eqb _ _ h)
-
-  pub method-differs : s .flag ≡ t .flag → (s .method ≡ t .method → ⊥) → false ≡ sameMark (markOf file s) (markOf file t)
-  unfolding sameMark
-  method-differs e h = rw (eq-eqb _ _ e, ne-eqb _ _ h)
-
-  pub reason-differs : s .flag ≡ t .flag → s .method ≡ t .method → (s .reason ≡ t .reason → ⊥) → false ≡ sameMark (markOf file s) (markOf file t)
-  unfolding sameMark
-  reason-differs e f h = rw (eq-eqb _ _ e, eq-eqb _ _ f, ne-eqb _ _ h)
-
-  pub texts-compared : {b : Bool} → s .flag ≡ t .flag → s .method ≡ t .method → s .reason ≡ t .reason
+  pub parts-compared : {b : Bool} → s .flag ≡ t .flag → s .method ≡ t .method → s .reason ≡ t .reason
       → b ≡ same (take (s .start + s .length - s .start) (drop (s .start) file)) (take (t .start + t .length - t .start) (drop (t .start) file))
       → b ≡ sameMark (markOf file s) (markOf file t)
-  unfolding sameMark
-  texts-compared e f g h = rw (eq-eqb _ _ e, eq-eqb _ _ f, eq-eqb _ _ g) h
+  parts-compared e f g h = texts-compared (markOf file s) (markOf file t) e f g h
 
-pub ruleset marks = (flag-differs, method-differs, reason-differs, texts-compared)
+pub ruleset marks = (flags-differ, methods-differ, reasons-differ, parts-compared)
 
 -- ---- with this mark, every 400 of the day has one
 

@@ -16,14 +16,15 @@ use Rattle.format.specs.Order.{Due, mayCome, on100, on200, afterOf}
 use Rattle.format.specs.Faults.{size, isOpen, brokenIn, isNotLater, isOff, isAlike, isElsewhere, faultIn, faultAt, faultOf}
 use Rattle.format.specs.declared.Fault.the-variants.{Fine, Stop}
 use Rattle.format.specs.declared.Tag.{Tag}
-use Rattle.record.specs.Places.{Looked}
-use Rattle.record.specs.Walk.{firstAsked, secondAsked, Typed, Sound, Broken, Walks, Ran, Runs}
-use Rattle.record.specs.declared.Run.{Run}
-use Rattle.record.specs.declared.Run.the-variants as run
+use Rattle.lines.specs.Places.{Looked}
+use Rattle.record.specs.Walk.{firstAsked, secondAsked, Typed, Sound, Broken, Walks}
+use Rattle.runs.specs.Ran.{Ran, Runs}
+use Rattle.runs.specs.declared.Run.{Run}
+use Rattle.runs.specs.declared.Run.the-variants as run
 use Rattle.record.specs.declared.Walked.{Walked}
 use Rattle.record.specs.declared.Walked.the-variants as walked
 use Rattle.record.proofs.Turns.{second-field}
-use Rattle.record.proofs.Rows.{count-300}
+use Rattle.rows.proofs.Rows.{count-300}
 use Rattle.order.specs.declared.State.{State}
 use Rattle.order.specs.State.{seen, closed, Kept, cells, Here, After, Ready, Next, goes, stops, orStop, nextOf, lateOf, furtherOf, lastOf}
 use Rattle.order.proofs.Late.{late-none}

@@ -1,15 +1,15 @@
 -- The refusals that stand behind 6, and the state behind a record that has none: what each return of a record's method answers. Assumes nothing.
-use Prim.Native.Nat.{ℕ, _+_, _-_, _/_, _≤_, _<_}
+use Prim.Native.Nat.{ℕ, _+_, _-_, _≤_, _<_}
 use mathlib.Core.Path.{_≡_, refl, sym, _∙_, ap}
 use mathlib.Core.List.{List}
-use mathlib.Core.Bool.{Bool, true, false, cond, not, _&&_, _||_}
+use mathlib.Core.Bool.{Bool, true, false, cond, not, _&&_}
 use native.Mathlib.Omega.{arith}
 use lib.ListN.{length}
 use lib.Dec.{eqb, leb}
 use borrow.Author.Tests.{eqb-true, leb-true, eq-eqb, ne-eqb, le-leb, lt-leb, not-true, not-false}
 use Rattle.ground.specs.Lists.{part}
 use Rattle.ground.proofs.Tests.{and-true}
-use Rattle.format.specs.Numbers.{numberIn, isLength, lengthOf, intervalsOf}
+use Rattle.format.specs.Numbers.{numberIn, lengthOf, intervalsOf}
 use Rattle.format.specs.Texts.{versionOf}
 use Rattle.format.specs.Dates.{dateOf, readTimeOf}
 use Rattle.format.specs.Quality.{across}
@@ -19,8 +19,9 @@ use Rattle.format.specs.Order.{Due, isVaried, alikeWith, on100, on200, afterOf}
 use Rattle.format.specs.Faults.{size, brokenIn, isNotLater, covers, isOff, isAlike, onDay, isElsewhere}
 use Rattle.format.specs.Day.{rowAt, tagAt}
 use Rattle.format.specs.declared.Tag.{Tag}
-use Rattle.record.specs.Walk.{Ran}
-use Rattle.record.proofs.Fields.{says-of, tag-moves}
+use Rattle.runs.specs.Ran.{Ran}
+use Rattle.format.proofs.Numbers.{intervals-most}
+use Rattle.says.proofs.Fields.{says-of, tag-moves}
 use Rattle.order.specs.declared.State.{State}
 use Rattle.order.specs.State.{markOf, seen, noTag, closed, Kept, cells, Here, After, goes, stops, lateOf, lastOf, goesOn, alikeTo}
 use Rattle.order.proofs.Marks.{flag-of, mark-of, agrees-of, tag-within}
@@ -246,16 +247,6 @@ module _ (file : List ℕ) (at e : ℕ) (st : State) {v : ℕ} (h : Here file at
         kept = kept-closed file e q (omega arith) (omega arith) (omega arith);
       }
 
-intervals-small : (m : ℕ) → intervalsOf m ≤ 288
-unfolding intervalsOf isLength
-intervals-small m = go (eqb m 5) refl (eqb m 15) refl (eqb m 30) refl
-  where
-    go : (a : Bool) → eqb m 5 ≡ a → (b : Bool) → eqb m 15 ≡ b → (c : Bool) → eqb m 30 ≡ c → cond (a || b || c) (1440 / m) 0 ≤ 288
-    go true p b q c r = rw (eqb-true m 5 p) (omega arith)
-    go false p true q c r = rw (eqb-true m 15 q) (omega arith)
-    go false p false q true r = rw (eqb-true m 30 r) (omega arith)
-    go false p false q false r = omega arith
-
 pub on200-on : (file : List ℕ) (at e p : ℕ) (st : State) {n : ℕ} {s : State} → Kept file at st → Here file at e 8 p
     → n ≡ intervalsOf (numberIn (lengthOf (field 0 (fields (part file p e))))) → s ≡ closed 2 (st .version) n 0 (st .channels + 1) (st .days)
     → After file e (on200 (seen file st) (cells file at e)) s
@@ -264,5 +255,5 @@ on200-on file at e p st {n} {s} k h en q =
     let w : n ≡ intervalsOf (numberIn (lengthOf (field 8 (cells file at e)))) = en ∙ ap intervalsOf (says-of lengthOf refl h) in
     record {
       is = rw (q, w);
-      kept = kept-closed file e q (omega (arith, intervals-small (numberIn (lengthOf (field 0 (fields (part file p e))))))) (omega (arith, k .channels, h .place, h .rest .ends)) (omega (arith, k .days, h .place, h .rest .ends));
+      kept = kept-closed file e q (omega (arith, intervals-most (numberIn (lengthOf (field 0 (fields (part file p e))))))) (omega (arith, k .channels, h .place, h .rest .ends)) (omega (arith, k .days, h .place, h .rest .ends));
     }

@@ -15,8 +15,8 @@ use Rattle.format.specs.Cut.{field, startOf}
 use Rattle.format.specs.Records.{markAt, agrees}
 use Rattle.format.specs.Day.{rowAt, tagAt}
 use Rattle.format.specs.declared.Tag.{Tag}
-use Rattle.record.proofs.Cuts.{field-lies}
-use Rattle.record.proofs.Fields.{tag-moves}
+use Rattle.lines.proofs.Cuts.{field-lies}
+use Rattle.says.proofs.Fields.{tag-moves}
 use Rattle.order.specs.State.{markOf, cells, Here}
 
 no-bytes : (s : List ℕ) → length s ≡ 0 → s ≡ []

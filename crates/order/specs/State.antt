@@ -15,7 +15,7 @@ use Rattle.format.specs.Faults.{_▹_, size, f7, f8, f9, f11, f12, faultIn, fau
 use Rattle.format.specs.declared.Fault.{Fault}
 use Rattle.format.specs.declared.Fault.the-variants.{Fine, Stop}
 use Rattle.format.specs.declared.Tag.{Tag}
-use Rattle.record.specs.Places.{Starts}
+use Rattle.lines.specs.Places.{Starts}
 use Rattle.record.specs.Walk.{Typed, Sound}
 use Rattle.order.specs.declared.State.{State}
 use Rattle.order.specs.declared.Step.{Step}

@@ -7,18 +7,18 @@ use super::tests::on_day;
 use super::tests::same_mark;
 use format::Tag;
 use quality_rules::across;
-use record::says::date_at;
-use record::says::intervals_at;
-use record::says::read_time_at;
-use record::says::tag_at;
-use record::says::version_at;
+use says::date_at;
+use says::intervals_at;
+use says::read_time_at;
+use says::tag_at;
+use says::version_at;
 ghost use mathlib.Core.Path.{_≡_};
 ghost use mathlib.Core.Bool.{cond, _&&_};
 ghost use Prim.Native.Nat.{_+_, _≤_};
 ghost use lib.ListN.{length};
 ghost use lib.Dec.{eqb};
 ghost use Rattle.format.specs.Order.{on100, on200};
-ghost use Rattle.record.specs.Walk.{Ran};
+ghost use Rattle.runs.specs.Ran.{Ran};
 ghost use Rattle.order.specs.State.{markOf, seen, noTag, closed, Kept, cells, Here, After, lastOf, stepAs, Holds, alikeTo};
 
 fn no_tag() -> Tag

@@ -20,8 +20,8 @@ use Rattle.format.specs.declared.Fault.the-variants.{Fine, Stop}
 use Rattle.passing.proofs.Fit.{fine-fit, head}
 use Rattle.passing.proofs.Steps.{after-200}
 use Rattle.passing.proofs.Counts.{Counted, counted}
-use Rattle.record.specs.Places.{LineEnd}
-use Rattle.record.specs.declared.lines.Found.{Found}
+use Rattle.lines.specs.Places.{LineEnd}
+use Rattle.lines.specs.declared.Found.{Found}
 use Rattle.record.proofs.Turns.{by-test}
 use Rattle.walker.specs.Handed.{recordAt}
 use Rattle.walker.specs.declared.Record.{Record}

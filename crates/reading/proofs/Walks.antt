@@ -19,9 +19,9 @@ use Rattle.format.specs.declared.Checked.the-variants.{Refused}
 use Rattle.format.specs.File.{after, orGoOn, walkOf, checkOf}
 use Rattle.format.specs.declared.Fault.{Fault}
 use Rattle.format.specs.declared.Fault.the-variants as fault
-use Rattle.record.specs.Places.{lineLen, LineEnd}
-use Rattle.record.proofs.Ends.{line-at, line-none, line-more, line-long}
-use Rattle.record.specs.declared.lines.Found.{Found}
+use Rattle.lines.specs.Places.{lineLen, LineEnd}
+use Rattle.lines.proofs.Ends.{line-at, line-none, line-more, line-long}
+use Rattle.lines.specs.declared.Found.{Found}
 use Rattle.walker.specs.Handed.{recordAt}
 use Rattle.walker.specs.declared.Record.{Record}
 use Rattle.walker.specs.declared.Record.the-variants.{At, None}

@@ -23,14 +23,15 @@ use Rattle.format.specs.declared.Fault.the-variants.{Fine, Stop}
 use Rattle.format.specs.declared.Rule.{Rule}
 use Rattle.format.specs.declared.Rule.the-variants.{Indicator, Value}
 use Rattle.format.proofs.Cut.{fields-some, field-here, field-cons, start-zero, start-next, start-end, fields-from}
-use Rattle.record.specs.Places.{Rest, Starts}
-use Rattle.record.specs.Walk.{heldOf, firstAsked, secondAsked, Typed, Obeyed, Along, Goes, Sound, Broken}
-use Rattle.record.specs.declared.Held.{Held}
-use Rattle.record.specs.declared.Held.the-variants.{To}
-use Rattle.record.specs.declared.Held.the-variants as held
+use Rattle.lines.specs.Places.{Rest, Starts}
+use Rattle.tries.specs.Holds.{heldOf}
+use Rattle.record.specs.Walk.{firstAsked, secondAsked, Typed, Obeyed, Along, Goes, Sound, Broken}
+use Rattle.tries.specs.declared.Held.{Held}
+use Rattle.tries.specs.declared.Held.the-variants.{To}
+use Rattle.tries.specs.declared.Held.the-variants as held
 use Rattle.record.specs.declared.Spot.{Spot}
-use Rattle.record.proofs.Cuts.{rest-at, rest-first}
-use Rattle.record.proofs.Rows.{count-300, rule-is, row-value}
+use Rattle.lines.proofs.Cuts.{rest-at, rest-first}
+use Rattle.rows.proofs.Rows.{count-300, rule-is, row-value}
 
 -- ---- the fields before i meet their rules
 

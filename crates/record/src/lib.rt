@@ -1,13 +1,13 @@
-// The records of a file and their fields: where a record ends, and its fields from left to right, each a part of the file, held to its rule.
-pub mod lines;
-pub mod pieces;
-pub mod rules;
-pub mod runs;
-pub mod says;
-pub mod tries;
-pub mod walk;
-
-use format::Tag;
+// The fields of a record from left to right, each held to its rule: one loop over the field's number serves every kind but a 400, which the crate `runs` reads.
+use rows::rule_at;
+use tries::Held;
+use tries::field_held;
+use tries::value_held;
+ghost use mathlib.Core.Path.{_≡_};
+ghost use mathlib.Core.Bool.{cond};
+ghost use Prim.Native.Nat.{_+_, _≤_};
+ghost use lib.Dec.{eqb};
+ghost use Rattle.record.specs.Walk.{firstAsked, secondAsked, Typed, Along, Goes, Walks};
 
 // What a walk over a record's fields found: each meets its rule, and where the two start that later rules ask for; or the leftmost that breaks its
 // rule, with its place from the record's start and its number from 1.
@@ -16,20 +16,102 @@ pub enum Walked {
     Broken(usize, usize),
 }
 
-// A field held to its rule: it meets it, and where it ends; or it breaks it.
-pub enum Held {
-    To(usize),
-    Broken,
-}
-
-// A 400: its intervals, where its quality stands, and its mark; or the leftmost field that breaks its rule, as in a walk.
-pub enum Run {
-    Of(usize, usize, usize, Tag),
-    Broken(usize, usize),
-}
-
 // A loop over the fields: how many it has passed, and where the last of them ended.
 pub struct Spot {
     pub i: usize,
     pub b: usize,
+}
+
+fn first_asked(kind: u64, n: usize) -> usize
+    requires { ⌜ n ≤ 288 ⌝ }
+    ensures { λ r. ⌜ r ≡ firstAsked kind n ⌝ }
+{
+    match kind {
+        200 => 8,
+        300 => n + 2,
+        500 => 3,
+        250 => 10,
+        _ => 0,
+    }
+}
+
+fn second_asked(kind: u64) -> usize
+    ensures { λ r. ⌜ r ≡ secondAsked kind ⌝ }
+{
+    if kind == 250 {
+        return 15;
+    }
+    0
+}
+
+// Field i starts at a: that is where the field w starts, if it is this one.
+fn noted(w: usize, before: usize, i: usize, a: usize) -> usize
+    ensures { λ r. ⌜ r ≡ cond (eqb i w) a before ⌝ }
+{
+    if i == w {
+        return a;
+    }
+    before
+}
+
+// Passes the values of a 300, up to one that breaks its rule.
+fn pass_values(file: &[u8], at: usize, e: usize, n: usize, i: usize, b: usize) -> Spot
+    requires { ⌜ Typed (now file) at e 300 n × Along (now file) at e 300 n i b × (2 ≤ i) × (i ≤ n + 2) ⌝ }
+    ensures { λ r. ⌜ Along (now (file .entry)) at e 300 n (r .i) (r .b) × (b ≤ r .b) × (i ≤ r .i) × (r .i ≤ n + 2) ⌝ }
+{
+    let mut j = i;
+    let mut t = b;
+    while j < n + 2 {
+        let a = t + 1;
+        let h = value_held(file, a, e);
+        let Held::To(z) = h else {
+            return Spot { i: j, b: t };
+        };
+        t = z;
+        j += 1;
+    }
+    Spot { i: j, b: t }
+}
+
+// Goes on over the values of a 300, if they come next; a field that later rules ask for is none of them.
+fn passed(file: &[u8], at: usize, e: usize, kind: u64, n: usize, i: usize, b: usize) -> Spot
+    requires { ⌜ Typed (now file) at e kind n × Along (now file) at e kind n i b × (1 ≤ i) ⌝ }
+    ensures { λ r. ⌜ Goes (now (file .entry)) at e kind n i b r ⌝ }
+{
+    if kind != 300 {
+        return Spot { i: i, b: b };
+    }
+    if i < 2 {
+        return Spot { i: i, b: b };
+    }
+    if n + 2 <= i {
+        return Spot { i: i, b: b };
+    }
+    pass_values(file, at, e, n, i, b)
+}
+
+// The record from at to e, of which the kind and the number of fields are known: an indicator has three bytes, so the walk starts behind it.
+pub fn check_fields(file: &[u8], at: usize, e: usize, kind: u64, n: usize) -> Walked
+    requires { ⌜ Typed (now file) at e kind n ⌝ }
+    ensures { λ r. ⌜ Walks (now (file .entry)) at e kind n r ⌝ }
+{
+    let v = first_asked(kind, n);
+    let w = second_asked(kind);
+    let mut p = at;
+    let mut q = at;
+    let mut b = at + 3;
+    let mut i: usize = 1;
+    while b < e {
+        let a = b + 1;
+        let h = field_held(file, a, e, kind, rule_at(kind, n, i));
+        let Held::To(t) = h else {
+            return Walked::Broken(a - at, i + 1);
+        };
+        p = noted(v, p, i, a);
+        q = noted(w, q, i, a);
+        let s = passed(file, at, e, kind, n, i + 1, t);
+        i = s.i;
+        b = s.b;
+    }
+    Walked::Sound(p, q)
 }

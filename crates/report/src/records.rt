@@ -1,9 +1,9 @@
 // The records of a file and their fields.
 use day::fields::skip;
 use day::walk::intervals_of;
-use record::lines::scan;
-use record::pieces::first_field;
-use record::says::kind_at;
+use lines::pieces::first_field;
+use lines::scan;
+use says::kind_at;
 ghost use Prim.Native.Nat.{_≤_};
 ghost use lib.ListN.{length};
 

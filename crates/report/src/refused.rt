@@ -4,12 +4,12 @@ use super::records::Record;
 use super::records::record_of;
 use format::Refusal;
 use page::texts::part;
-use record::rules::count_of;
 use refusals::counts;
 use refusals::excerpts::excerpt;
 use refusals::excerpts::mark;
 use refusals::headline;
 use refusals::places::whereabouts;
+use rows::count_of;
 
 const MOST: usize = 288;
 

@@ -7,10 +7,10 @@ use channel::ChannelStart;
 use channel::total_noted;
 use format::Checked;
 use format::Totalled;
+use lines::line_end;
 use page::texts::part;
 use reading::tour::check_and_note;
-use record::lines::line_end;
-use record::says::kind_at;
+use says::kind_at;
 use tables::totals::headings;
 use tables::totals::row;
 ghost use Prim.Native.Nat.{_≤_};
@@ -69,7 +69,14 @@ fn placed(page: &mut [u8], file: &[u8], k: usize, place: Channel, total: Totalle
     requires { ⌜ inside (now file) place ⌝ }
 {
     match place {
-        Channel::Days(a, e) => known(page, k, part(file, a, e), UNIT_OF_200, days_from(file, e + 2), total),
+        Channel::Days(a, e) => known(
+            page,
+            k,
+            part(file, a, e),
+            UNIT_OF_200,
+            days_from(file, e + 2),
+            total,
+        ),
         Channel::Quantity(a, e) => known(page, k, part(file, a, e), UNIT_OF_250, 0, total),
         Channel::Missing => {}
     }

@@ -23,11 +23,11 @@ use Rattle.format.specs.declared.Number.{Number}
 use Rattle.format.specs.declared.Number.the-variants.{Is, Bad}
 use Rattle.quick_values.specs.Shapes.{isThousandths}
 use Rattle.quick_values.proofs.Shapes.{thousandths-plain}
-use Rattle.record.specs.Places.{LineEnd, Cut, Rest}
-use Rattle.record.proofs.Ends.{line-none, line-more}
-use Rattle.record.proofs.Cuts.{rest-whole, rest-next, rest-on, rest-first}
-use Rattle.values.specs.Lumps.{Alike}
-use Rattle.record.proofs.Tried.{comma-field, comma-cut}
+use Rattle.lines.specs.Places.{LineEnd, Cut, Rest}
+use Rattle.lines.proofs.Ends.{line-none, line-more}
+use Rattle.lines.proofs.Cuts.{rest-whole, rest-next, rest-on, rest-first}
+use Rattle.lumps.specs.Lumps.{Alike}
+use Rattle.lines.proofs.Commas.{comma-field, comma-cut}
 use Rattle.day.specs.Places.{valuesFrom}
 use Rattle.day.proofs.Values.{values-move}
 use Rattle.sums.specs.Sums.{held, sumAt, Adds}

@@ -10,7 +10,7 @@ use Rattle.format.specs.Cut.{lines, fields}
 use Rattle.format.specs.Total.{sumFrom}
 use Rattle.format.specs.declared.Number.{Number}
 use Rattle.format.specs.declared.Number.the-variants.{Is, Bad}
-use Rattle.record.specs.Places.{Rest}
+use Rattle.lines.specs.Places.{Rest}
 use Rattle.day.specs.Places.{valuesFrom}
 
 -- a sum, if 64 bits hold it

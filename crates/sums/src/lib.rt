@@ -1,19 +1,19 @@
 // The values of a channel's days, added up, sixteen at a time. Sixteen can't pass 64 bits; a sum of more is tested before it is taken, so that none wraps.
 use day::fields::skip;
 use format::Number;
-use record::lines::line_end;
-use record::says::kind_at;
-use values::lump::sixteen;
-use values::lump::thousand;
-use values::short::short_stop;
-use values::short::value_in_pass;
+use lines::line_end;
+use lumps::sixteen;
+use lumps::thousand;
+use says::kind_at;
+use values::short_stop;
+use values::value_in_pass;
 ghost use mathlib.Core.Path.{_≡_};
 ghost use Prim.Native.Nat.{_+_, _≤_, _<_};
 ghost use lib.ListN.{length};
 ghost use Rattle.ground.specs.Lists.{part, sum};
 ghost use Rattle.format.specs.Cut.{fields};
 ghost use Rattle.day.specs.Places.{valuesFrom};
-ghost use Rattle.values.specs.Lumps.{Alike};
+ghost use Rattle.lumps.specs.Lumps.{Alike};
 ghost use Rattle.sums.specs.Sums.{held, sumAt, Adds};
 
 // The values of some fields from a place on, added up, and where the field behind them starts.

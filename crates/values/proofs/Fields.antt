@@ -6,18 +6,18 @@ use mathlib.Core.Bool.{Bool, true}
 use native.Mathlib.Omega.{arith}
 use lib.ListN.{length, getD, take, drop}
 use lib.Seq.{length-take-le}
-use Rattle.ground.specs.Lists.{all, spanOf, other, part}
+use Rattle.ground.specs.Lists.{spanOf, other, part}
 use Rattle.ground.proofs.Spans.{span-le, part-length}
 use Rattle.format.specs.Cut.{fields, field}
 use Rattle.format.specs.Records.{millionths}
 use Rattle.format.proofs.Cut.{field-here}
 use Rattle.quick_values.specs.Shapes.{isThousandths}
 use Rattle.quick_values.proofs.Shapes.{thousandths-plain}
-use Rattle.record.specs.Places.{Cut}
-use Rattle.record.proofs.Tried.{comma-field, comma-whole}
-use Rattle.values.specs.declared.Taken.{Taken}
-use Rattle.values.specs.declared.Taken.the-variants.{Value}
-use Rattle.values.specs.Shapes.{Complete, ValueAt, Shown}
+use Rattle.lines.specs.Places.{Cut}
+use Rattle.lines.proofs.Commas.{comma-field, comma-whole}
+use Rattle.shorts.specs.declared.Taken.{Taken}
+use Rattle.shorts.specs.declared.Taken.the-variants.{Value}
+use Rattle.shorts.specs.Shapes.{ValueAt, Shown}
 
 -- o is what `thousandths` answers of the five bytes from a on, which a comma follows
 module _ (file : List ℕ) (a e : ℕ) (le : a ≤ e) (within : e ≤ length file) {o : Bool} (h : 5 < e - a) (c : getD file (a + 5) 0 ≡ 44)
@@ -27,20 +27,6 @@ module _ (file : List ℕ) (a e : ℕ) (le : a ≤ e) (within : e ≤ length fil
 
   pub five-cut : Cut file a e (a + spanOf (other 44) (part file a e)) (a + 5 + 1)
   five-cut = comma-whole file a e 5 le within h c (thousandths-plain _ (sym eo ∙ t))
-
--- a value up to q, and a comma there
-pub complete-value : {file : List ℕ} {a e q v : ℕ} → Complete file a e q v → getD file q 0 ≡ 44 → ValueAt file a e v (q + 1)
-complete-value {file} {a} {e} {q} {v} k c =
-    let m : a + (q - a) ≡ q = omega (arith, k .order) in
-    let le : a ≤ e = omega (arith, k .order, k .room) in
-    let h : q - a < e - a = omega (arith, k .order, k .room) in
-    let cm : getD file (a + (q - a)) 0 ≡ 44 = rw m c in
-    let pl : all (other 44) (part file a (a + (q - a))) ≡ true = rw m (k .plain) in
-    record {
-      is = k .is ∙ ap millionths (rw m at (comma-field file a e (q - a) le (k .within) h cm pl));
-      small = k .small;
-      cut = rw m at (comma-whole file a e (q - a) le (k .within) h cm pl);
-    }
 
 -- what a try came to, taken over
 module _ (file : List ℕ) (a e : ℕ) {t : Taken} (v x : ℕ) (s : Shown file a e t) (q : t ≡ Value v x) where

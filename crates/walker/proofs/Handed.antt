@@ -12,9 +12,9 @@ use Rattle.ground.proofs.Spans.{part-take, part-length, span-le}
 use Rattle.format.specs.Bytes.{plain}
 use Rattle.format.specs.Cut.{rest, lines, onField, fields}
 use Rattle.format.proofs.Cut.{fields-some}
-use Rattle.record.specs.Places.{lineLen, LineEnd, Looked}
-use Rattle.record.proofs.Ends.{line-at, line-none, line-more, line-room, line-long}
-use Rattle.record.specs.declared.lines.Found.{Found}
+use Rattle.lines.specs.Places.{lineLen, LineEnd, Looked}
+use Rattle.lines.proofs.Ends.{line-at, line-none, line-more, line-room, line-long}
+use Rattle.lines.specs.declared.Found.{Found}
 use Rattle.walker.specs.declared.Record.{Record}
 use Rattle.walker.specs.declared.Record.the-variants.{At, None}
 use Rattle.walker.specs.Handed.{recordAt}

@@ -5,7 +5,7 @@ use lib.ListN.{length, take, drop}
 use Rattle.ground.specs.Lists.{spanOf}
 use Rattle.format.specs.Bytes.{plain}
 use Rattle.format.specs.Cut.{Lines, line, rest, lines, fields}
-use Rattle.record.specs.declared.lines.Found.{Found}
+use Rattle.lines.specs.declared.Found.{Found}
 use Rattle.walker.specs.declared.Record.{Record}
 use Rattle.walker.specs.declared.Record.the-variants.{At, None}
 

@@ -1,7 +1,7 @@
 // A walker over the lent file hands out one record after another. It holds the file and a cursor, and leaves the work to `found_at`, which
 // takes the two as they are. A caller goes through `record_at`: its contract has no walker, so nothing above it is proved by hand.
-use record::lines::Found;
-use record::lines::scan;
+use lines::Found;
+use lines::scan;
 ghost use mathlib.Core.Path.{_≡_};
 ghost use Rattle.walker.specs.Handed.{recordAt};
 

@@ -1,3 +1,2 @@
-pub mod Blocks
 pub mod Refusals
 pub mod Settled

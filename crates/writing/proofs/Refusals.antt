@@ -11,9 +11,8 @@ use borrow.Author.Tests.{eq-eqb, ne-eqb, le-leb, lt-leb, leb-true, not-true, not
 use Rattle.ground.specs.Lists.{all, from}
 use Rattle.ground.specs.Room.{Put}
 use Rattle.ground.proofs.Tests.{and-true}
-use Rattle.ground.proofs.Cases.{same-or}
 use Rattle.ground.proofs.Room.{sets-front}
-use Rattle.format.specs.Numbers.{isLength, intervalsOf}
+use Rattle.format.specs.Numbers.{intervalsOf}
 use Rattle.format.specs.Dates.{isDate, isTime}
 use Rattle.format.specs.Answers.{Answer, accepted, refusal, writtenAs}
 use Rattle.format.specs.Day.{Five, five, Day, enoughFor}
@@ -21,11 +20,13 @@ use Rattle.format.specs.Block.{given, intervalsGiven, markGiven, dayGiven, fitM
 use Rattle.format.specs.declared.DayHead.{DayHead}
 use Rattle.format.specs.declared.Written.{Written}
 use Rattle.format.specs.declared.Written.the-variants.{Block}
+use Rattle.format.proofs.Numbers.{intervals-most}
 use Rattle.text.specs.Inside.{inside}
 use Rattle.fit.specs.Tags.{tagFrom, markOf, marksFrom, tagInside, insideAt, fitMarks}
-use Rattle.block.specs.declared.Measured.{Measured}
-use Rattle.block.specs.declared.Measured.the-variants.{Bytes, Unfit}
-use Rattle.writing.specs.Pieces.{dayWith, fitHead, fitWith, fitOf, Ready, FitDay, Sizes}
+use Rattle.value_texts.specs.declared.Measured.{Measured}
+use Rattle.value_texts.specs.declared.Measured.the-variants.{Bytes, Unfit}
+use Rattle.heads.specs.Heads.{fitHead}
+use Rattle.block.specs.Pieces.{dayWith, fitWith, fitOf, Ready, FitDay, Sizes}
 use Rattle.writing.specs.Layers.{placedOf, answeredOf, Writes}
 
 -- ---- a fit day
@@ -89,13 +90,6 @@ module _ (h : DayHead) (n : ℕ) (vs : List ℕ) (l : Five) (text : List ℕ) {m
 
 -- ---- any day
 
-few-intervals : (m : ℕ) → intervalsOf m ≤ 288
-unfolding intervalsOf isLength
-few-intervals m =
-    same-or m 5 (λ e. rw e (omega arith))
-    (λ a. same-or m 15 (λ e. rw e (omega arith))
-    (λ b. same-or m 30 (λ e. rw e (omega arith)) (λ c. rw (ne-eqb m 5 a, ne-eqb m 15 b, ne-eqb m 30 c) (omega arith))))
-
 module _ (n : ℕ) (vs fs ms rs ss ls : List ℕ) {b : Bool} (f : b ≡ enoughFor n (length vs) (length fs) (length ms) (length rs) (length ss) (length ls)) (t : not b ≡ false) where
   enough : enoughFor n (length vs) (length fs) (length ms) (length rs) (length ss) (length ls) ≡ true
   enough = sym f ∙ not-false b t
@@ -122,7 +116,7 @@ module _ (n : ℕ) (vs fs ms rs ss ls : List ℕ) {b : Bool} (f : b ≡ enoughFo
       let c5 = and-true (leb n (length vs)) (leb n (length fs)) (c4 .0) in
       record {
         some = omega arith;
-        few = omega (arith, few-intervals m);
+        few = omega (arith, intervals-most m);
         values = length-take-le n vs values-long;
         long =
             record {

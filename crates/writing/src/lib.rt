@@ -1,15 +1,13 @@
 // Writes one day as the shortest block that says it.
-mod pieces;
-
-use block::Measured;
+use block::fit_day;
+use block::measure_block;
+use block::put_block;
 use format::DayHead;
 use format::Refusal;
 use format::Written;
 use lists::enough;
 use number_rules::intervals;
-use pieces::fit_day;
-use pieces::measure_block;
-use pieces::put_block;
+use value_texts::Measured;
 ghost use mathlib.Core.Path.{_≡_};
 ghost use mathlib.Core.Bool.{true};
 ghost use Prim.Native.Nat.{_≤_};
@@ -17,7 +15,7 @@ ghost use lib.ListN.{length};
 ghost use Rattle.format.specs.Answers.{refusal, writtenAs};
 ghost use Rattle.format.specs.Day.{five};
 ghost use Rattle.format.specs.Block.{given, valuesText, blockOf, writeOf, roomOf};
-ghost use Rattle.writing.specs.Pieces.{dayWith, fitWith, Ready, FitDay};
+ghost use Rattle.block.specs.Pieces.{dayWith, fitWith, Ready, FitDay};
 ghost use Rattle.writing.specs.Layers.{placedOf, answeredOf, Writes};
 
 fn no_block(number: u64) -> Written

@@ -3,7 +3,7 @@ use Prim.Native.Nat.{_+_, _≤_, _-_, _<_, _^_}
 use Rattle.sums.proofs.Sums.{days, got-fits}
 use Rattle.sums.specs.Sums.{sumAt}
 use Rattle.day.proofs.Find.{line-less}
-use Rattle.record.proofs.Ends.{line-room}
+use Rattle.lines.proofs.Ends.{line-room}
 use borrow.Author.Needs.{needs}
 use lib.ListN.{length}
 use mathlib.Core.Path.{_≡_}

@@ -4,8 +4,8 @@ use Rattle.sums.proofs.Sums.{sum-on, sum-rest, sum-over, sum-end}
 use Rattle.day.specs.Places.{valuesFrom}
 use Rattle.format.specs.Cut.{fields}
 use Rattle.ground.specs.Lists.{part, sum}
-use Rattle.record.proofs.Cuts.{rest-whole}
-use Rattle.record.specs.Places.{Rest}
+use Rattle.lines.proofs.Cuts.{rest-whole}
+use Rattle.lines.specs.Places.{Rest}
 use borrow.Author.Needs.{needs}
 use mathlib.Core.Path.{_≡_}
 use native.Mathlib.Nat.{sub-zero}

@@ -3,7 +3,7 @@ use Prim.Native.Nat.{_+_, _≤_, _-_}
 use Rattle.channel.proofs.Find.{finds}
 use Rattle.channel.specs.Places.{totalsIn, totalsAt}
 use Rattle.day.proofs.Find.{line-less}
-use Rattle.record.proofs.Ends.{line-room}
+use Rattle.lines.proofs.Ends.{line-room}
 use borrow.Author.Needs.{needs}
 use lib.ListN.{length, drop}
 use mathlib.Core.Path.{_≡_}

@@ -4,8 +4,8 @@ use Rattle.day.proofs.Values.{value-on, value-end, rest-end}
 use Rattle.day.specs.Places.{valuesFrom}
 use Rattle.format.specs.Cut.{fields}
 use Rattle.ground.specs.Lists.{part}
-use Rattle.record.proofs.Cuts.{rest-whole, rest-next}
-use Rattle.record.specs.Places.{Rest}
+use Rattle.lines.proofs.Cuts.{rest-whole, rest-next}
+use Rattle.lines.specs.Places.{Rest}
 use borrow.Author.Needs.{needs}
 use lib.ListN.{length, length-set}
 use lib.Seq.{sets}

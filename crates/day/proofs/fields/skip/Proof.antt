@@ -3,8 +3,8 @@ use Prim.Native.Nat.{_≤_, _-_}
 use Rattle.day.proofs.Values.{rest-end}
 use Rattle.format.specs.Cut.{fields}
 use Rattle.ground.specs.Lists.{part}
-use Rattle.record.proofs.Cuts.{rest-whole, rest-next}
-use Rattle.record.specs.Places.{Rest}
+use Rattle.lines.proofs.Cuts.{rest-whole, rest-next}
+use Rattle.lines.specs.Places.{Rest}
 use borrow.Author.Needs.{needs}
 use native.Mathlib.Omega.{arith}
 use Rattle.day.proofs.fields.skip.Statement.{statement}

@@ -3,7 +3,7 @@ use Prim.Native.Nat.{_+_, _≤_, _-_}
 use Rattle.day.proofs.Find.{finds, line-less}
 use Rattle.day.specs.Places.{Heads, daysAt}
 use Rattle.format.specs.Day.{daysOf}
-use Rattle.record.proofs.Ends.{line-room}
+use Rattle.lines.proofs.Ends.{line-room}
 use borrow.Author.Needs.{needs}
 use lib.ListN.{length, drop}
 use mathlib.Core.Path.{_≡_}

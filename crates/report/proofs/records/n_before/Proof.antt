@@ -1,7 +1,7 @@
 -- `report::records::n_before` meets its contract. Assumes nothing.
 use Prim.Native.Nat.{_-_, _≤_}
 use Rattle.day.proofs.Find.{line-less}
-use Rattle.record.proofs.Ends.{line-room}
+use Rattle.lines.proofs.Ends.{line-room}
 use borrow.Author.Needs.{needs}
 use lib.ListN.{length}
 use Rattle.report.proofs.records.n_before.Statement.{statement}

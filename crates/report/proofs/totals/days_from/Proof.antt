@@ -2,7 +2,7 @@
 use Prim.Native.Nat.{_-_, _≤_}
 use borrow.Author.Needs.{needs}
 use lib.ListN.{length}
-use Rattle.record.proofs.Ends.{line-room}
+use Rattle.lines.proofs.Ends.{line-room}
 use Rattle.day.proofs.Find.{line-less}
 use Rattle.report.proofs.totals.days_from.Statement.{statement}
 use Rattle.report.proofs.totals.days_from.Tie as tie

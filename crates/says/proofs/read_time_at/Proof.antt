@@ -1,0 +1,22 @@
+-- `says::read_time_at` meets its contract. Assumes nothing.
+use Rattle.format.specs.Dates.{readTimeOf}
+use Rattle.says.proofs.Fields.{says}
+use borrow.Author.Needs.{needs}
+use Rattle.says.proofs.read_time_at.Statement.{statement}
+use Rattle.says.proofs.read_time_at.Tie as tie
+
+first-field-requires : tie.Need-first-field-requires
+first-field-requires c κs = search needs
+
+read-time-requires : tie.Need-read-time-requires
+read-time-requires c κs = search needs
+
+number-in-requires : tie.Need-number-in-requires
+number-in-requires c κs = search needs
+
+returns : tie.Need-returns
+returns c = search (says readTimeOf)
+
+pub read-time-at-spec : {M : Type 1} → statement M
+read-time-at-spec =
+    tie.close (tie.spec first-field-requires read-time-requires number-in-requires returns)
