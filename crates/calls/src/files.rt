@@ -1,7 +1,8 @@
-// The entries that are handed a file: check, total, read_day.
+// The entries that are handed a file: check, total, read_day; and the check of a block on its own.
 use super::PLACES;
 use super::kept;
 use super::kept::end_line;
+use alone::check_block;
 use format::DayRead;
 use page::answers;
 use page::days::day_line;
@@ -14,7 +15,7 @@ ghost use mathlib.Core.Path.{_≡_};
 ghost use Prim.Native.Nat.{_≤_};
 ghost use Rattle.format.specs.Answers.{dayReadAs};
 ghost use Rattle.format.specs.Day.{five, outcome, readOf};
-ghost use Rattle.format.specs.File.{checkOf};
+ghost use Rattle.format.specs.File.{checkOf, blockCheckOf};
 ghost use Rattle.format.specs.Total.{totalOf};
 ghost use Rattle.page.specs.Filled.{Filled};
 ghost use Rattle.calls.specs.Kept.{keptAll};
@@ -40,6 +41,13 @@ pub fn totalled(file: &[u8], k: usize, page: &mut [u8], at: usize) -> usize
     ensures { λ r. ⌜ Filled (now (page .entry)) at (answerLine (totalOf (now (file .entry)) k)) r (now (page .exit)) ⌝ }
 {
     let p = answers::totalled(page, at, total(file, k));
+    put(page, p, b"\n")
+}
+
+pub fn block_checked(block: &[u8], minutes: u32, page: &mut [u8], at: usize) -> usize
+    ensures { λ r. ⌜ Filled (now (page .entry)) at (answerLine (blockCheckOf minutes (now (block .entry)))) r (now (page .exit)) ⌝ }
+{
+    let p = answers::block_checked(page, at, check_block(block, 0, minutes));
     put(page, p, b"\n")
 }
 

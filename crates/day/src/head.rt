@@ -26,7 +26,7 @@ pub struct Head {
     pub next: usize,
 }
 
-fn head_at(file: &[u8], a: usize, e: usize) -> Head
+pub fn head_at(file: &[u8], a: usize, e: usize) -> Head
     requires { ⌜ (a ≤ e) × (e ≤ length (now file)) ⌝ }
     ensures is { λ r. ⌜ r .date ≡ dateIn (fields (part (now (file .entry)) a e)) ⌝ }
     ensures rest { λ r. ⌜ Rest (now (file .entry)) (fields (part (now (file .entry)) a e)) a 2 (r .next) e ⌝ }
@@ -47,7 +47,7 @@ pub struct Times {
 }
 
 // The times of the 300 whose quality stands at a.
-fn times_at(file: &[u8], a: usize, e: usize) -> Times
+pub fn times_at(file: &[u8], a: usize, e: usize) -> Times
     requires { ⌜ (a ≤ e) × (e ≤ length (now file)) ⌝ }
     ensures update { λ r. ⌜ r .update ≡ numberIn (timeOf (field 3 (fields (part (now (file .entry)) a e)))) ⌝ }
     ensures load { λ r. ⌜ r .load ≡ numberIn (loadOf (field 4 (fields (part (now (file .entry)) a e)))) ⌝ }

@@ -21,7 +21,7 @@ fn between(a: u64, b: u64, x: u64) -> bool
 }
 
 // Under a day, which may end here.
-fn in_day(x: u64) -> bool
+pub fn in_day(x: u64) -> bool
     ensures { λ r. ⌜ r ≡ inDay x ⌝ }
 {
     between(3, 5, x)

@@ -1,13 +1,14 @@
 // The line in which each answer is given.
 use super::texts::numbers_behind;
 use super::texts::put;
+use format::BlockChecked;
 use format::Checked;
 use format::DayRead;
 use format::Refusal;
 use format::Totalled;
 use format::Written;
 ghost use Rattle.format.specs.Answers.{accepted as Answers·accepted};
-ghost use Rattle.format.specs.Answers.{refusedAs, checkedAs, dayReadAs, totalledAs, writtenAs};
+ghost use Rattle.format.specs.Answers.{refusedAs, checkedAs, blockCheckedAs, dayReadAs, totalledAs, writtenAs};
 ghost use Rattle.page.specs.Filled.{Filled};
 ghost use Rattle.page.specs.Lines.{lineOf};
 
@@ -40,6 +41,25 @@ pub fn checked(page: &mut [u8], at: usize, x: Checked) -> usize
             days,
         } => accepted(page, at, &[version, channels as u64, days as u64]),
         Checked::Refused(x) => refusal(page, at, x),
+    }
+}
+
+pub fn block_checked(page: &mut [u8], at: usize, x: BlockChecked) -> usize
+    ensures { λ r. ⌜ Filled (now (page .entry)) at (lineOf (blockCheckedAs x)) r (now (page .exit)) ⌝ }
+{
+    match x {
+        BlockChecked::Accepted {
+            date,
+            n,
+            update,
+            load,
+            records,
+        } => accepted(
+            page,
+            at,
+            &[date as u64, n as u64, update, load, records as u64],
+        ),
+        BlockChecked::Refused(x) => refusal(page, at, x),
     }
 }
 

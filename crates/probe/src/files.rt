@@ -1,4 +1,4 @@
-// The cases that hand in a file: check, day, total.
+// The cases that hand in a file: check, day, total; or a block on its own.
 use calls::PLACES;
 use calls::files;
 use input::Going;
@@ -7,6 +7,9 @@ use input::bytes::Passed;
 use input::bytes::fill_line;
 use input::numbers::head;
 use page::texts::part;
+
+// The most minutes that an interval length can be handed in as.
+const MINUTES: u64 = 4294967295;
 
 // The last of some numbers, 0 where there is none.
 fn last(numbers: &[u64]) -> u64 {
@@ -42,6 +45,19 @@ pub fn total_case(buf: &mut [u8], c: Cursor, file: &mut [u8], page: &mut [u8], a
     let k = numbers[0] as usize;
     let n = numbers[1] as usize;
     Going::On(after, files::totalled(part(file, 0, n), k, page, at))
+}
+
+pub fn block_case(buf: &mut [u8], c: Cursor, file: &mut [u8], page: &mut [u8], at: usize) -> Going {
+    let mut numbers = [0u64; 2];
+    let Passed::To(after) = file_in(buf, c, b"lock ", &mut numbers, file) else {
+        return Going::Bad;
+    };
+    let minutes = numbers[0];
+    let n = numbers[1] as usize;
+    if MINUTES < minutes {
+        return Going::Bad;
+    }
+    Going::On(after, files::block_checked(part(file, 0, n), minutes as u32, page, at))
 }
 
 pub fn day_case(buf: &mut [u8], c: Cursor, file: &mut [u8], page: &mut [u8], at: usize) -> Going {

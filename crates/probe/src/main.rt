@@ -17,6 +17,7 @@ fn case(buf: &mut [u8], c: Cursor, file: &mut [u8], page: &mut [u8], at: usize) 
         return Going::Ended;
     };
     match b {
+        b'b' => files::block_case(buf, after, file, page, at),
         b'c' => files::check_case(buf, after, file, page, at),
         b'd' => files::day_case(buf, after, file, page, at),
         b't' => files::total_case(buf, after, file, page, at),

@@ -3,7 +3,7 @@
 use Prim.Native.Nat.{ℕ, _+_, _-_, _≤_}
 use mathlib.Core.Path.{_≡_, refl, sym, _∙_, ap}
 use mathlib.Core.List.{List}
-use mathlib.Core.Bool.{Bool, true, false, cond, false≢true}
+use mathlib.Core.Bool.{Bool, true, false, cond}
 use native.Mathlib.Omega.{arith}
 use lib.ListN.{length, drop}
 use lib.Dec.{eqb, leb}
@@ -15,8 +15,7 @@ use Rattle.format.specs.Order.{Due}
 use Rattle.format.specs.Faults.{faultOf}
 use Rattle.format.specs.File.{after}
 use Rattle.format.specs.Day.{daysOf}
-use Rattle.format.specs.declared.Fault.{Fault}
-use Rattle.format.specs.declared.Fault.the-variants.{Fine, Stop}
+use Rattle.format.specs.declared.Fault.the-variants.{Fine}
 use Rattle.passing.proofs.Fit.{fine-fit, head}
 use Rattle.passing.proofs.Steps.{after-200}
 use Rattle.passing.proofs.Counts.{Counted, counted}
@@ -30,7 +29,8 @@ use Rattle.walker.proofs.Handed.{handed-looked, handed-inside}
 use Rattle.order.specs.declared.State.{State}
 use Rattle.order.specs.declared.Step.{Step}
 use Rattle.order.specs.declared.Step.the-variants as step
-use Rattle.order.specs.State.{seen, Next, goes, stops, orStop, nextOf, stepAs}
+use Rattle.order.specs.State.{seen, goes, nextOf, stepAs}
+use Rattle.order.proofs.Next.{gone}
 use Rattle.day.specs.Places.{Heads, daysAt, DayAhead}
 use Rattle.day.specs.declared.Under.{Under}
 use Rattle.day.proofs.Find.{no-heads}
@@ -42,18 +42,6 @@ use Rattle.channel.specs.declared.ChannelStart.{ChannelStart}
 use Rattle.channel.proofs.Find as totals
 
 -- ---- a turn of the walk
-
-gone : (f : Fault) (d s : Due) → orStop f d ≡ goes s → (f ≡ Fine) × (s ≡ d)
-gone Fine d s e = (refl, sym (ap dueOf e))
-  where
-    dueOf : Next → Due
-    dueOf (goes x) = x
-    dueOf (stops x o i) = d
-gone (Stop x o i) d s e = absurd (false≢true (ap going e))
-  where
-    going : Next → Bool
-    going (goes x) = true
-    going (stops x o i) = false
 
 -- the record from at to e is passed, and s is the state behind it, v the 200
 module _ (file : List ℕ) (day channel at e : ℕ) (u v : Under) (st s : Due) (l : LineEnd file at e) (go : e ≡ length file → ⊥) (a : Ahead file day channel at u st)

@@ -30,6 +30,7 @@ use Rattle.order.specs.declared.State.{State}
 use Rattle.order.specs.declared.Step.{Step}
 use Rattle.order.specs.declared.Step.the-variants as step
 use Rattle.order.specs.State.{seen, closed, Kept, Next, goes, stops, orStop, nextOf, stepAs, Holds}
+use Rattle.order.proofs.Next.{kept-on}
 use Rattle.day.specs.declared.Under.{Under}
 use Rattle.day.specs.declared.DayStart.{DayStart}
 use Rattle.day.specs.Places.{DayAhead}
@@ -114,19 +115,10 @@ module _ (file : List ℕ) (at k : ℕ) (st : State) (done : st .expect ≡ 9) (
           let g : length (drop at file) ≡ 0 → ⊥ = λ z. omega (arith, length-drop at file) in
           rw (line-none file at e (line-at file at l) (omega (arith, line-at file at l .within)), eq-eqb _ _ done, ne-eqb _ _ g)
 
--- ---- the state is kept, and a fault's place lies in its record
+-- ---- the state is kept
 
 kept-first : (file : List ℕ) → Kept file 0 (closed 0 0 0 0 0 0)
 kept-first file = record { within = omega arith; small = omega arith; channels = omega arith; days = omega arith }
-
-module _ (file : List ℕ) (at e : ℕ) (t : Step) (r : Holds file at e t) where
-  kept-on : (n : State) → t ≡ step.On n → Kept file (e + 2) n
-  kept-on n q =
-      let h : Kept file (e + 1) n = rw q at r in
-      record { within = h .within; small = h .small; channels = omega (arith, h .channels); days = omega (arith, h .days) }
-
-  pub stop-within : (x o i : ℕ) → t ≡ step.Stop x o i → at + o ≤ e
-  stop-within x o i q = rw q at r
 
 -- ---- the walk on its way
 

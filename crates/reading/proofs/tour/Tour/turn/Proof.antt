@@ -3,7 +3,8 @@ use Prim.Native.Nat.{_+_, _≤_}
 use lib.ListN.{length}
 use native.Mathlib.Omega.{arith}
 use Rattle.walker.proofs.Handed.{handed-looked, handed-order, handed-room}
-use Rattle.reading.proofs.Walks.{stop-within, turned-2, turned-stop, turned-on}
+use Rattle.order.proofs.Next.{stop-within}
+use Rattle.reading.proofs.Walks.{turned-2, turned-stop, turned-on}
 use borrow.Author.Needs.{needs}
 use Rattle.reading.proofs.tour.Tour.turn.Statement.{statement}
 use Rattle.reading.proofs.tour.Tour.turn.Tie as tie

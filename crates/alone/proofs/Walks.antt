@@ -1,0 +1,255 @@
+-- The walk over a block: a record's fault there, what each way out of a turn answers, and the turn itself. Assumes nothing.
+use Prim.Native.Nat.{ℕ, _+_, _-_, _≤_, _<_}
+use mathlib.Core.Path.{_≡_, refl, sym, ap, _∙_}
+use mathlib.Core.List.{List, [], _∷_}
+use mathlib.Core.Bool.{Bool, true, false, not, _&&_, _||_, false≢true}
+use native.Mathlib.Omega.{arith}
+use lib.ListN.{length, drop, length-drop, drop-of-length-le}
+use lib.Seq.{drop-length}
+use lib.Dec.{leb, ltb, eqb}
+use borrow.Author.Tests.{ne-eqb, lt-ltb, le-ltb, not-true, not-false}
+use Rattle.ground.specs.Lists.{spanOf, part}
+use Rattle.ground.proofs.Cases.{by}
+use Rattle.ground.proofs.Spans.{part-length}
+use Rattle.format.specs.Bytes.{plain}
+use Rattle.format.specs.Numbers.{intervalsOf}
+use Rattle.format.specs.Cut.{rest, lines, fields}
+use Rattle.format.specs.Records.{kindIn, dateIn, updateIn, loadIn}
+use Rattle.format.specs.Order.{Due, inDay}
+use Rattle.format.specs.Faults.{isOpen, faultAt, faultOf}
+use Rattle.format.specs.Answers.{Answer, accepted, refused, refusedAs}
+use Rattle.format.specs.File.{after, isForeign, blockFaultOf, endOf, blockWalkOf, blockCheckOf}
+use Rattle.format.specs.declared.Refusal.{Refusal}
+use Rattle.format.specs.declared.Fault.the-variants.{Fine, Stop}
+use Rattle.format.proofs.Numbers.{intervals-most}
+use Rattle.lines.specs.Places.{LineEnd, Looked}
+use Rattle.lines.specs.declared.Found.{Found}
+use Rattle.lines.proofs.Ends.{line-none, line-more, line-long}
+use Rattle.walker.specs.Handed.{recordAt}
+use Rattle.walker.specs.declared.Record.{Record}
+use Rattle.walker.specs.declared.Record.the-variants.{At, None}
+use Rattle.walker.proofs.Handed.{handed-none, handed-looked, handed-inside, handed-order, handed-room}
+use Rattle.order.specs.declared.State.{State}
+use Rattle.order.specs.declared.Step.{Step}
+use Rattle.order.specs.declared.Step.the-variants as step
+use Rattle.order.specs.State.{seen, closed, Kept, nextOf, stepAs, Holds}
+use Rattle.order.proofs.Next.{gone, stopped, kept-on, stop-within}
+use Rattle.alone.specs.declared.BlockWalk.{BlockWalk}
+use Rattle.alone.specs.declared.BlockTurn.{BlockTurn}
+use Rattle.alone.specs.declared.BlockTurn.the-variants as turn
+use Rattle.alone.specs.Walk.{onFrom, wholeOf, isForeignHere, firstWalk, Walking, Turned}
+
+-- ---- a record's fault in a block
+
+module _ (st : Due) (r : List ℕ) where
+  abbrev k : ℕ
+  k = kindIn (fields r)
+
+  foreign-fault : isForeignHere st r ≡ true → blockFaultOf st r ≡ Stop 4 0 0
+  unfolding isForeignHere blockFaultOf
+  foreign-fault h =
+      by (ltb (spanOf plain r) (length r))
+      (λ a. absurd (false≢true (rw a at h)))
+      (λ a. by (isOpen st k)
+      (λ b. absurd (false≢true (rw (a, b) at h)))
+      (λ b. let z : isForeign st k ≡ true = (rw (a, b) at h) in rw (a, b, z)))
+
+  own-fault : isForeignHere st r ≡ false → blockFaultOf st r ≡ faultOf st r
+  unfolding isForeignHere blockFaultOf faultOf faultAt
+  own-fault h =
+      by (ltb (spanOf plain r) (length r))
+      (λ a. rw a)
+      (λ a. by (isOpen st k)
+      (λ b. rw (a, b))
+      (λ b. let z : isForeign st k ≡ false = (rw (a, b) at h) in rw (a, b, z)))
+
+-- the test, by what was looked at
+module _ (memory : List ℕ) (at : ℕ) (f : Found) (l : Looked memory at (f .end) (f .bad) (f .commas)) (st : Due) where
+  abbrev record-here : List ℕ
+  record-here = part memory at (f .end)
+
+  long : length record-here ≡ f .end - at
+  long = part-length memory at (f .end) (l .ends .within)
+
+  pub foreign-3 : f .bad < f .end → false ≡ isForeignHere st record-here
+  unfolding isForeignHere
+  foreign-3 h = rw (lt-ltb (spanOf plain record-here) (length record-here) (omega (arith, l .first, long, l .ends .order)))
+
+  plain-here : f .end ≤ f .bad → ltb (spanOf plain record-here) (length record-here) ≡ false
+  plain-here h = le-ltb (spanOf plain record-here) (length record-here) (omega (arith, l .first, long, l .ends .order))
+
+  module _ (h : f .end ≤ f .bad) {k : ℕ} (ek : k ≡ kindIn (fields record-here)) {o : Bool} (eo : o ≡ isOpen st k) where
+    pub foreign-10 : o ≡ true → false ≡ isForeignHere st record-here
+    unfolding isForeignHere
+    foreign-10 t = rw (plain-here h, ← ek, ← eo, t)
+
+    pub foreign-is : {b : Bool} → o ≡ false → b ≡ isForeign st k → b ≡ isForeignHere st record-here
+    unfolding isForeignHere
+    foreign-is t e = rw (plain-here h, ← ek, ← eo, t) e
+
+-- under the block's day, by the tests of the code
+module _ (x k : ℕ) {i : Bool} (ei : i ≡ inDay x) where
+  pub leaves-none : not i ≡ true → false ≡ inDay x && not (eqb k 400 || eqb k 500)
+  leaves-none h = rw (← ei, not-true i h)
+
+  module _ (h : not i ≡ false) where
+    pub leaves-400 : k ≡ 400 → false ≡ inDay x && not (eqb k 400 || eqb k 500)
+    leaves-400 e = rw (← ei, not-false i h, e)
+
+    pub leaves-other : {b : Bool} → (k ≡ 400 → ⊥) → b ≡ not (eqb k 500) → b ≡ inDay x && not (eqb k 400 || eqb k 500)
+    leaves-other e eb = rw (← ei, not-false i h, ne-eqb k 400 e) eb
+
+-- the tests of the code's state
+module _ (memory : List ℕ) (st : State) (k : ℕ) {b : Bool} where
+  pub open-is : b ≡ eqb (st .expect) 4 && (leb (st .next) (st .n) && not (eqb k 400)) → b ≡ isOpen (seen memory st) k
+  unfolding isOpen
+  open-is e = e
+
+  pub leaves-is : b ≡ inDay (st .expect) && not (eqb k 400 || eqb k 500) → b ≡ isForeign (seen memory st) k
+  unfolding isForeign
+  leaves-is e = e
+
+-- ---- the walk on its way
+
+pub walking-first : (memory : List ℕ) (start n e : ℕ) (t : BlockWalk) → t ≡ firstWalk start n → LineEnd memory start e → n ≤ 288 → Walking memory start n t
+walking-first memory start n e t q h s =
+    rw q
+    (record {
+      order = omega arith;
+      within = omega (arith, h .order, h .within);
+      few = omega arith;
+      kept = record { within = omega arith; small = s; channels = omega arith; days = omega arith };
+      walked = refl;
+    })
+
+module _ (memory : List ℕ) (start n : ℕ) (t : BlockWalk) (g : Walking memory start n t) (r : Record) (is : r ≡ recordAt memory (t .at)) where
+  pub turned-end : r ≡ None → Turned memory start n t turn.End
+  turned-end h = handed-none memory (t .at) r is h
+
+  module _ (p : ℕ) (f : Found) (h : r ≡ At p f) where
+    abbrev here : List ℕ
+    here = part memory (t .at) (f .end)
+
+    abbrev st : Due
+    st = seen memory (t .state)
+
+    abbrev ends : LineEnd memory (t .at) (f .end)
+    ends = handed-looked memory (t .at) r is p f h .ends
+
+    -- the fault, and the walk behind it, by the record's line
+    pub turned-fault : (x o i : ℕ) → blockFaultOf st here ≡ Stop x o i → wholeOf memory start n ≡ refused x (t .at - start + o) (t .records) i
+    unfolding blockWalkOf
+    turned-fault x o i q = g .walked ∙ rw (line-more memory (t .at) (f .end) ends (handed-inside memory (t .at) r is p f h), q)
+
+    behind : t .at - start + length here + 2 ≡ f .end + 2 - start
+    behind = omega (arith, line-long memory (t .at) (f .end) ends, ends .order, g .order)
+
+    turned-fine : blockFaultOf st here ≡ Fine → wholeOf memory start n ≡ onFrom memory start n (after st here) (f .end + 2) (t .records + 1)
+    unfolding blockWalkOf
+    turned-fine q = g .walked ∙ rw (line-more memory (t .at) (f .end) ends (handed-inside memory (t .at) r is p f h), q, behind)
+
+    pub turned-4 : {b : Bool} → b ≡ isForeignHere st here → b ≡ true → wholeOf memory start n ≡ refused 4 (t .at - start) (t .records) 0
+    turned-4 eb y =
+        let z : t .at - start + 0 ≡ t .at - start = omega arith in
+        turned-fault 4 0 0 (foreign-fault st here (sym eb ∙ y)) ∙ rw z
+
+    module _ {b : Bool} (eb : b ≡ isForeignHere st here) (no : b ≡ false) (w : Step) (ew : stepAs memory w ≡ nextOf st here) where
+      pub turned-stop : (x o i : ℕ) → w ≡ step.Stop x o i → wholeOf memory start n ≡ refused x (t .at - start + o) (t .records) i
+      unfolding nextOf
+      turned-stop x o i q = turned-fault x o i (own-fault st here (sym eb ∙ no) ∙ stopped (faultOf st here) (after st here) x o i (sym (rw q at ew)))
+
+      pub turned-on : Holds memory (t .at) (f .end) w → (s : State) → w ≡ step.On s
+          → Turned memory start n t (turn.On (record { at = f .end + 2; records = t .records + 1; state = s }))
+      unfolding nextOf
+      turned-on hw s q =
+          let b = gone (faultOf st here) (after st here) (seen memory s) (sym (rw q at ew)) in
+          let o = handed-order memory (t .at) r is p f h in (
+            record {
+              order = omega (arith, o, g .order);
+              within = handed-room memory (t .at) r is p f h;
+              few = omega (arith, o, g .few);
+              kept = kept-on memory (t .at) (f .end) w hw s q;
+              walked = rw (b .1) (turned-fine (own-fault st here (sym eb ∙ no) ∙ b .0));
+            },
+            omega (arith, o),
+          )
+
+-- ---- turn after turn
+
+module _ (memory : List ℕ) (start n : ℕ) (t : BlockWalk) (w : BlockTurn) (g : Turned memory start n t w) where
+  module _ (u : BlockWalk) (h : w ≡ turn.On u) where
+    turned : Walking memory start n u × (t .at < u .at)
+    turned = rw h at g
+
+    pub turned-walking : Walking memory start n u
+    turned-walking = turned .0
+
+    pub turned-less : length memory - u .at < length memory - t .at
+    turned-less = omega (arith, turned .1, turned .0 .within)
+
+  pub turned-refused : (x : Refusal) → w ≡ turn.Stop x → refusedAs x ≡ wholeOf memory start n
+  turned-refused x h = sym (let z : wholeOf memory start n ≡ refusedAs x = rw h at g in z)
+
+  pub turned-over : w ≡ turn.End → lines (drop (t .at) memory) ≡ rest (drop (t .at) memory)
+  turned-over h = rw h at g
+
+-- ---- where no CR LF is left
+
+module _ (memory : List ℕ) (start n : ℕ) (t : BlockWalk) (g : Walking memory start n t) (no : Turned memory start n t turn.End) where
+  abbrev at-end : Due
+  at-end = seen memory (t .state)
+
+  module _ {i : Bool} (ei : i ≡ inDay (at-end .expect)) where
+    pub end-none : {a : Answer} → a ≡ refused 2 (t .at - start) (t .records) 0 → not i ≡ true → a ≡ wholeOf memory start n
+    unfolding blockWalkOf
+    end-none q h = q ∙ sym (g .walked ∙ rw (no, ← ei, not-true i h))
+
+    module _ (h : not i ≡ false) where
+      pub end-left : {a : Answer} → a ≡ refused 2 (t .at - start) (t .records) 0 → (t .at ≡ length memory → ⊥) → a ≡ wholeOf memory start n
+      unfolding blockWalkOf
+      end-left q z =
+          let y : length (drop (t .at) memory) ≡ 0 → ⊥ = λ e. omega (arith, length-drop (t .at) memory, g .within) in
+          q ∙ sym (g .walked ∙ rw (no, ← ei, not-false i h, ne-eqb _ _ y))
+
+      module _ (z : t .at ≡ length memory) {o : Bool} (eo : o ≡ isOpen at-end 0) where
+        all-read : lines (drop (t .at) memory) ≡ rest []
+        unfolding lines
+        all-read = rw (z, drop-length memory)
+
+        pub end-10 : {a : Answer} → a ≡ refused 10 (t .at - start) (t .records) 0 → o ≡ true → a ≡ wholeOf memory start n
+        unfolding blockWalkOf endOf
+        end-10 q u = q ∙ sym (g .walked ∙ rw (all-read, ← ei, not-false i h, ← eo, u))
+
+        pub end-block : (e : ℕ) → LineEnd memory start e → (e ≡ length memory → ⊥) → o ≡ false → (d u l : ℕ)
+            → d ≡ dateIn (fields (part memory start e)) → u ≡ updateIn n (fields (part memory start e)) → l ≡ loadIn n (fields (part memory start e))
+            → accepted (d ∷ n ∷ u ∷ l ∷ t .records ∷ []) ≡ wholeOf memory start n
+        unfolding blockWalkOf endOf
+        end-block e s go w d u l ed eu el =
+            sym (g .walked ∙ rw (all-read, ← ei, not-false i h, ← eo, w, line-more memory start e s go, ← ed, ← eu, ← el))
+
+-- ---- the whole block
+
+pub few : (m n : ℕ) → n ≡ intervalsOf m → n ≤ 288
+few m n e = rw e (intervals-most m)
+
+module _ (memory : List ℕ) (start m n : ℕ) (en : n ≡ intervalsOf m) where
+  pub whole-16 : {a : Answer} → a ≡ refused 16 0 0 0 → n ≡ 0 → a ≡ blockCheckOf m (drop start memory)
+  unfolding blockCheckOf
+  whole-16 q z = rw (← en, z) q
+
+  module _ (some : n ≡ 0 → ⊥) where
+    -- there is no record
+    none-there : lines (drop start memory) ≡ rest (drop start memory) → blockCheckOf m (drop start memory) ≡ refused 2 0 0 0
+    unfolding blockCheckOf blockWalkOf
+    none-there h = rw (← en, ne-eqb n 0 some, h)
+
+    pub whole-behind : {a : Answer} → a ≡ refused 2 0 0 0 → length memory < start → a ≡ blockCheckOf m (drop start memory)
+    unfolding lines
+    whole-behind q h = q ∙ sym (none-there (rw (drop-of-length-le memory {i = start} (omega arith))))
+
+    pub whole-none : {a : Answer} → a ≡ refused 2 0 0 0 → (e : ℕ) → LineEnd memory start e → e ≡ length memory → a ≡ blockCheckOf m (drop start memory)
+    whole-none q e s h = q ∙ sym (none-there (line-none memory start e s h))
+
+    pub whole-walk : {a : Answer} → a ≡ wholeOf memory start n → a ≡ blockCheckOf m (drop start memory)
+    unfolding blockCheckOf
+    whole-walk q = let z : start - start ≡ 0 = omega arith in rw (← en, ne-eqb n 0 some) (rw z at q)

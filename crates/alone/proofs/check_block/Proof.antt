@@ -1,0 +1,50 @@
+-- `alone::check_block` meets its contract. Assumes nothing.
+use Rattle.alone.proofs.Walks.{few, whole-16, whole-behind, whole-none, whole-walk}
+use borrow.Author.Needs.{needs}
+use Rattle.alone.proofs.check_block.Statement.{statement}
+use Rattle.alone.proofs.check_block.Tie as tie
+
+intervals-requires : tie.Need-intervals-requires
+intervals-requires c κs = search needs
+
+refused-requires : tie.Need-refused-requires
+refused-requires c κs = search needs
+
+returns : tie.Need-returns
+returns c = search whole-16
+
+refused-requires-2 : tie.Need-refused-requires-2
+refused-requires-2 c κs = search needs
+
+returns-2 : tie.Need-returns-2
+returns-2 c = search whole-behind
+
+line-end-requires : tie.Need-line-end-requires
+line-end-requires c κs = search needs
+
+refused-requires-3 : tie.Need-refused-requires-3
+refused-requires-3 c κs = search needs
+
+returns-3 : tie.Need-returns-3
+returns-3 c = search whole-none
+
+walk-block-requires : tie.Need-walk-block-requires
+walk-block-requires c κs = (search needs, search needs, search few)
+
+returns-4 : tie.Need-returns-4
+returns-4 c = search whole-walk
+
+pub check-block-spec : {M : Type 1} → statement M
+check-block-spec =
+    tie.close
+    (tie.spec
+    intervals-requires
+    refused-requires
+    returns
+    refused-requires-2
+    returns-2
+    line-end-requires
+    refused-requires-3
+    returns-3
+    walk-block-requires
+    returns-4)

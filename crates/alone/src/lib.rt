@@ -1,0 +1,227 @@
+// A block on its own: bytes held to what one day block has to be behind a 200 of an interval length, without a date before it. The block is a part of longer
+// memory, from a place to the memory's end, so that what is found in it can be placed there; its refusals count from its start.
+use day::fields::skip;
+use day::head::head_at;
+use day::head::times_at;
+use format::BlockChecked;
+use format::Refusal;
+use lines::Found;
+use lines::line_end;
+use number_rules::intervals;
+use order::State;
+use order::Step;
+use order::tests::in_day;
+use order::tests::is_open;
+use says::kind_at;
+use walker::Record;
+use walker::record_at;
+ghost use mathlib.Core.Path.{_≡_};
+ghost use mathlib.Core.Bool.{not, _&&_, _||_};
+ghost use Prim.Native.Nat.{_≤_};
+ghost use lib.ListN.{length, drop};
+ghost use lib.Dec.{eqb};
+ghost use Rattle.ground.specs.Lists.{part};
+ghost use Rattle.format.specs.Records.{dateIn, updateIn, loadIn};
+ghost use Rattle.format.specs.Cut.{fields};
+ghost use Rattle.format.specs.Order.{inDay};
+ghost use Rattle.format.specs.Answers.{blockCheckedAs};
+ghost use Rattle.format.specs.File.{blockCheckOf};
+ghost use Rattle.lines.specs.Places.{LineEnd, Looked};
+ghost use Rattle.order.specs.State.{seen};
+ghost use Rattle.alone.specs.Walk.{refusedAt, wholeOf, isForeignHere, firstWalk, Walking, Turned};
+ghost use Rattle.alone.specs.declared.BlockTurn.the-variants.{End};
+
+// The walk over a block before a record: where that starts in the memory, how many records are behind, and the state.
+pub struct BlockWalk {
+    pub at: usize,
+    pub records: usize,
+    pub state: State,
+}
+
+// What comes of a record: the walk behind it, the refusal that ends it, or that no CR LF is left.
+pub enum BlockTurn {
+    On(BlockWalk),
+    Stop(Refusal),
+    End,
+}
+
+// What a block's 300 says beside its values and its mark.
+pub struct Said {
+    pub date: u32,
+    pub update: u64,
+    pub load: u64,
+}
+
+// Under the block's day, a record that is neither a 400 nor a 500.
+fn leaves_day(expect: u64, kind: u64) -> bool
+    ensures { λ r. ⌜ r ≡ inDay expect && not (eqb kind 400 || eqb kind 500) ⌝ }
+{
+    if !in_day(expect) {
+        return false;
+    }
+    if kind == 400 {
+        return false;
+    }
+    kind != 500
+}
+
+// The record is no part of the block, which is asked behind 3 and 10.
+fn is_foreign(memory: &[u8], at: usize, found: Found, st: State) -> bool
+    requires { ⌜ Looked (now memory) at (found .end) (found .bad) (found .commas) ⌝ }
+    ensures { λ r. ⌜ r ≡ isForeignHere (seen (now (memory .entry)) st) (part (now (memory .entry)) at (found .end)) ⌝ }
+{
+    let e = found.end;
+    if found.bad < e {
+        return false;
+    }
+    let kind = kind_at(memory, at, e);
+    if is_open(st.expect, st.next, st.n, kind) {
+        return false;
+    }
+    leaves_day(st.expect, kind)
+}
+
+// What the 300 of n intervals from a to e says.
+fn said_at(memory: &[u8], a: usize, e: usize, n: usize) -> Said
+    requires { ⌜ (a ≤ e) × (e ≤ length (now memory)) ⌝ }
+    ensures date { λ r. ⌜ r .date ≡ dateIn (fields (part (now (memory .entry)) a e)) ⌝ }
+    ensures update { λ r. ⌜ r .update ≡ updateIn n (fields (part (now (memory .entry)) a e)) ⌝ }
+    ensures load { λ r. ⌜ r .load ≡ loadIn n (fields (part (now (memory .entry)) a e)) ⌝ }
+{
+    let h = head_at(memory, a, e);
+    let q = skip(memory, h.next, e, n);
+    let t = times_at(memory, q, e);
+    Said {
+        date: h.date,
+        update: t.update,
+        load: t.load,
+    }
+}
+
+impl BlockWalk {
+    // Before the first record, behind a 200 of n intervals.
+    fn new(start: usize, n: usize) -> BlockWalk
+        ensures { λ r. ⌜ r ≡ firstWalk start n ⌝ }
+    {
+        BlockWalk {
+            at: start,
+            records: 0,
+            state: State::closed(2, 12, n, 0, 0, 0),
+        }
+    }
+
+    // Over the record at which the walk stands.
+    fn turn(self, memory: &[u8], start: usize, n: usize) -> BlockTurn
+        requires { ⌜ Walking (now memory) start n self ⌝ }
+        ensures { λ r. ⌜ Turned (now (memory .entry)) start n self r ⌝ }
+    {
+        let at = self.at;
+        let handed = record_at(memory, at);
+        let Record::At(_, found) = handed else {
+            return BlockTurn::End;
+        };
+        let e = found.end;
+        let behind = e + 2;
+        let passed = self.records + 1;
+        let st = self.state;
+        let from = at - start;
+        if is_foreign(memory, at, found, st) {
+            return BlockTurn::Stop(Refusal {
+                number: 4,
+                place: from,
+                record: self.records,
+                field: 0,
+            });
+        }
+        let step = st.step(memory, at, found);
+        match step {
+            Step::Stop(number, o, field) => BlockTurn::Stop(Refusal {
+                number,
+                place: from + o,
+                record: self.records,
+                field,
+            }),
+            Step::On(s) => BlockTurn::On(BlockWalk {
+                at: behind,
+                records: passed,
+                state: s,
+            }),
+        }
+    }
+
+    // Where no CR LF is left: the memory has to end here, with a day that may end. Its 300 ends at e.
+    fn end(self, memory: &[u8], start: usize, e: usize, n: usize) -> BlockChecked
+        requires { ⌜ Walking (now memory) start n self × Turned (now memory) start n self End × LineEnd (now memory) start e × (e ≡ length (now memory) → ⊥) ⌝ }
+        ensures { λ r. ⌜ blockCheckedAs r ≡ wholeOf (now (memory .entry)) start n ⌝ }
+    {
+        let st = self.state;
+        let from = self.at - start;
+        if !in_day(st.expect) {
+            return refused(2, from, self.records);
+        }
+        if self.at != memory.len() {
+            return refused(2, from, self.records);
+        }
+        if is_open(st.expect, st.next, st.n, 0) {
+            return refused(10, from, self.records);
+        }
+        let s = said_at(memory, start, e, n);
+        BlockChecked::Accepted {
+            date: s.date,
+            n,
+            update: s.update,
+            load: s.load,
+            records: self.records,
+        }
+    }
+}
+
+// A refusal without a field.
+fn refused(number: u64, place: usize, record: usize) -> BlockChecked
+    ensures { λ r. ⌜ blockCheckedAs r ≡ refusedAt number place «record» ⌝ }
+{
+    BlockChecked::Refused(Refusal {
+        number,
+        place,
+        record,
+        field: 0,
+    })
+}
+
+// The block from `start` to the memory's end, behind a 200 of n intervals, where it has a record.
+fn walk_block(memory: &[u8], start: usize, e: usize, n: usize) -> BlockChecked
+    requires { ⌜ LineEnd (now memory) start e × (e ≡ length (now memory) → ⊥) × (n ≤ 288) ⌝ }
+    ensures { λ r. ⌜ blockCheckedAs r ≡ wholeOf (now (memory .entry)) start n ⌝ }
+{
+    let mut t = BlockWalk::new(start, n);
+    loop {
+        let turn = t.turn(memory, start, n);
+        match turn {
+            BlockTurn::On(next) => {
+                t = next;
+            }
+            BlockTurn::Stop(x) => return BlockChecked::Refused(x),
+            BlockTurn::End => return t.end(memory, start, e, n),
+        }
+    }
+}
+
+// Whether the bytes from `start` to the memory's end are a day block behind a 200 of so many minutes: what it says and how many records it has, or its first
+// refusal. An interval length that is none is 16, before all else.
+pub fn check_block(memory: &[u8], start: usize, minutes: u32) -> BlockChecked
+    ensures { λ r. ⌜ blockCheckedAs r ≡ blockCheckOf minutes (drop start (now (memory .entry))) ⌝ }
+{
+    let n = intervals(minutes as u64);
+    if n == 0 {
+        return refused(16, 0, 0);
+    }
+    let long = memory.len();
+    if long < start {
+        return refused(2, 0, 0);
+    }
+    let e = line_end(memory, start);
+    if e == long {
+        return refused(2, 0, 0);
+    }
+    walk_block(memory, start, e, n)
+}
