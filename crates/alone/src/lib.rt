@@ -3,6 +3,8 @@
 use day::fields::skip;
 use day::head::head_at;
 use day::head::times_at;
+use follows::in_day;
+use follows::is_open;
 use format::BlockChecked;
 use format::Refusal;
 use lines::Found;
@@ -10,8 +12,6 @@ use lines::line_end;
 use number_rules::intervals;
 use order::State;
 use order::Step;
-use order::tests::in_day;
-use order::tests::is_open;
 use says::kind_at;
 use walker::Record;
 use walker::record_at;

@@ -23,7 +23,8 @@ use Rattle.runs.specs.Ran.{Ran}
 use Rattle.format.proofs.Numbers.{intervals-most}
 use Rattle.says.proofs.Fields.{says-of, tag-moves}
 use Rattle.order.specs.declared.State.{State}
-use Rattle.order.specs.State.{markOf, seen, noTag, closed, Kept, cells, Here, After, goes, stops, lateOf, lastOf, goesOn, alikeTo}
+use Rattle.follows.specs.Follows.{markOf, goesOn}
+use Rattle.order.specs.State.{seen, noTag, closed, Kept, cells, Here, After, goes, stops, lateOf, lastOf, alikeTo}
 use Rattle.order.proofs.Marks.{flag-of, mark-of, agrees-of, tag-within}
 
 -- ---- the chain from 7 on

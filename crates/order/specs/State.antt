@@ -17,14 +17,12 @@ use Rattle.format.specs.declared.Fault.the-variants.{Fine, Stop}
 use Rattle.format.specs.declared.Tag.{Tag}
 use Rattle.lines.specs.Places.{Starts}
 use Rattle.record.specs.Walk.{Typed, Sound}
+use Rattle.follows.specs.Follows.{markOf}
 use Rattle.order.specs.declared.State.{State}
 use Rattle.order.specs.declared.Step.{Step}
 use Rattle.order.specs.declared.Step.the-variants as step
 
 -- ---- the state
-
-abbrev pub markOf : List ℕ → Tag → Mark
-markOf file t = record { flag = t .flag; method = t .method; reason = t .reason; text = part file (t .start) (t .start + t .length) }
 
 -- what the code's state says
 abbrev pub seen : List ℕ → State → Due
@@ -104,10 +102,6 @@ Holds file at e (step.On st) = Kept file (e + 1) st
 Holds file at e (step.Stop x o i) = at + o ≤ e
 
 -- ---- single tests
-
--- intervals from a to b go on with a cover whose next interval is given, in a day of n
-unfoldable pub goesOn : ℕ → ℕ → ℕ → ℕ → Bool
-goesOn next n a b = eqb a next && (leb a b && leb b n)
 
 -- with this mark, every 400 of the day has one
 unfoldable pub alikeTo : Due → Mark → Bool

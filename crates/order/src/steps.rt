@@ -1,8 +1,8 @@
 // The step over one record: 3, 10, 4, 5 and 6 in document 01's order, then the record's own method.
 use super::State;
 use super::Step;
-use super::tests::is_open;
-use super::tests::may_come;
+use follows::is_open;
+use follows::may_come;
 use lines::Found;
 use record::Walked;
 use record::check_fields;

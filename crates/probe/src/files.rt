@@ -57,7 +57,10 @@ pub fn block_case(buf: &mut [u8], c: Cursor, file: &mut [u8], page: &mut [u8], a
     if MINUTES < minutes {
         return Going::Bad;
     }
-    Going::On(after, files::block_checked(part(file, 0, n), minutes as u32, page, at))
+    Going::On(
+        after,
+        files::block_checked(part(file, 0, n), minutes as u32, page, at),
+    )
 }
 
 pub fn day_case(buf: &mut [u8], c: Cursor, file: &mut [u8], page: &mut [u8], at: usize) -> Going {

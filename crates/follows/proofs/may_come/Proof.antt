@@ -1,9 +1,9 @@
--- `order::tests::may_come` meets its contract. Assumes nothing.
+-- `follows::may_come` meets its contract. Assumes nothing.
 use Rattle.format.specs.Order.{mayCome}
-use Rattle.order.proofs.Cases.{may}
+use Rattle.follows.proofs.Follows.{may}
 use borrow.Author.Needs.{needs}
-use Rattle.order.proofs.tests.may_come.Statement.{statement}
-use Rattle.order.proofs.tests.may_come.Tie as tie
+use Rattle.follows.proofs.may_come.Statement.{statement}
+use Rattle.follows.proofs.may_come.Tie as tie
 
 returns : tie.Need-returns
 unfolding mayCome

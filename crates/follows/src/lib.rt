@@ -1,4 +1,4 @@
-// Tests on numbers: what may come, an open cover, a 400's intervals, a read time's date, two marks.
+// What may follow, tested on numbers: what may come, an open cover, a 400's intervals, a read time's date, two marks.
 use format::Tag;
 use leaf::bytes::same_bytes;
 ghost use mathlib.Core.Path.{_≡_};
@@ -9,7 +9,7 @@ ghost use lib.Dec.{eqb, leb};
 ghost use Rattle.format.specs.Quality.{sameMark};
 ghost use Rattle.format.specs.Order.{between, inDay, mayCome};
 ghost use Rattle.format.specs.Faults.{onDay};
-ghost use Rattle.order.specs.State.{markOf, goesOn};
+ghost use Rattle.follows.specs.Follows.{markOf, goesOn};
 
 fn between(a: u64, b: u64, x: u64) -> bool
     ensures { λ r. ⌜ r ≡ between a b x ⌝ }
