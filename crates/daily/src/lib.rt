@@ -14,7 +14,7 @@ use page::texts::put;
 use phrase::counts::counted;
 use reading::check::check;
 use reading::read_day::read_day;
-use report::lines::say;
+use report::output::say;
 use report::refused::explain;
 use tables::days::headings;
 use tables::days::row;

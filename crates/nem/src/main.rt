@@ -8,7 +8,7 @@ use page::texts::part;
 use page::texts::put;
 use phrase::counts::quoted;
 use report::checks;
-use report::lines::complain;
+use report::output::complain;
 use report::totals;
 use words::lists::text_at;
 

@@ -1,5 +1,5 @@
 // nem check FILE
-use super::lines::say;
+use super::output::say;
 use super::refused::explain;
 use format::Checked;
 use page::texts::number;

@@ -1,5 +1,5 @@
 // What is said of a refusal: what it means, where it stands, and the record's line with a mark under the place.
-use super::lines::say;
+use super::output::say;
 use super::records::Record;
 use super::records::record_of;
 use format::Refusal;

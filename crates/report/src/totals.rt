@@ -1,5 +1,5 @@
 // nem totals FILE
-use super::lines::say;
+use super::output::say;
 use super::records::field;
 use super::refused::explain;
 use channel::Channel;
