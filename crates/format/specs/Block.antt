@@ -13,7 +13,7 @@ use Rattle.ground.specs.Digits.{padded, dec}
 use Rattle.ground.specs.Runs.{Run, run, runs}
 use Rattle.format.specs.Bytes.{fieldByte}
 use Rattle.format.specs.Texts.{isDescription}
-use Rattle.format.specs.Numbers.{intervalsOf, noReason}
+use Rattle.format.specs.Numbers.{isLength, intervalsOf, noReason}
 use Rattle.format.specs.Dates.{isDate, isTime}
 use Rattle.format.specs.Quality.{standsAlone, takesMethod, noMethod, Mark, noMark, sameMark}
 use Rattle.format.specs.Records.{agrees}
@@ -166,16 +166,23 @@ recordsOf d = cond (isUniform (d .marks)) 1 (1 + length (runsIn (d .marks)))
 
 -- ---- what the writer answers and leaves, where the room has so many bytes
 
+-- no list is shorter than n
+unfoldable pub enough : Given → Bool
+enough g =
+    enoughFor (intervalsGiven g) (length (g .values)) (length (g .flags)) (length (g .methods)) (length (g .reasons)) (length (g .starts)) (length (g .lengths))
+
+-- the refusal x unless the test holds
+abbrev pub unless : Bool → ℕ → Answer → Answer
+unless t x a = cond t a (refusal x)
+
+-- "interval length not 5, 15 or 30 (16); a list shorter than n (15); any other unfit part (16); room (15)"
 unfoldable pub writeOf : Given → ℕ → Answer
 writeOf g room =
-    cond (eqb (intervalsGiven g) 0) (refusal 16)
-    (cond (enoughFor (intervalsGiven g) (length (g .values)) (length (g .flags)) (length (g .methods)) (length (g .reasons)) (length (g .starts)) (length (g .lengths)))
-    (cond (fitGiven g)
-    (cond (leb (length (blockOf (dayGiven g))) room)
-    (accepted (length (blockOf (dayGiven g)) ∷ recordsOf (dayGiven g) ∷ []))
-    (refusal 15))
-    (refusal 16))
-    (refusal 15))
+    unless (isLength (g .head .length)) 16
+    (unless (enough g) 15
+    (unless (fitGiven g) 16
+    (unless (leb (length (blockOf (dayGiven g))) room) 15
+    (accepted (length (blockOf (dayGiven g)) ∷ recordsOf (dayGiven g) ∷ [])))))
 
 -- the block and the room behind it; on a refusal the room as it was
 abbrev pub leftBy : Answer → List ℕ → List ℕ → List ℕ
