@@ -2,7 +2,7 @@
 -- date and times meet the rules above, each value is below 10^13, each interval's quality, reason and description are ones that a single 400 may carry
 -- together, the rules across fields included, and each description lies inside the lent text (an empty one does, whatever its start). [..] Values are written
 -- without needless zeros. The answer gives the block's length and record count. Room behind the block keeps its bytes."
-use Prim.Native.Nat.{ℕ, zero, suc, _+_, _/_, _%_, _^_}
+use Prim.Native.Nat.{ℕ, _+_, _/_, _%_, _^_}
 use mathlib.Core.List.{List, [], _∷_, _++_}
 use mathlib.Core.Bool.{Bool, cond, _&&_, _||_}
 use lib.ListN.{length, take, drop, getD}
@@ -87,20 +87,16 @@ isInside g i = eqb (getD (g .lengths) i 0) 0 || leb (getD (g .starts) i 0 + getD
 unfoldable pub fitGiven : Given → Bool
 fitGiven g = all (isInside g) (from (λ i. i) 0 (intervalsGiven g)) && fitDay (dayGiven g)
 
--- ---- the texts of single fields, without needless zeros
+-- ---- the texts of single fields: "without needless zeros"
 
--- of p decimals that write f, how many are left when the zeros at the end go, and the number that those write
-unfoldable pub places : ℕ → ℕ → ℕ
-places zero f = 0
-places (suc p) f = cond (eqb (f % 10) 0) (places p (f / 10)) (suc p)
+-- digits without the zeros at their end
+unfoldable pub untrail : List ℕ → List ℕ
+untrail [] = []
+untrail (b ∷ s) = cond (all (eqb 48) (b ∷ s)) [] (b ∷ untrail s)
 
-unfoldable pub trimmed : ℕ → ℕ → ℕ
-trimmed zero f = f
-trimmed (suc p) f = cond (eqb (f % 10) 0) (trimmed p (f / 10)) f
-
--- the point and the decimals of f millionths, nothing where f is 0
+-- the point and the six decimals of f millionths without the zeros at their end, nothing where f is 0
 unfoldable pub fractionText : ℕ → List ℕ
-fractionText f = cond (eqb f 0) [] (46 ∷ padded (places 6 f) (trimmed 6 f))
+fractionText f = cond (eqb f 0) [] (46 ∷ untrail (padded 6 f))
 
 unfoldable pub valueText : ℕ → List ℕ
 valueText v = dec (v / 10 ^ 6) ++ fractionText (v % 10 ^ 6)
