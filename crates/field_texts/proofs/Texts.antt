@@ -10,10 +10,10 @@ use Rattle.ground.specs.Room.{Put}
 use Rattle.ground.proofs.Cases.{same-or}
 use Rattle.ground.proofs.Digits.{length-padded, length-dec}
 use Rattle.ground.proofs.Room.{put-nothing, put-then, put-as, put-kept}
-use Rattle.format.specs.Block.{places, valueText, qualityText, reasonText, loadText}
+use Rattle.format.specs.Block.{valueText, qualityText, reasonText, loadText}
 use Rattle.format.specs.Numbers.{noReason}
 use Rattle.format.specs.Quality.{noMethod}
-use Rattle.format.proofs.ValueText.{fraction-none, fraction-some, length-plain, length-point}
+use Rattle.format.proofs.ValueText.{trimmed, fraction-none, fraction-some, length-plain, length-point}
 use Rattle.format.proofs.MarkText.{quality-alone, quality-graded}
 use Rattle.field_texts.specs.Trims.{Trims}
 
@@ -96,8 +96,12 @@ module _ (v : ℕ) where
   pub value-plain : {w : ℕ} → v % 1000000 ≡ 0 → w ≡ width (v / 1000000) → w ≡ length (valueText v)
   value-plain e q = omega (arith, length-plain v e, length-dec (v / 1000000))
 
+  -- how many decimals are left
+  trimmed-long : {p m : ℕ} → Trims (v % 1000000) p m → length (trimmed (v % 1000000)) ≡ p
+  trimmed-long {p} {m} t = sym (ap length (t .left)) ∙ length-padded p m
+
   pub value-point : {w p m : ℕ} → (v % 1000000 ≡ 0 → ⊥) → w ≡ width (v / 1000000) → Trims (v % 1000000) p m → w + 1 + p ≡ length (valueText v)
-  value-point e q t = omega (arith, length-point v e, length-dec (v / 1000000), t .left)
+  value-point e q t = omega (arith, length-point v e, length-dec (v / 1000000), trimmed-long t)
 
   pub whole-room : (at k : ℕ) → at + length (valueText v) ≤ k → at + length (dec (v / 1000000)) ≤ k
   whole-room at k h = same-or (v % 1000000) 0 (λ e. omega (arith, length-plain v e)) (λ e. omega (arith, length-point v e))
@@ -111,11 +115,10 @@ module _ (v : ℕ) where
     point-room h = omega (arith, length-point v e, put-kept p, p .behind)
 
     pub fraction-room : {o : List ℕ} {d k m : ℕ} → at + length (valueText v) ≤ length l → Put n i (46 ∷ []) d o → Trims (v % 1000000) k m → d + k ≤ length o
-    fraction-room h r t = omega (arith, length-point v e, put-kept p, p .behind, put-kept r, r .behind, t .left)
+    fraction-room h r t = omega (arith, length-point v e, put-kept p, p .behind, put-kept r, r .behind, trimmed-long t)
 
     pub put-point : {o x : List ℕ} {d j k m : ℕ} → Put n i (46 ∷ []) d o → Trims (v % 1000000) k m → Put o d (padded k m) j x → Put l at (valueText v) j x
     unfolding valueText
-    put-point {k = k} {m = m} r t s =
+    put-point r t s =
         put-as (put-then p (put-then r s))
-        (ap (λ (z : List ℕ). dec (v / 1000000) ++ z)
-        (ap (λ (z : ℕ). 46 ∷ padded z m) (t .left) ∙ ap (λ (z : ℕ). 46 ∷ padded (places 6 (v % 1000000)) z) (t .number) ∙ sym (fraction-some (v % 1000000) e)))
+        (ap (λ (z : List ℕ). dec (v / 1000000) ++ z) (ap (λ (z : List ℕ). 46 ∷ z) (t .left) ∙ sym (fraction-some (v % 1000000) e)))

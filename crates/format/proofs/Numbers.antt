@@ -1,7 +1,8 @@
 -- Numbers: the cases of `numberOf`, `smallOf`, `valueOf` and `isRead` as the code meets them, and what a number that was read says of its bytes.
 -- Assumes nothing.
 use mathlib.Core.Path.{_≡_, refl, sym, ap, _∙_}
-use mathlib.Core.Bool.{Bool, true, false, cond, false≢true}
+use mathlib.Core.Bool.{Bool, true, false, cond, not, false≢true, true≢false}
+use mathlib.Core.Logic.{_≢_}
 use mathlib.Core.List.{List}
 use Prim.Native.Nat.{ℕ, _+_, _-_, _*_, _^_, _≤_, _<_, min}
 use native.Mathlib.Nat.{mul-lt-mul-of-pos-right, one-le-pow}
@@ -234,3 +235,14 @@ intervals-most m =
     same-or m 5 (λ e. rw e (omega arith))
     (λ a. same-or m 15 (λ e. rw e (omega arith))
     (λ b. same-or m 30 (λ e. rw e (omega arith)) (λ c. rw (ne-eqb m 5 a, ne-eqb m 15 b, ne-eqb m 30 c) (omega arith))))
+
+-- n is 0 for an interval length that is none, and for no other
+pub intervals-known : (m : ℕ) → isLength m ≡ not (eqb (intervalsOf m) 0)
+unfolding intervalsOf isLength
+intervals-known m =
+    same-or m 5 (λ e. rw e)
+    (λ a. same-or m 15 (λ e. rw e)
+    (λ b. same-or m 30 (λ e. rw e) (λ c. rw (ne-eqb m 5 a, ne-eqb m 15 b, ne-eqb m 30 c))))
+
+pub intervals-some : (m : ℕ) → isLength m ≡ true → intervalsOf m ≢ 0
+intervals-some m h z = true≢false (sym h ∙ intervals-known m ∙ rw z)

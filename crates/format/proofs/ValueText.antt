@@ -1,74 +1,113 @@
 -- The text of a value: a reader holds the value by it, and no text that holds the value is shorter. Assumes nothing.
 use Prim.Native.Nat.{ℕ, zero, suc, _+_, _-_, _*_, _/_, _%_, _^_, _≤_, _<_, zero-le}
-use mathlib.Core.Path.{_≡_, refl, sym, ap, _∙_, subst}
-use mathlib.Core.Bool.{true}
+use mathlib.Core.Path.{_≡_, refl, sym, ap, _∙_}
+use mathlib.Core.Bool.{Bool, true, false}
 use mathlib.Core.Logic.{_≢_}
 use mathlib.Core.List.{List, [], _∷_, _++_, append-nil}
-use native.Mathlib.Nat.{pow-zero, sub-self}
+use native.Mathlib.Nat.{pow-zero, sub-zero, suc-sub-suc}
 use native.Mathlib.Omega.{arith}
 use lib.ListN.{length, take, drop, length-append, length-drop}
 use lib.Seq.{length-take-le, take-append-seam, drop-append-add}
 use lib.Dec.{eqb}
-use borrow.Author.Tests.{eq-eqb, ne-eqb, eqb-false}
+use borrow.Author.Tests.{eq-eqb, ne-eqb, eqb-true, eqb-false}
 use Rattle.ground.specs.Lists.{all, spanOf, other}
-use Rattle.ground.specs.Digits.{isDigit, padded, dec}
-use Rattle.ground.proofs.Tests.{and-true}
-use Rattle.ground.proofs.Cases.{split, same-or, by}
+use Rattle.ground.specs.Digits.{isDigit, decimalFrom, decimal, padded, dec}
+use Rattle.ground.proofs.Tests.{and-true, and-false}
+use Rattle.ground.proofs.Cases.{same-or, by, both}
 use Rattle.ground.proofs.Spans.{span-le}
-use Rattle.ground.proofs.Digits.{digit-not, ten, length-padded, all-padded, decimal-padded, all-dec, decimal-dec, dec-some, dec-most}
+use Rattle.ground.proofs.Digits.{digit-not, ten, length-padded, all-padded, padded-step, decimal-padded, all-dec, decimal-dec, dec-some, dec-most}
 use Rattle.format.specs.Numbers.{numberOf, times, amount, point, before, behind, decimals, fractionOf, valueOf}
-use Rattle.format.specs.Block.{places, trimmed, fractionText, valueText}
+use Rattle.format.specs.Block.{untrail, fractionText, valueText}
 use Rattle.format.proofs.Numbers.{under-is, Got, got, fraction-under}
 use Rattle.format.proofs.NumberText.{digits-are, got-least}
 use Rattle.format.specs.declared.Number.{Number}
 use Rattle.format.specs.declared.Number.the-variants.{Is, Bad}
 
--- ---- decimals without the zeros at their end
+-- ---- digits without the zeros at their end
 
-pub places-le : (p f : ℕ) → places p f ≤ p
-unfolding places
-places-le zero f = omega arith
-places-le (suc p) f =
-    same-or (f % 10) 0
-    (λ e. rw (eq-eqb (f % 10) 0 e) (omega (arith, places-le p (f / 10))))
-    (λ e. rw (ne-eqb (f % 10) 0 e) (omega arith))
+-- one digit more: a zero goes, any other stays
+zero-last : (s : List ℕ) → all (eqb 48) (s ++ 48 ∷ []) ≡ all (eqb 48) s
+zero-last [] = refl
+zero-last (b ∷ s) = rw (zero-last s)
 
-pub trimmed-lt : (p f : ℕ) → f < 10 ^ p → trimmed p f < 10 ^ places p f
-unfolding places trimmed
-trimmed-lt zero f h = h
-trimmed-lt (suc p) f h =
-    same-or (f % 10) 0
-    (λ e. rw (eq-eqb (f % 10) 0 e) (trimmed-lt p (f / 10) (let h′ : f < 10 ^ p * 10 = rw (ten p) at h in omega arith)))
-    (λ e. rw (ne-eqb (f % 10) 0 e) h)
+pub untrail-zero : (s : List ℕ) → untrail (s ++ 48 ∷ []) ≡ untrail s
+unfolding untrail
+untrail-zero [] = refl
+untrail-zero (b ∷ s) = rw (zero-last s, untrail-zero s)
 
-pub trimmed-eq : (p f : ℕ) → trimmed p f * 10 ^ (p - places p f) ≡ f
-unfolding places trimmed
-trimmed-eq zero f = omega (arith, pow-zero 10)
-trimmed-eq (suc p) f =
-    same-or (f % 10) 0
-    (λ e. rw (eq-eqb (f % 10) 0 e) (let s : suc p - places p (f / 10) ≡ suc (p - places p (f / 10)) = omega (arith, places-le p (f / 10)) in rw (s, ten (p - places p (f / 10))) (omega (arith, trimmed-eq p (f / 10)))))
-    (λ e. rw (ne-eqb (f % 10) 0 e, sub-self (suc p)) (omega (arith, pow-zero 10)))
+other-last : (s : List ℕ) (x : ℕ) → 48 ≢ x → all (eqb 48) (s ++ x ∷ []) ≡ false
+other-last [] x h = rw (ne-eqb 48 x h)
+other-last (b ∷ s) x h = rw (other-last s x h) (and-false (eqb 48 b))
 
--- fewer decimals do not write the same
-pub places-least : (p f k m : ℕ) → k ≤ p → f ≡ m * 10 ^ (p - k) → places p f ≤ k
-unfolding places
-places-least zero f k m h e = zero-le
-places-least (suc p) f k m h e =
-    split k p
-    (λ l. let s : suc p - k ≡ suc (p - k) = omega arith in
-    let e′ : f ≡ m * (10 ^ (p - k) * 10) = rw (s, ten (p - k)) at e in
-    let z : f % 10 ≡ 0 = omega arith in
-    rw (eq-eqb (f % 10) 0 z) (places-least p (f / 10) k m l (omega arith)))
-    (λ l. omega (arith, places-le (suc p) f))
+pub untrail-other : (s : List ℕ) (x : ℕ) → 48 ≢ x → untrail (s ++ x ∷ []) ≡ s ++ x ∷ []
+unfolding untrail
+untrail-other [] x h = rw (ne-eqb 48 x h)
+untrail-other (b ∷ s) x h = rw (other-last s x h, and-false (eqb 48 b), untrail-other s x h)
+
+untrail-le : (s : List ℕ) → length (untrail s) ≤ length s
+unfolding untrail
+untrail-le [] = zero-le
+untrail-le (b ∷ s) = by (all (eqb 48) (b ∷ s)) (λ e. rw e zero-le) (λ e. rw e (omega (arith, untrail-le s)))
+
+pub all-untrail : (p : ℕ → Bool) (s : List ℕ) → all p s ≡ true → all p (untrail s) ≡ true
+unfolding untrail
+all-untrail p [] h = refl
+all-untrail p (b ∷ s) h =
+    let g = and-true (p b) (all p s) h in
+    by (all (eqb 48) (b ∷ s)) (λ e. rw e) (λ e. rw e (both (p b) (all p (untrail s)) (g .0) (all-untrail p s (g .1))))
+
+-- what they write
+zeros-write : (v : ℕ) (s : List ℕ) → all (eqb 48) s ≡ true → v * 10 ^ length s ≡ decimalFrom v s
+zeros-write v [] h = omega (arith, pow-zero 10)
+zeros-write v (b ∷ s) h =
+    let g = and-true (eqb 48 b) (all (eqb 48) s) h in
+    let z : v * 10 + (b - 48) ≡ v * 10 = omega (arith, eqb-true 48 b (g .0)) in
+    rw (z, ten (length s)) (omega (arith, zeros-write (v * 10) s (g .1)))
+
+untrail-writes : (v : ℕ) (s : List ℕ) → decimalFrom v (untrail s) * 10 ^ (length s - length (untrail s)) ≡ decimalFrom v s
+unfolding untrail
+untrail-writes v [] = omega (arith, pow-zero 10)
+untrail-writes v (b ∷ s) =
+    by (all (eqb 48) (b ∷ s)) (λ e. rw (e, sub-zero) (zeros-write v (b ∷ s) e)) (λ e. rw (e, suc-sub-suc) (untrail-writes (v * 10 + (b - 48)) s))
+
+-- and no digits that write the same are fewer: those of m behind which j zeros stand
+untrail-shift : (k m j : ℕ) → untrail (padded (k + j) (m * 10 ^ j)) ≡ untrail (padded k m)
+untrail-shift k m zero = let a : k + 0 ≡ k = omega arith in let b : m * 10 ^ 0 ≡ m = omega (arith, pow-zero 10) in rw (a, b)
+untrail-shift k m (suc j) =
+    let f : ℕ = m * 10 ^ suc j in
+    let e : f ≡ m * (10 ^ j * 10) = rw (ten j) in
+    let a : k + suc j - 1 ≡ k + j = omega arith in
+    let b : f / 10 ≡ m * 10 ^ j = omega arith in
+    let c : 48 + f % 10 ≡ 48 = omega arith in
+    rw (padded-step (k + suc j) f (omega arith), a, b, c, untrail-zero) (untrail-shift k m j)
+
+-- ---- the six decimals of a fraction
+
+-- without the zeros at their end
+abbrev pub trimmed : ℕ → List ℕ
+trimmed f = untrail (padded 6 f)
+
+trimmed-le : (f : ℕ) → length (trimmed f) ≤ 6
+trimmed-le f = omega (arith, untrail-le (padded 6 f), length-padded 6 f)
+
+trimmed-writes : (f : ℕ) → f < 10 ^ 6 → decimal (trimmed f) * 10 ^ (6 - length (trimmed f)) ≡ f
+trimmed-writes f h =
+    let e : decimal (trimmed f) * 10 ^ (length (padded 6 f) - length (trimmed f)) ≡ decimal (padded 6 f) = untrail-writes 0 (padded 6 f) in
+    (rw (length-padded 6 f) at e) ∙ decimal-padded 6 f h
+
+trimmed-least : (k m : ℕ) → k ≤ 6 → length (trimmed (m * 10 ^ (6 - k))) ≤ k
+trimmed-least k m h =
+    let s : k + (6 - k) ≡ 6 = omega arith in
+    let e : trimmed (m * 10 ^ (6 - k)) ≡ untrail (padded k m) = (rw s at (untrail-shift k m (6 - k))) in
+    rw e (omega (arith, untrail-le (padded k m), length-padded k m))
 
 -- a number that is not 0 has a decimal left
-pub places-pos : (p f : ℕ) → f < 10 ^ p → f ≢ 0 → 1 ≤ places p f
-places-pos p f h e =
-    same-or (places p f) 0
-    (λ z. let c : trimmed p f < 10 ^ 0 = subst (λ (k : ℕ). trimmed p f < 10 ^ k) z (trimmed-lt p f h) in
-    let c0 : trimmed p f ≡ 0 = omega arith in
-    absurd (e (sym (trimmed-eq p f) ∙ rw c0 (omega arith))))
-    (λ z. omega arith)
+trimmed-some : (f : ℕ) → f < 10 ^ 6 → f ≢ 0 → 1 ≤ length (trimmed f)
+trimmed-some f h n = some (trimmed f) (trimmed-writes f h)
+  where
+    some : (s : List ℕ) → decimal s * 10 ^ (6 - length s) ≡ f → 1 ≤ length s
+    some [] e = absurd (n (sym e))
+    some (b ∷ s) e = omega arith
 
 -- ---- the fraction's text
 
@@ -76,7 +115,7 @@ pub fraction-none : (f : ℕ) → f ≡ 0 → fractionText f ≡ []
 unfolding fractionText
 fraction-none f e = rw (eq-eqb f 0 e)
 
-pub fraction-some : (f : ℕ) → f ≢ 0 → fractionText f ≡ 46 ∷ padded (places 6 f) (trimmed 6 f)
+pub fraction-some : (f : ℕ) → f ≢ 0 → fractionText f ≡ 46 ∷ trimmed f
 unfolding fractionText
 fraction-some f e = rw (ne-eqb f 0 e)
 
@@ -107,17 +146,15 @@ value-back v h =
     let p : point ds ≡ length ds = ap point (sym (append-nil ds)) ∙ point-behind ds [] a ∙ omega arith in
     rw (fraction-none f e, append-nil, eq-eqb (point ds) (length ds) p, n) (ap Is (omega arith)))
     (λ e.
-    let q : ℕ = places 6 f in
-    let m : ℕ = trimmed 6 f in
-    let fs : List ℕ = padded q m in
+    let fs : List ℕ = trimmed f in
     let s : List ℕ = ds ++ 46 ∷ fs in
     let fl : f < 10 ^ 6 = omega arith in
     let p : point s ≡ length ds = point-behind ds (46 ∷ fs) a ∙ omega arith in
     let g : point s ≢ length s = λ r. omega (arith, length-append ds (46 ∷ fs)) in
     let b : before s ≡ ds = ap (λ (k : ℕ). take k s) p ∙ take-append-seam ds (46 ∷ fs) in
     let c : behind s ≡ fs = ap (λ (k : ℕ). drop (k + 1) s) p ∙ drop-append-add ds (46 ∷ fs) 1 in
-    let i : numberOf 1 6 fs ≡ Is m = digits-are 1 6 fs (rw (length-padded q m) (places-pos 6 f fl e)) (rw (length-padded q m) (places-le 6 f)) (all-padded q m) ∙ ap Is (decimal-padded q m (trimmed-lt 6 f fl)) in
-    rw (fraction-some f e, ne-eqb (point s) (length s) g, b, c, n, i, length-padded q m, trimmed-eq 6 f) (ap Is (omega arith)))
+    let i : numberOf 1 6 fs ≡ Is (decimal fs) = digits-are 1 6 fs (trimmed-some f fl e) (trimmed-le f) (all-untrail isDigit (padded 6 f) (all-padded 6 f)) in
+    rw (fraction-some f e, ne-eqb (point s) (length s) g, b, c, n, i, trimmed-writes f fl) (ap Is (omega arith)))
 
 -- ---- and no text that holds it is shorter
 
@@ -127,7 +164,7 @@ fraction-least s m g =
     let f : ℕ = m * 10 ^ (6 - length s) in
     same-or f 0
     (λ e. rw (fraction-none f e) zero-le)
-    (λ e. rw (fraction-some f e) (omega (arith, length-padded (places 6 f) (trimmed 6 f), places-least 6 f (length s) m (g .high) refl)))
+    (λ e. rw (fraction-some f e) (omega (arith, trimmed-least (length s) m (g .high))))
 
 -- the text of whole units and millionths
 length-value : (v w f : ℕ) → v ≡ w * 10 ^ 6 + f → f < 10 ^ 6 → length (valueText v) ≡ length (dec w) + length (fractionText f)
@@ -170,13 +207,12 @@ value-shortest s v e = by (eqb (point s) (length s)) (λ t. plain-case (numberOf
 pub length-plain : (v : ℕ) → v % 10 ^ 6 ≡ 0 → length (valueText v) ≡ length (dec (v / 10 ^ 6))
 length-plain v e = omega (arith, length-value v (v / 10 ^ 6) (v % 10 ^ 6) (omega arith) (omega arith), ap length (fraction-none (v % 10 ^ 6) e))
 
-pub length-point : (v : ℕ) → v % 10 ^ 6 ≢ 0 → length (valueText v) ≡ length (dec (v / 10 ^ 6)) + 1 + places 6 (v % 10 ^ 6)
-length-point v e =
-    omega (arith, length-value v (v / 10 ^ 6) (v % 10 ^ 6) (omega arith) (omega arith), ap length (fraction-some (v % 10 ^ 6) e), length-padded (places 6 (v % 10 ^ 6)) (trimmed 6 (v % 10 ^ 6)))
+pub length-point : (v : ℕ) → v % 10 ^ 6 ≢ 0 → length (valueText v) ≡ length (dec (v / 10 ^ 6)) + 1 + length (trimmed (v % 10 ^ 6))
+length-point v e = omega (arith, length-value v (v / 10 ^ 6) (v % 10 ^ 6) (omega arith) (omega arith), ap length (fraction-some (v % 10 ^ 6) e))
+
+-- a point and six decimals at most, behind the whole units
+pub length-most : (v : ℕ) → length (valueText v) ≤ length (dec (v / 10 ^ 6)) + 7
+length-most v = same-or (v % 10 ^ 6) 0 (λ e. omega (arith, length-plain v e)) (λ e. omega (arith, length-point v e, trimmed-le (v % 10 ^ 6)))
 
 pub value-most : (v : ℕ) → v < 10 ^ 13 → length (valueText v) ≤ 14
-value-most v h =
-    let w : length (dec (v / 10 ^ 6)) ≤ 7 = dec-most (v / 10 ^ 6) 7 (omega arith) (omega arith) in
-    same-or (v % 10 ^ 6) 0
-    (λ e. omega (arith, length-plain v e))
-    (λ e. omega (arith, length-point v e, places-le 6 (v % 10 ^ 6)))
+value-most v h = omega (arith, length-most v, dec-most (v / 10 ^ 6) 7 (omega arith) (omega arith))

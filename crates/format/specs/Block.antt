@@ -2,7 +2,7 @@
 -- date and times meet the rules above, each value is below 10^13, each interval's quality, reason and description are ones that a single 400 may carry
 -- together, the rules across fields included, and each description lies inside the lent text (an empty one does, whatever its start). [..] Values are written
 -- without needless zeros. The answer gives the block's length and record count. Room behind the block keeps its bytes."
-use Prim.Native.Nat.{ℕ, zero, suc, _+_, _/_, _%_, _^_}
+use Prim.Native.Nat.{ℕ, _+_, _/_, _%_, _^_}
 use mathlib.Core.List.{List, [], _∷_, _++_}
 use mathlib.Core.Bool.{Bool, cond, _&&_, _||_}
 use lib.ListN.{length, take, drop, getD}
@@ -13,7 +13,7 @@ use Rattle.ground.specs.Digits.{padded, dec}
 use Rattle.ground.specs.Runs.{Run, run, runs}
 use Rattle.format.specs.Bytes.{fieldByte}
 use Rattle.format.specs.Texts.{isDescription}
-use Rattle.format.specs.Numbers.{intervalsOf, noReason}
+use Rattle.format.specs.Numbers.{isLength, intervalsOf, noReason}
 use Rattle.format.specs.Dates.{isDate, isTime}
 use Rattle.format.specs.Quality.{standsAlone, takesMethod, noMethod, Mark, noMark, sameMark}
 use Rattle.format.specs.Records.{agrees}
@@ -87,20 +87,16 @@ isInside g i = eqb (getD (g .lengths) i 0) 0 || leb (getD (g .starts) i 0 + getD
 unfoldable pub fitGiven : Given → Bool
 fitGiven g = all (isInside g) (from (λ i. i) 0 (intervalsGiven g)) && fitDay (dayGiven g)
 
--- ---- the texts of single fields, without needless zeros
+-- ---- the texts of single fields: "without needless zeros"
 
--- of p decimals that write f, how many are left when the zeros at the end go, and the number that those write
-unfoldable pub places : ℕ → ℕ → ℕ
-places zero f = 0
-places (suc p) f = cond (eqb (f % 10) 0) (places p (f / 10)) (suc p)
+-- digits without the zeros at their end
+unfoldable pub untrail : List ℕ → List ℕ
+untrail [] = []
+untrail (b ∷ s) = cond (all (eqb 48) (b ∷ s)) [] (b ∷ untrail s)
 
-unfoldable pub trimmed : ℕ → ℕ → ℕ
-trimmed zero f = f
-trimmed (suc p) f = cond (eqb (f % 10) 0) (trimmed p (f / 10)) f
-
--- the point and the decimals of f millionths, nothing where f is 0
+-- the point and the six decimals of f millionths without the zeros at their end, nothing where f is 0
 unfoldable pub fractionText : ℕ → List ℕ
-fractionText f = cond (eqb f 0) [] (46 ∷ padded (places 6 f) (trimmed 6 f))
+fractionText f = cond (eqb f 0) [] (46 ∷ untrail (padded 6 f))
 
 unfoldable pub valueText : ℕ → List ℕ
 valueText v = dec (v / 10 ^ 6) ++ fractionText (v % 10 ^ 6)
@@ -166,16 +162,23 @@ recordsOf d = cond (isUniform (d .marks)) 1 (1 + length (runsIn (d .marks)))
 
 -- ---- what the writer answers and leaves, where the room has so many bytes
 
+-- no list is shorter than n
+unfoldable pub enough : Given → Bool
+enough g =
+    enoughFor (intervalsGiven g) (length (g .values)) (length (g .flags)) (length (g .methods)) (length (g .reasons)) (length (g .starts)) (length (g .lengths))
+
+-- the refusal x unless the test holds
+abbrev pub unless : Bool → ℕ → Answer → Answer
+unless t x a = cond t a (refusal x)
+
+-- "interval length not 5, 15 or 30 (16); a list shorter than n (15); any other unfit part (16); room (15)"
 unfoldable pub writeOf : Given → ℕ → Answer
 writeOf g room =
-    cond (eqb (intervalsGiven g) 0) (refusal 16)
-    (cond (enoughFor (intervalsGiven g) (length (g .values)) (length (g .flags)) (length (g .methods)) (length (g .reasons)) (length (g .starts)) (length (g .lengths)))
-    (cond (fitGiven g)
-    (cond (leb (length (blockOf (dayGiven g))) room)
-    (accepted (length (blockOf (dayGiven g)) ∷ recordsOf (dayGiven g) ∷ []))
-    (refusal 15))
-    (refusal 16))
-    (refusal 15))
+    unless (isLength (g .head .length)) 16
+    (unless (enough g) 15
+    (unless (fitGiven g) 16
+    (unless (leb (length (blockOf (dayGiven g))) room) 15
+    (accepted (length (blockOf (dayGiven g)) ∷ recordsOf (dayGiven g) ∷ [])))))
 
 -- the block and the room behind it; on a refusal the room as it was
 abbrev pub leftBy : Answer → List ℕ → List ℕ → List ℕ

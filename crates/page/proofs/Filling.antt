@@ -12,7 +12,7 @@ use Rattle.ground.proofs.Cases.{split, same-or}
 use Rattle.ground.proofs.Digits.{length-dec, width-most}
 use Rattle.ground.proofs.Room.{put-nothing, put-then, put-as, put-kept, sets-front}
 use Rattle.format.specs.Block.{valueText}
-use Rattle.format.proofs.ValueText.{places-le, length-plain, length-point}
+use Rattle.format.proofs.ValueText.{length-most}
 use Rattle.page.specs.Filled.{Filled}
 
 module _ (page text : List ℕ) (at : ℕ) where
@@ -82,7 +82,4 @@ pub dec-room : (n : ℕ) → 0 + length (dec n) ≤ 20
 dec-room n = omega (arith, length-dec n, width-most n)
 
 pub value-room : (v : ℕ) → 0 + length (valueText v) ≤ 27
-value-room v =
-    same-or (v % 10 ^ 6) 0
-    (λ e. omega (arith, length-plain v e, dec-room (v / 10 ^ 6)))
-    (λ e. omega (arith, length-point v e, dec-room (v / 10 ^ 6), places-le 6 (v % 10 ^ 6)))
+value-room v = omega (arith, length-most v, dec-room (v / 10 ^ 6))

@@ -12,8 +12,8 @@ use Rattle.ground.specs.Lists.{all, from}
 use Rattle.ground.proofs.Tests.{and-true}
 use Rattle.ground.proofs.From.{length-from}
 use Rattle.format.specs.Day.{enoughFor}
-use Rattle.format.specs.Block.{Given, intervalsGiven, markGiven, dayGiven, isInside, fitGiven, fitDay}
-use Rattle.format.proofs.Numbers.{intervals-most}
+use Rattle.format.specs.Block.{Given, intervalsGiven, markGiven, dayGiven, isInside, fitGiven, fitDay, enough}
+use Rattle.format.proofs.Numbers.{intervals-most, intervals-some}
 use Rattle.shortest.specs.Writer.{Writable}
 use Rattle.shortest.proofs.Back.{Whole}
 
@@ -27,10 +27,10 @@ enough-values n v f m r s l h =
     leb-true n v (and-true (leb n v) (leb n f) (d .0) .0)
 
 pub whole : (g : Given) → Writable g → Whole (dayGiven g)
-unfolding dayGiven intervalsGiven fitGiven
+unfolding dayGiven intervalsGiven enough fitGiven
 whole g w =
     let n : ℕ = intervalsGiven g in
-    let z : n ≢ 0 = w .length-known in
+    let z : n ≢ 0 = intervals-some (g .head .length) (w .length-known) in
     record {
       fit = and-true (all (isInside g) (from (λ i. i) 0 n)) (fitDay (dayGiven g)) (w .fit) .1;
       values = length-take-le n (g .values) (enough-values n _ _ _ _ _ _ (w .lists-long));

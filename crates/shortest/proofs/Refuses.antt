@@ -2,17 +2,19 @@
 -- room, no accepted block would say in that room. Assumes nothing.
 use Prim.Native.Nat.{ℕ, _≤_, _<_}
 use mathlib.Core.Path.{_≡_, sym, ap, _∙_}
-use mathlib.Core.Logic.{_≢_, _↔_}
+use mathlib.Core.Logic.{_↔_}
 use mathlib.Core.Bool.{true, false, true≢false}
 use mathlib.Core.List.{List, [], _∷_}
 use native.Mathlib.Omega.{arith}
 use lib.ListN.{length}
-use lib.Dec.{eqb, leb}
-use borrow.Author.Tests.{eqb-true, eqb-false, ne-eqb, le-leb, leb-true, leb-false}
+use lib.Dec.{leb}
+use borrow.Author.Tests.{le-leb, leb-true, leb-false}
 use Rattle.ground.proofs.Cases.{by}
+use Rattle.format.specs.Numbers.{isLength}
 use Rattle.format.specs.Answers.{Answer, accepted, refused, refusal}
-use Rattle.format.specs.Block.{Given, intervalsGiven, dayGiven, fitDay, fitGiven, blockOf, recordsOf, writeOf}
-use Rattle.shortest.specs.Writer.{enough, inside, Writable, Because, length-unknown, list-short, outside, unsayable, no-room}
+use Rattle.format.specs.Block.{Given, intervalsGiven, dayGiven, fitDay, fitGiven, blockOf, recordsOf, enough, writeOf}
+use Rattle.format.proofs.Numbers.{intervals-some}
+use Rattle.shortest.specs.Writer.{inside, Writable, Because, length-unknown, list-short, outside, unsayable, no-room}
 use Rattle.shortest.proofs.Least.{no-longer}
 use Rattle.shortest.proofs.Said.{fit-said}
 
@@ -22,27 +24,28 @@ module _ (g : Given) (room : ℕ) where
 
   writes : Writable g → length (blockOf (dayGiven g)) ≤ room → writeOf g room ≡ done
   unfolding writeOf
-  writes w h = rw (ne-eqb _ _ (w .length-known), w .lists-long, w .fit, le-leb _ _ h)
+  writes w h = rw (w .length-known, w .lists-long, w .fit, le-leb _ _ h)
 
   -- the four tests, in their order
   data Outcome (x : Answer) : Type 0 where
-    unknown : x ≡ refusal 16 → intervalsGiven g ≡ 0 → Outcome x
+    unknown : x ≡ refusal 16 → isLength (g .head .length) ≡ false → Outcome x
     short : x ≡ refusal 15 → enough g ≡ false → Outcome x
     unfit : x ≡ refusal 16 → fitGiven g ≡ false → Outcome x
-    small : x ≡ refusal 15 → intervalsGiven g ≢ 0 → room < length (blockOf (dayGiven g)) → Outcome x
+    small : x ≡ refusal 15 → isLength (g .head .length) ≡ true → room < length (blockOf (dayGiven g)) → Outcome x
     written : x ≡ done → Writable g → length (blockOf (dayGiven g)) ≤ room → Outcome x
 
   outcome : Outcome (writeOf g room)
   unfolding writeOf
   outcome =
-      by (eqb (intervalsGiven g) 0) (λ e. unknown (rw e) (eqb-true _ _ e))
-      λ e. by (enough g)
+      by (isLength (g .head .length))
+      (λ e. by (enough g)
       (λ l. by (fitGiven g)
       (λ f. by (leb (length (blockOf (dayGiven g))) room)
-      (λ r. written (rw (e, l, f, r)) (record { length-known = eqb-false _ _ e; lists-long = l; fit = f }) (leb-true _ _ r))
-      (λ r. small (rw (e, l, f, r)) (eqb-false _ _ e) (leb-false _ _ r)))
+      (λ r. written (rw (e, l, f, r)) (record { length-known = e; lists-long = l; fit = f }) (leb-true _ _ r))
+      (λ r. small (rw (e, l, f, r)) e (leb-false _ _ r)))
       (λ f. unfit (rw (e, l, f)) f))
-      (λ l. short (rw (e, l)) l)
+      (λ l. short (rw (e, l)) l))
+      (λ e. unknown (rw e) e)
 
   pub writes-exactly : (xs : List ℕ) → (writeOf g room ≡ accepted xs)
       ↔ (Writable g × (length (blockOf (dayGiven g)) ≤ room) × (xs ≡ length (blockOf (dayGiven g)) ∷ recordsOf (dayGiven g) ∷ []))
@@ -71,7 +74,7 @@ module _ (g : Given) (room : ℕ) where
       (λ i. outside n i)
 
   pub refuses-only : (x p k i : ℕ) → writeOf g room ≡ refused x p k i → Because g room x
-  unfolding dayGiven
+  unfolding dayGiven intervalsGiven
   refuses-only x p k i e = why outcome e
     where
       number : (a : Answer) (n : ℕ) → a ≡ refusal n → a ≡ refused x p k i → x ≡ n
@@ -81,5 +84,5 @@ module _ (g : Given) (room : ℕ) where
       why (unknown q z) e = length-unknown (number (writeOf g room) 16 q e) z
       why (short q z) e = list-short (number (writeOf g room) 15 q e) z
       why (unfit q z) e = why-unfit z x (number (writeOf g room) 16 q e)
-      why (small q z l) e = no-room (number (writeOf g room) 15 q e) (λ b h. omega (arith, no-longer (dayGiven g) z b h .bytes))
+      why (small q z l) e = no-room (number (writeOf g room) 15 q e) (λ b h. omega (arith, no-longer (dayGiven g) (intervals-some _ z) b h .bytes))
       why (written q w l) e = absurd (let z : true ≡ false = cc in true≢false z)

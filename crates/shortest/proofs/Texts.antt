@@ -16,9 +16,9 @@ use Rattle.format.specs.Texts.{isDescription}
 use Rattle.format.specs.Numbers.{reasonOf, noReason}
 use Rattle.format.specs.Quality.{standsAlone, takesMethod, noMethod, qualityOf, needsReason, across, Mark}
 use Rattle.format.specs.Records.{agrees}
-use Rattle.format.specs.Block.{fitQuality, fitReason, fitMark, places, trimmed, fractionText, valueText, qualityText, reasonText, loadText}
+use Rattle.format.specs.Block.{fitQuality, fitReason, fitMark, fractionText, valueText, qualityText, reasonText, loadText}
 use Rattle.format.proofs.NumberText.{reason-back}
-use Rattle.format.proofs.ValueText.{fraction-none, fraction-some}
+use Rattle.format.proofs.ValueText.{all-untrail, fraction-none, fraction-some}
 use Rattle.format.proofs.MarkText.{alone-is, quality-alone, quality-graded, quality-back}
 use Rattle.shortest.proofs.Shapes.{Marking, said}
 
@@ -49,7 +49,7 @@ unfolding fieldByte
 fraction-bytes f =
     same-or f 0
     (λ e. rw (fraction-none f e))
-    (λ e. rw (fraction-some f e) (padded-bytes (places 6 f) (trimmed 6 f)))
+    (λ e. rw (fraction-some f e) (all-untrail fieldByte (padded 6 f) (padded-bytes 6 f)))
 
 pub value-bytes : (v : ℕ) → Bytes (valueText v)
 unfolding valueText

@@ -1,15 +1,18 @@
 -- The theorems of the block that is written for what was handed in: it reads back, and none is shorter. Assumes nothing.
 use Prim.Native.Nat.{ℕ, _+_, _≤_}
 use mathlib.Core.Path.{_≡_, refl, sym, ap, _∙_, subst}
+use mathlib.Core.Logic.{_≢_}
 use mathlib.Core.List.{List, [], _∷_, _++_}
 use lib.ListN.{length}
 use Rattle.ground.specs.Text.{bytes}
+use Rattle.format.specs.Numbers.{intervalsOf}
 use Rattle.format.specs.Records.{intervalsIn}
 use Rattle.format.specs.Order.{Due}
 use Rattle.format.specs.Answers.{accepted}
 use Rattle.format.specs.File.{most, checkOf}
 use Rattle.format.specs.Day.{Day}
 use Rattle.format.specs.Block.{Given, intervalsGiven, dayGiven, blockOf}
+use Rattle.format.proofs.Numbers.{intervals-some}
 use Rattle.passing.specs.Passes.{Awaits, Leads}
 use Rattle.theorems.specs.Grammar.{Record, text, IsRecord}
 use Rattle.theorems.specs.Days.{recordAt, rowsOf, dayIn, ReadsAs}
@@ -28,6 +31,9 @@ grammar-says head b d r =
     subst (λ (x : List ℕ). Says x d) (sym (r .bytes)) (subst (Says (text (rowsOf (r .block)))) (sym (r .is)) (block-says (r .block) (intervalsIn head) (r .good) (recordAt 0 head) refl))
 
 module _ (g : Given) (w : Writable g) where
+  known : intervalsOf (g .head .length) ≢ 0
+  known = intervals-some (g .head .length) (w .length-known)
+
   pub reads-back : (st : Due) → Awaits st (intervalsGiven g) (g .head .date) → ReadsBack (dayGiven g) st
   unfolding dayGiven
   reads-back st a = back (dayGiven g) (whole g w) st a
@@ -36,7 +42,7 @@ module _ (g : Given) (w : Writable g) where
   unfolding intervalsGiven
   in-any-file before behind st h a =
       let r = reads-back st a in
-      let c = channel (g .head .length) (w .length-known) in
+      let c = channel (g .head .length) known in
       let n : intervalsIn (c .0 .cells) ≡ st .n = c .1 ∙ sym (a .intervals) in
       stands before (blockOf (dayGiven g)) behind st (dayGiven g) h (r .accepted) (c .0) n (r .same (length before) (c .0) n)
 
@@ -46,7 +52,7 @@ module _ (g : Given) (w : Writable g) where
   unfolding intervalsGiven
   closed-by-900 before st h a l =
       let r = reads-back st a in
-      let c = channel (g .head .length) (w .length-known) in
+      let c = channel (g .head .length) known in
       let n : intervalsIn (c .0 .cells) ≡ st .n = c .1 ∙ sym (a .intervals) in
       closes before (blockOf (dayGiven g)) st (dayGiven g) h (r .accepted) (c .0) n (r .same (length before) (c .0) n) l
 
@@ -68,10 +74,10 @@ module _ (g : Given) (w : Writable g) where
   unfolding dayGiven intervalsGiven
   says-it =
       let r = written (dayGiven g) (whole g w) in
-      let c = channel (g .head .length) (w .length-known) in
+      let c = channel (g .head .length) known in
       subst (λ (b : List ℕ). Says b (dayGiven g)) (r .bytes-are) (subst (Says (text (rowsOf (r .block)))) (r .day) (block-says (r .block) (intervalsGiven g) (r .good) (c .0) (c .1)))
 
   -- and no bytes that say it, with 500s or without, have fewer records, or are fewer
   pub shortest : (b : List ℕ) → Says b (dayGiven g) → NoLonger (dayGiven g) b
-  unfolding dayGiven
-  shortest b h = no-longer (dayGiven g) (w .length-known) b h
+  unfolding dayGiven intervalsGiven
+  shortest b h = no-longer (dayGiven g) known b h

@@ -2,22 +2,17 @@
 use Prim.Native.Nat.{ℕ, _≤_, _<_}
 use mathlib.Core.Path.{_≡_}
 use mathlib.Core.Bool.{Bool, true, false}
-use mathlib.Core.Logic.{_≢_}
 use mathlib.Core.List.{List}
 use lib.ListN.{length}
 use Rattle.ground.specs.Lists.{all, from}
+use Rattle.format.specs.Numbers.{isLength}
 use Rattle.format.specs.Cut.{lines}
 use Rattle.format.specs.Records.{intervalsIn}
 use Rattle.format.specs.Order.{Due}
-use Rattle.format.specs.Day.{Row, Day, enoughFor}
-use Rattle.format.specs.Block.{Given, intervalsGiven, dayGiven, isInside, fitGiven, blockOf, recordsOf}
+use Rattle.format.specs.Day.{Row, Day}
+use Rattle.format.specs.Block.{Given, intervalsGiven, dayGiven, isInside, fitGiven, blockOf, recordsOf, enough}
 use Rattle.passing.specs.Passes.{kindsOf, Accepted}
 use Rattle.shortest.specs.Blocks.{Reads, Says}
-
--- no list is shorter than n
-abbrev pub enough : Given → Bool
-enough g =
-    enoughFor (intervalsGiven g) (length (g .values)) (length (g .flags)) (length (g .methods)) (length (g .reasons)) (length (g .starts)) (length (g .lengths))
 
 -- each description lies inside the lent text
 abbrev pub inside : Given → Bool
@@ -25,7 +20,7 @@ inside g = all (isInside g) (from (λ i. i) 0 (intervalsGiven g))
 
 -- nothing is wrong with what was handed in
 pub record Writable (g : Given) : Type 0 where
-  pub length-known : intervalsGiven g ≢ 0
+  pub length-known : isLength (g .head .length) ≡ true
   pub lists-long : enough g ≡ true
   pub fit : fitGiven g ≡ true
 
@@ -42,7 +37,7 @@ pub record NoLonger (d : Day) (b : List ℕ) : Type 0 where
 
 -- why a day is refused with the number x
 pub data Because (g : Given) (room x : ℕ) : Type 0 where
-  length-unknown : x ≡ 16 → intervalsGiven g ≡ 0 → Because g room x
+  length-unknown : x ≡ 16 → isLength (g .head .length) ≡ false → Because g room x
   list-short : x ≡ 15 → enough g ≡ false → Because g room x
   outside : x ≡ 16 → inside g ≡ false → Because g room x
   -- no block says this day

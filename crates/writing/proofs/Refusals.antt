@@ -16,11 +16,11 @@ use Rattle.format.specs.Numbers.{intervalsOf}
 use Rattle.format.specs.Dates.{isDate, isTime}
 use Rattle.format.specs.Answers.{Answer, accepted, refusal, writtenAs}
 use Rattle.format.specs.Day.{Five, five, Day, enoughFor}
-use Rattle.format.specs.Block.{given, intervalsGiven, markGiven, dayGiven, fitMark, fitValue, fitDay, isInside, fitGiven, valuesText, blockOf, writeOf, roomOf}
+use Rattle.format.specs.Block.{given, intervalsGiven, markGiven, dayGiven, fitMark, fitValue, fitDay, isInside, fitGiven, valuesText, blockOf, enough, writeOf, roomOf}
 use Rattle.format.specs.declared.DayHead.{DayHead}
 use Rattle.format.specs.declared.Written.{Written}
 use Rattle.format.specs.declared.Written.the-variants.{Block}
-use Rattle.format.proofs.Numbers.{intervals-most}
+use Rattle.format.proofs.Numbers.{intervals-most, intervals-known}
 use Rattle.text.specs.Inside.{inside}
 use Rattle.fit.specs.Tags.{tagFrom, markOf, marksFrom, tagInside, insideAt, fitMarks}
 use Rattle.value_texts.specs.declared.Measured.{Measured}
@@ -91,13 +91,13 @@ module _ (h : DayHead) (n : ℕ) (vs : List ℕ) (l : Five) (text : List ℕ) {m
 -- ---- any day
 
 module _ (n : ℕ) (vs fs ms rs ss ls : List ℕ) {b : Bool} (f : b ≡ enoughFor n (length vs) (length fs) (length ms) (length rs) (length ss) (length ls)) (t : not b ≡ false) where
-  enough : enoughFor n (length vs) (length fs) (length ms) (length rs) (length ss) (length ls) ≡ true
-  enough = sym f ∙ not-false b t
+  all-long : enoughFor n (length vs) (length fs) (length ms) (length rs) (length ss) (length ls) ≡ true
+  all-long = sym f ∙ not-false b t
 
   pub values-long : n ≤ length vs
   unfolding enoughFor
   values-long =
-      let c1 = and-true _ (leb n (length ls)) enough in
+      let c1 = and-true _ (leb n (length ls)) all-long in
       let c2 = and-true _ (leb n (length ss)) (c1 .0) in
       let c3 = and-true _ (leb n (length rs)) (c2 .0) in
       let c4 = and-true _ (leb n (length ms)) (c3 .0) in
@@ -109,7 +109,7 @@ module _ (n : ℕ) (vs fs ms rs ss ls : List ℕ) {b : Bool} (f : b ≡ enoughFo
   pub lists-ready : (m : ℕ) → n ≡ intervalsOf m → (n ≡ 0 → ⊥) → Ready n (take n vs) (five fs ms rs ss ls)
   unfolding enoughFor
   lists-ready m e some =
-      let c1 = and-true _ (leb n (length ls)) enough in
+      let c1 = and-true _ (leb n (length ls)) all-long in
       let c2 = and-true _ (leb n (length ss)) (c1 .0) in
       let c3 = and-true _ (leb n (length rs)) (c2 .0) in
       let c4 = and-true _ (leb n (length ms)) (c3 .0) in
@@ -152,25 +152,25 @@ module _ (h : DayHead) (vs fs ms rs ss ls text : List ℕ) {n : ℕ} (e : n ≡ 
 
   pub no-length : {a : Answer} (room : List ℕ) → n ≡ 0 → a ≡ refusal 16 → a ≡ writeOf (given h vs fs ms rs ss ls text) (length room)
   unfolding writeOf intervalsGiven
-  no-length room z q = rw (eq-eqb (intervalsOf (h .length)) 0 (sym e ∙ z)) q
+  no-length room z q = rw (intervals-known (h .length), eq-eqb (intervalsOf (h .length)) 0 (sym e ∙ z)) q
 
   pub no-length-left : (room : List ℕ) → n ≡ 0 → room ≡ roomOf (given h vs fs ms rs ss ls text) room
   unfolding roomOf writeOf intervalsGiven
-  no-length-left room z = rw (eq-eqb (intervalsOf (h .length)) 0 (sym e ∙ z))
+  no-length-left room z = rw (intervals-known (h .length), eq-eqb (intervalsOf (h .length)) 0 (sym e ∙ z))
 
   module _ (some : n ≡ 0 → ⊥) {b : Bool} (f : b ≡ enoughFor n (length vs) (length fs) (length ms) (length rs) (length ss) (length ls)) where
     pub too-short : {a : Answer} (room : List ℕ) → not b ≡ true → a ≡ refusal 15 → a ≡ writeOf (given h vs fs ms rs ss ls text) (length room)
-    unfolding writeOf intervalsGiven
-    too-short room t q = rw (← e, ne-eqb n 0 some, ← f, not-true b t) q
+    unfolding writeOf enough intervalsGiven
+    too-short room t q = rw (intervals-known (h .length), ← e, ne-eqb n 0 some, ← f, not-true b t) q
 
     pub too-short-left : (room : List ℕ) → not b ≡ true → room ≡ roomOf (given h vs fs ms rs ss ls text) room
-    unfolding roomOf writeOf intervalsGiven
-    too-short-left room t = rw (← e, ne-eqb n 0 some, ← f, not-true b t)
+    unfolding roomOf writeOf enough intervalsGiven
+    too-short-left room t = rw (intervals-known (h .length), ← e, ne-eqb n 0 some, ← f, not-true b t)
 
     module _ (t : not b ≡ false) where
       answered : (room : ℕ) → answeredOf (fitWith h n (take n vs) (five fs ms rs ss ls) text) (dayWith h n (take n vs) (five fs ms rs ss ls) text) room ≡ writeOf (given h vs fs ms rs ss ls text) room
-      unfolding writeOf intervalsGiven answeredOf placedOf
-      answered room = rw (← e, ne-eqb n 0 some, enough n vs fs ms rs ss ls f t, same-fit, same-day)
+      unfolding writeOf enough intervalsGiven answeredOf placedOf
+      answered room = rw (intervals-known (h .length), ← e, ne-eqb n 0 some, all-long n vs fs ms rs ss ls f t, same-fit, same-day)
 
       module _ (room : List ℕ) {w : Written} {after : List ℕ}
           (x : Writes (answeredOf (fitWith h n (take n vs) (five fs ms rs ss ls) text)) (dayWith h n (take n vs) (five fs ms rs ss ls) text) room w after) where

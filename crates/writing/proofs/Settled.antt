@@ -16,7 +16,7 @@ use Rattle.format.specs.Quality.{standsAlone, takesMethod, noMethod, needsReaso
 use Rattle.format.specs.Records.{agrees}
 use Rattle.format.specs.Day.{enoughFor}
 use Rattle.format.specs.Answers.{accepted, refusal}
-use Rattle.format.specs.Block.{Given, given, intervalsGiven, markGiven, dayGiven, fitQuality, fitReason, fitMark, fitValue, fitDay, isInside, fitGiven, places, trimmed, fractionText, valueText, qualityText, reasonText, loadText, crlf, markText, valuesText, runText, coverText, runsIn, isUniform, topText, tailText, blockOf, recordsOf, writeOf, roomOf}
+use Rattle.format.specs.Block.{Given, given, intervalsGiven, markGiven, dayGiven, fitQuality, fitReason, fitMark, fitValue, fitDay, isInside, fitGiven, fractionText, valueText, qualityText, reasonText, loadText, crlf, markText, valuesText, runText, coverText, runsIn, isUniform, topText, tailText, blockOf, recordsOf, enough, writeOf, roomOf}
 
 abbrev day : Given
 day =
@@ -39,5 +39,5 @@ pub record Settled : Type 0 where
   pub room-kept : roomOf day (replicate 160 7) ≡ replicate 160 7
 
 pub settled : Settled
-unfolding same from padded widthFrom width dec glue runs fieldByte endSpace isText isDescription isLength intervalsOf isLeap daysIn isDay isDate isTime standsAlone takesMethod needsReason across sameMark agrees enoughFor intervalsGiven markGiven dayGiven fitQuality fitReason fitMark fitValue fitDay isInside fitGiven places trimmed fractionText valueText qualityText reasonText loadText markText valuesText runText coverText runsIn isUniform topText tailText blockOf recordsOf writeOf roomOf
+unfolding same from padded widthFrom width dec glue runs fieldByte endSpace isText isDescription isLength intervalsOf isLeap daysIn isDay isDate isTime standsAlone takesMethod needsReason across sameMark agrees enoughFor intervalsGiven markGiven dayGiven fitQuality fitReason fitMark fitValue fitDay isInside fitGiven fractionText valueText qualityText reasonText loadText markText valuesText runText coverText runsIn isUniform topText tailText blockOf recordsOf enough writeOf roomOf
 settled = record { written = refl; byte-for-byte = refl; tail-kept = refl; one-byte-short = refl; room-kept = refl }
