@@ -9,7 +9,7 @@ use Rattle.ground.specs.Lists.{spanOf}
 use Rattle.format.specs.Bytes.{plain}
 use Rattle.format.specs.Cut.{fields, startOf}
 use Rattle.format.specs.Records.{kindIn, countOf, ruleOf, obeys, dateField, dateIn, firstField, firstIn, lastIn, readTimeField, readTimeIn, qualitiesOf, firstBroken}
-use Rattle.format.specs.Order.{Due, mayCome, alikeWith}
+use Rattle.format.specs.Order.{Due, mayCome, inVaried, alikeWith}
 use Rattle.format.specs.declared.Fault.{Fault}
 use Rattle.format.specs.declared.Fault.the-variants.{Fine, Stop}
 
@@ -29,7 +29,7 @@ f3 r = stop (ltb (spanOf plain r) (length r)) 3 (spanOf plain r) 0
 
 -- "a V day's cover isn't complete and this record isn't a 400": the cover is complete once the next interval is past n
 unfoldable pub isOpen : Due → ℕ → Bool
-isOpen st k = eqb (st .expect) 4 && (leb (st .next) (st .n) && not (eqb k 400))
+isOpen st k = inVaried (st .expect) && (leb (st .next) (st .n) && not (eqb k 400))
 
 abbrev pub f10 : Due → ℕ → Fault
 f10 st k = stop (isOpen st k) 10 0 0

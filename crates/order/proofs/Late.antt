@@ -23,7 +23,8 @@ use Rattle.runs.specs.Ran.{Ran}
 use Rattle.format.proofs.Numbers.{intervals-most}
 use Rattle.says.proofs.Fields.{says-of, tag-moves}
 use Rattle.order.specs.declared.State.{State}
-use Rattle.order.specs.State.{markOf, seen, noTag, closed, Kept, cells, Here, After, goes, stops, lateOf, lastOf, goesOn, alikeTo}
+use Rattle.order.specs.State.{markOf, expectedAs, seen, noTag, closed, Kept, cells, Here, After, goes, stops, lateOf, lastOf, goesOn, alikeTo}
+use Rattle.order.proofs.Expected.{under-as}
 use Rattle.order.proofs.Marks.{flag-of, mark-of, agrees-of, tag-within}
 
 -- ---- the chain from 7 on
@@ -91,11 +92,11 @@ module _ (file : List ℕ) (at e p : ℕ) (st : State) (t : Tag) {b : Bool} (h :
     on300-8 l = rw four (late-8 (seen file st) 300 (cells file at e) fine-300 (rw (← date, le-leb _ _ l)))
 
     pub on300-on : (x : ℕ) (m : Tag) (s : Due) → st .date < d → x ≡ cond (eqb (t .flag) 86) 4 3 → m ≡ noTag
-        → s ≡ record { expect = x; version = st .version; n = st .n; date = d; next = 1; mark = markOf file m; alike = false; channels = st .channels; days = st .days + 1 }
+        → s ≡ record { expect = expectedAs x; version = st .version; n = st .n; date = d; next = 1; mark = markOf file m; alike = false; channels = st .channels; days = st .days + 1 }
         → goes s ≡ lastOf (seen file st) 300 (cells file at e)
     unfolding isNotLater isOff isAlike isElsewhere afterOf isVaried
     on300-on x m s l ex em es =
-        rw (es, em, ex, date, flag-of file at e 300 (st .n + 2) p t g et)
+        rw (es, em, ex, under-as (eqb (t .flag) 86), date, flag-of file at e 300 (st .n + 2) p t g et)
         (late-none (seen file st) 300 (cells file at e) fine-300 (rw (← date, lt-leb _ _ l)) refl refl refl)
 
 -- ---- a 400
@@ -163,9 +164,9 @@ module _ (file : List ℕ) (at e from to q : ℕ) (st : State) (t : Tag) {b : Bo
       on400-11 v = late-11 (seen file st) 400 (cells file at e) fine-400 refl (off ∙ on) (sym whole ∙ v)
 
       pub on400-on : (m : Tag) (s : Due) → w ≡ false → m ≡ cond (eqb (st .next) 1) t (st .mark)
-          → s ≡ record { expect = 4; version = st .version; n = st .n; date = st .date; next = to + 1; mark = markOf file m; alike = a; channels = st .channels; days = st .days }
+          → s ≡ record { expect = expectedAs 4; version = st .version; n = st .n; date = st .date; next = to + 1; mark = markOf file m; alike = a; channels = st .channels; days = st .days }
           → goes s ≡ lastOf (seen file st) 400 (cells file at e)
-      unfolding isNotLater isElsewhere afterOf
+      unfolding isNotLater isElsewhere afterOf expectedAs
       on400-on m s v em es =
           rw (es, em, mark-picked file (eqb (st .next) 1) t (st .mark), mark-of file at e 400 3 q t (r .quality) et, last, alike)
           (late-none (seen file st) 400 (cells file at e) fine-400 refl (off ∙ on) (sym whole ∙ v) refl)
@@ -186,7 +187,7 @@ module _ (file : List ℕ) (at e p x : ℕ) (st : State) {o : Bool} (h : Here fi
 
   pub on500-on : (s : State) → not o ≡ false → s ≡ closed 5 (st .version) (st .n) (st .date) (st .channels) (st .days)
       → goes (seen file s) ≡ lastOf (seen file st) 500 (cells file at e)
-  unfolding brokenIn qualitiesOf firstBroken isNotLater isOff isAlike afterOf
+  unfolding brokenIn qualitiesOf firstBroken isNotLater isOff isAlike afterOf expectedAs
   on500-on s n es = rw es (late-none (seen file st) 500 (cells file at e) refl refl refl refl (elsewhere ∙ n))
 
 -- ---- a 250
@@ -213,7 +214,7 @@ module _ (file : List ℕ) (at e p q : ℕ) (st : State) (s : Tag) {b : Bool} (h
 
     pub on250-on : (s : State) → not c ≡ false → s ≡ closed 7 (st .version) 0 0 (st .channels + 1) (st .days)
         → goes (seen file s) ≡ lastOf (seen file st) 250 (cells file at e)
-    unfolding isNotLater isOff isAlike isElsewhere afterOf
+    unfolding isNotLater isOff isAlike isElsewhere afterOf expectedAs
     on250-on s n es = rw es (late-none (seen file st) 250 (cells file at e) (rw (not-false c n) at broken-250) refl refl refl refl)
 
 -- ---- the state is kept
@@ -221,8 +222,8 @@ module _ (file : List ℕ) (at e p q : ℕ) (st : State) (s : Tag) {b : Bool} (h
 pub no-tag-within : (file : List ℕ) {m : Tag} → m ≡ noTag → m .start + m .length ≤ length file
 no-tag-within file e = rw e (omega arith)
 
-pub kept-closed : (file : List ℕ) (e : ℕ) {s : State} {x v n t c d : ℕ} → s ≡ closed x v n t c d → n ≤ 288 → c ≤ e + 1 → d ≤ e + 1 → Kept file (e + 1) s
-kept-closed file e q hn hc hd = rw q record { within = omega arith; small = hn; channels = hc; days = hd }
+pub kept-closed : (file : List ℕ) (e : ℕ) {s : State} {x v n t c d : ℕ} → s ≡ closed x v n t c d → x ≤ 9 → n ≤ 288 → c ≤ e + 1 → d ≤ e + 1 → Kept file (e + 1) s
+kept-closed file e q hx hn hc hd = rw q record { known = hx; within = omega arith; small = hn; channels = hc; days = hd }
 
 pub picked-within : (file : List ℕ) (b : Bool) (t u : Tag) {m : Tag} → m ≡ cond b t u → t .start + t .length ≤ length file → u .start + u .length ≤ length file
     → m .start + m .length ≤ length file
@@ -238,22 +239,24 @@ module _ (file : List ℕ) (at e : ℕ) (st : State) {v : ℕ} (h : Here file at
   version = says-of versionOf ev h
 
   pub on100-12 : {s : State} → v ≡ 12 → s ≡ closed 1 v 0 0 0 0 → After file e (on100 (seen file st) (cells file at e)) s
-  on100-12 k q = record { is = rw (q, version, eq-eqb _ _ (sym version ∙ k)); kept = kept-closed file e q (omega arith) (omega arith) (omega arith) }
+  unfolding expectedAs
+  on100-12 k q = record { is = rw (q, version, eq-eqb _ _ (sym version ∙ k)); kept = kept-closed file e q (omega arith) (omega arith) (omega arith) (omega arith) }
 
   pub on100-13 : {s : State} → (v ≡ 12 → ⊥) → s ≡ closed 6 v 0 0 0 0 → After file e (on100 (seen file st) (cells file at e)) s
+  unfolding expectedAs
   on100-13 k q =
       record {
         is = rw (q, version, ne-eqb (versionIn (cells file at e)) 12 (λ z. k (version ∙ z)));
-        kept = kept-closed file e q (omega arith) (omega arith) (omega arith);
+        kept = kept-closed file e q (omega arith) (omega arith) (omega arith) (omega arith);
       }
 
 pub on200-on : (file : List ℕ) (at e p : ℕ) (st : State) {n : ℕ} {s : State} → Kept file at st → Here file at e 8 p
     → n ≡ intervalsOf (numberIn (lengthOf (field 0 (fields (part file p e))))) → s ≡ closed 2 (st .version) n 0 (st .channels + 1) (st .days)
     → After file e (on200 (seen file st) (cells file at e)) s
-unfolding intervalsIn
+unfolding intervalsIn expectedAs
 on200-on file at e p st {n} {s} k h en q =
     let w : n ≡ intervalsOf (numberIn (lengthOf (field 8 (cells file at e)))) = en ∙ ap intervalsOf (says-of lengthOf refl h) in
     record {
       is = rw (q, w);
-      kept = kept-closed file e q (omega (arith, intervals-most (numberIn (lengthOf (field 0 (fields (part file p e))))))) (omega (arith, k .channels, h .place, h .rest .ends)) (omega (arith, k .days, h .place, h .rest .ends));
+      kept = kept-closed file e q (omega arith) (omega (arith, intervals-most (numberIn (lengthOf (field 0 (fields (part file p e))))))) (omega (arith, k .channels, h .place, h .rest .ends)) (omega (arith, k .days, h .place, h .rest .ends));
     }

@@ -9,7 +9,7 @@ use Rattle.ground.specs.Lists.{part}
 use Rattle.format.specs.Quality.{Mark, noMethod, sameMark}
 use Rattle.format.specs.Numbers.{noReason}
 use Rattle.format.specs.Cut.{fields}
-use Rattle.format.specs.Order.{Due, afterOf}
+use Rattle.format.specs.Order.{Expected, the100, first200, first300, underDay, underVaried, behind500, first250, behind250, behind550, theEnd, Due, afterOf}
 use Rattle.format.specs.File.{after}
 use Rattle.format.specs.Faults.{_▹_, size, f7, f8, f9, f11, f12, faultIn, faultOf}
 use Rattle.format.specs.declared.Fault.{Fault}
@@ -26,11 +26,24 @@ use Rattle.order.specs.declared.Step.the-variants as step
 abbrev pub markOf : List ℕ → Tag → Mark
 markOf file t = record { flag = t .flag; method = t .method; reason = t .reason; text = part file (t .start) (t .start + t .length) }
 
+-- what the number in the code's state stands for
+unfoldable pub expectedAs : ℕ → Expected
+expectedAs x =
+    cond (eqb x 0) the100
+    (cond (eqb x 1) first200
+    (cond (eqb x 2) first300
+    (cond (eqb x 3) underDay
+    (cond (eqb x 4) underVaried
+    (cond (eqb x 5) behind500
+    (cond (eqb x 6) first250
+    (cond (eqb x 7) behind250
+    (cond (eqb x 8) behind550 theEnd))))))))
+
 -- what the code's state says
 abbrev pub seen : List ℕ → State → Due
 seen file st =
     record {
-      expect = st .expect;
+      expect = expectedAs (st .expect);
       version = st .version;
       n = st .n;
       date = st .date;
@@ -48,8 +61,9 @@ noTag = record { flag = 0; method = noMethod; reason = noReason; start = 0; leng
 abbrev pub closed : ℕ → ℕ → ℕ → ℕ → ℕ → ℕ → State
 closed x v n t c d = record { expect = x; version = v; n = n; date = t; next = 0; mark = noTag; alike = false; channels = c; days = d }
 
--- the description lies in the file, and no count is past the place that the walk has come to
+-- the number stands for a state, the description lies in the file, and no count is past the place that the walk has come to
 pub record Kept (file : List ℕ) (at : ℕ) (st : State) : Type 0 where
+  pub known : st .expect ≤ 9
   pub within : st .mark .start + st .mark .length ≤ length file
   pub small : st .n ≤ 288
   pub channels : st .channels ≤ at
@@ -104,6 +118,10 @@ Holds file at e (step.On st) = Kept file (e + 1) st
 Holds file at e (step.Stop x o i) = at + o ≤ e
 
 -- ---- single tests
+
+-- x is one of the numbers from a to b
+abbrev pub between : ℕ → ℕ → ℕ → Bool
+between a b x = leb a x && leb x b
 
 -- intervals from a to b go on with a cover whose next interval is given, in a day of n
 unfoldable pub goesOn : ℕ → ℕ → ℕ → ℕ → Bool

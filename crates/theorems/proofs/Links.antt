@@ -16,7 +16,7 @@ use Rattle.ground.proofs.Spans.{spanned-all, span-le}
 use Rattle.format.specs.Bytes.{plain}
 use Rattle.format.specs.Cut.{fields, field, startOf}
 use Rattle.format.specs.Records.{kindIn, countOf, ruleOf, obeys, dateIn, firstIn, lastIn, readTimeIn, qualitiesOf, markAt, agrees, firstBroken}
-use Rattle.format.specs.Order.{Due, between, mayCome, alikeWith}
+use Rattle.format.specs.Order.{mayCome, inVaried, Due, alikeWith}
 use Rattle.format.specs.Faults.{_▹_, stop, f3, isOpen, f10, f4, size, f5, faultIn, f6, brokenIn, f7, isNotLater, f8, covers, isOff, f9, isAlike, f11, onDay, isElsewhere, f12, faultAt, faultOf}
 use Rattle.format.specs.declared.Fault.{Fault}
 use Rattle.format.specs.declared.Fault.the-variants.{Fine, Stop}
@@ -73,10 +73,10 @@ module _ (st : Due) (k n : ℕ) (fs : Record) where
   link-10 =
       test-link (isOpen st k) 0 0 (entry10 st k n fs)
       (λ t.
-      let a = and-true (eqb (st .expect) 4) (leb (st .next) (st .n) && not (eqb k 400)) t in
+      let a = and-true (inVaried (st .expect)) (leb (st .next) (st .n) && not (eqb k 400)) t in
       let b = and-true (leb (st .next) (st .n)) (not (eqb k 400)) (a .1) in
-      (eqb-true _ _ (a .0), leb-true _ _ (b .0), eqb-false _ _ (not-true _ (b .1)), refl, refl))
-      (λ t o i g. true≢false (let z : true ≡ false = (rw (eq-eqb _ _ (g .0), le-leb _ _ (g .1), ne-eqb _ _ (g .2)) at t) in z))
+      (a .0, leb-true _ _ (b .0), eqb-false _ _ (not-true _ (b .1)), refl, refl))
+      (λ t o i g. true≢false (let z : true ≡ false = (rw (g .0, le-leb _ _ (g .1), ne-eqb _ _ (g .2)) at t) in z))
 
   link-4 : Link (f4 st k) (entry4 st k n fs)
   link-4 = test-link (not (mayCome (st .expect) k)) 0 0 (entry4 st k n fs) (λ t. (not-true _ t, refl, refl)) (λ t o i g. true≢false (sym (not-false _ t) ∙ g .0))
@@ -377,14 +377,17 @@ module _ (st : Due) (r : List ℕ) where
 
 -- ---- the numbers are those from 3 to 12
 
+abbrev inTable : ℕ → Bool
+inTable x = leb 3 x && leb x 12
+
 abbrev within : List Entry → Bool
 within [] = true
-within (c ∷ cs) = between 3 12 (c .number) && within cs
+within (c ∷ cs) = inTable (c .number) && within cs
 
-first-within : (cs : List Entry) (x o i : ℕ) → within cs ≡ true → First x o i cs → between 3 12 x ≡ true
+first-within : (cs : List Entry) (x o i : ℕ) → within cs ≡ true → First x o i cs → inTable x ≡ true
 first-within [] x o i w f = absurd f
-first-within (c ∷ cs) x o i w (inl f) = rw (f .0) (and-true (between 3 12 (c .number)) (within cs) w .0)
-first-within (c ∷ cs) x o i w (inr f) = first-within cs x o i (and-true (between 3 12 (c .number)) (within cs) w .1) (f .1)
+first-within (c ∷ cs) x o i w (inl f) = rw (f .0) (and-true (inTable (c .number)) (within cs) w .0)
+first-within (c ∷ cs) x o i w (inr f) = first-within cs x o i (and-true (inTable (c .number)) (within cs) w .1) (f .1)
 
 pub fault-number : (st : Due) (r : List ℕ) (x o i : ℕ) → faultOf st r ≡ Stop x o i → (3 ≤ x) × (x ≤ 12)
 fault-number st r x o i e =
