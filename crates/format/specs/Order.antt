@@ -3,10 +3,10 @@
 -- And, in A day: "What may come next travels as one state, handed in and handed back at each record."
 use Prim.Native.Nat.{ℕ, _+_}
 use mathlib.Core.List.{List, [], _∷_}
-use mathlib.Core.Bool.{Bool, true, false, cond, _&&_, _||_}
+use mathlib.Core.Bool.{Bool, true, false, cond, _||_}
 use lib.ListN.{length}
 use lib.Dec.{eqb}
-use Rattle.format.specs.Quality.{flagV, flagIn, qualityOf, Mark, noMark, sameMark}
+use Rattle.format.specs.Quality.{flagV, flagIn, qualityOf, Mark, sameMark}
 use Rattle.format.specs.Cut.{field}
 use Rattle.format.specs.Records.{versionIn, intervalsIn, dateIn, lastIn, quality300, markIn}
 
@@ -66,6 +66,25 @@ inVaried x = mayCome x 400
 abbrev pub isEnd : Expected → Bool
 isEnd x = eqb (length (kindsAt x)) 0
 
+-- 01, A day: "If all its intervals have the same quality, reason and description": what the marks of a day's 400s so far have in common
+pub data Shared : Type 0 where
+  -- there is none yet
+  noneYet : Shared
+  -- all have this mark
+  allHave : Mark → Shared
+  theyDiffer : Shared
+
+-- with one more
+abbrev pub shareWith : Shared → Mark → Shared
+shareWith noneYet m = allHave m
+shareWith (allHave a) m = cond (sameMark a m) (allHave a) theyDiffer
+shareWith theyDiffer m = theyDiffer
+
+abbrev pub areAlike : Shared → Bool
+areAlike noneYet = false
+areAlike (allHave m) = true
+areAlike theyDiffer = false
+
 pub record Due : Type 0 where
   pub expect : Expected
   -- 12 or 13, once the 100 is read
@@ -76,16 +95,15 @@ pub record Due : Type 0 where
   pub date : ℕ
   -- the interval at which the next 400 has to start
   pub next : ℕ
-  -- the mark of the day's first 400, and whether every 400 since has the same
-  pub mark : Mark
-  pub alike : Bool
+  -- what the day's 400s so far have in common
+  pub shared : Shared
   -- so far
   pub channels : ℕ
   pub days : ℕ
 
 -- where no V day is open
 abbrev pub due : Expected → ℕ → ℕ → ℕ → ℕ → ℕ → Due
-due x v n t c d = record { expect = x; version = v; n = n; date = t; next = 0; mark = noMark; alike = false; channels = c; days = d }
+due x v n t c d = record { expect = x; version = v; n = n; date = t; next = 0; shared = noneYet; channels = c; days = d }
 
 -- before the first record
 abbrev pub begun : Due
@@ -97,9 +115,9 @@ begun = due the100 0 0 0 0 0
 unfoldable pub isVaried : ℕ → List (List ℕ) → Bool
 isVaried n fs = eqb (flagIn (qualityOf 300 (field (quality300 n) fs))) flagV
 
--- with this 400, every 400 of the day has one mark
+-- with this 400, all of the day's 400s have one mark
 unfoldable pub alikeWith : Due → List (List ℕ) → Bool
-alikeWith st fs = cond (eqb (st .next) 1) true (st .alike && sameMark (st .mark) (markIn fs))
+alikeWith st fs = areAlike (shareWith (st .shared) (markIn fs))
 
 abbrev pub on100 : Due → List (List ℕ) → Due
 on100 st fs = due (cond (eqb (versionIn fs) 12) first200 first250) (versionIn fs) 0 0 0 0
@@ -115,8 +133,7 @@ on300 st fs =
       n = st .n;
       date = dateIn fs;
       next = 1;
-      mark = noMark;
-      alike = false;
+      shared = noneYet;
       channels = st .channels;
       days = st .days + 1;
     }
@@ -129,8 +146,7 @@ on400 st fs =
       n = st .n;
       date = st .date;
       next = lastIn fs + 1;
-      mark = cond (eqb (st .next) 1) (markIn fs) (st .mark);
-      alike = alikeWith st fs;
+      shared = shareWith (st .shared) (markIn fs);
       channels = st .channels;
       days = st .days;
     }

@@ -1,17 +1,19 @@
 -- The cases of the tests, as a return of the code has them. Assumes nothing.
-use Prim.Native.Nat.{ℕ, _+_, _-_}
-use mathlib.Core.Path.{_≡_, sym, _∙_}
+use Prim.Native.Nat.{ℕ, _+_, _-_, _≤_}
+use mathlib.Core.Path.{_≡_, refl, sym, _∙_}
 use mathlib.Core.List.{List}
-use mathlib.Core.Bool.{Bool, true, false, not}
+use mathlib.Core.Bool.{Bool, true, false, cond, not}
 use lib.ListN.{length, take, drop}
-use lib.Dec.{eqb}
-use borrow.Author.Tests.{eq-eqb, ne-eqb, not-true, not-false}
+use native.Mathlib.Omega.{arith}
+use lib.Dec.{eqb, leb}
+use borrow.Author.Tests.{eq-eqb, ne-eqb, lt-leb, not-true, not-false}
 use Rattle.ground.specs.Lists.{same}
-use Rattle.ground.proofs.Tests.{tests}
+use Rattle.ground.proofs.Cases.{by, same-or}
 use Rattle.format.specs.Quality.{Mark, sameMark}
-use Rattle.format.specs.Order.{mayCome, Due}
+use Rattle.format.specs.Order.{mayCome, allHave, theyDiffer, shareWith, areAlike}
 use Rattle.format.specs.declared.Tag.{Tag}
-use Rattle.order.specs.State.{markOf, expectedAs, between, alikeTo}
+use Rattle.order.specs.declared.State.{State}
+use Rattle.order.specs.State.{markOf, expectedAs, sharedAs, seen, between, alikeTo}
 use Rattle.format.proofs.States.{no-kind}
 use Rattle.format.proofs.MarkText.{flags-differ, methods-differ, reasons-differ, texts-compared}
 use Rattle.order.proofs.Expected.{is-100, is-200, is-300, is-400, is-500, is-250, is-550, is-900}
@@ -67,17 +69,40 @@ module _ (file : List ℕ) (s t : Tag) where
 
 pub ruleset marks = (flags-differ, methods-differ, reasons-differ, parts-compared)
 
--- ---- with this mark, every 400 of the day has one
+-- ---- with this mark, all of the day's 400s have one
 
-module _ (st : Due) (m : Mark) where
-  pub alike-first : st .next ≡ 1 → true ≡ alikeTo st m
-  unfolding alikeTo
-  alike-first h = rw (eq-eqb _ _ h)
+picked : (b : Bool) (m : Mark) → b ≡ areAlike (cond b (allHave m) theyDiffer)
+picked true m = refl
+picked false m = refl
 
-  pub alike-not : (st .next ≡ 1 → ⊥) → not (st .alike) ≡ true → false ≡ alikeTo st m
+module _ (file : List ℕ) (st : State) (m : Mark) where
+  pub alike-first : st .next ≡ 1 → true ≡ alikeTo (seen file st) m
   unfolding alikeTo
-  alike-not h g = rw (ne-eqb _ _ h, not-true (st .alike) g)
+  alike-first h = rw h
 
-  pub alike-still : {b : Bool} → (st .next ≡ 1 → ⊥) → not (st .alike) ≡ false → b ≡ sameMark (st .mark) m → b ≡ alikeTo st m
+  pub alike-not : 1 ≤ st .next → (st .next ≡ 1 → ⊥) → not (st .alike) ≡ true → false ≡ alikeTo (seen file st) m
   unfolding alikeTo
-  alike-still h g e = rw (ne-eqb _ _ h, not-false (st .alike) g) e
+  alike-not l h g = rw (lt-leb (st .next) 1 (omega arith), not-true (st .alike) g)
+
+  pub alike-still : {b : Bool} → 1 ≤ st .next → (st .next ≡ 1 → ⊥) → not (st .alike) ≡ false → b ≡ sameMark (markOf file (st .mark)) m → b ≡ alikeTo (seen file st) m
+  unfolding alikeTo
+  alike-still l h g e = rw (lt-leb (st .next) 1 (omega arith), not-false (st .alike) g) (e ∙ picked (sameMark (markOf file (st .mark)) m) (markOf file (st .mark)))
+
+-- what they have in common behind the 400 of the mark t that ends at the interval to
+pub shared-on : (file : List ℕ) (next to : ℕ) (t u m : Tag) (alike a : Bool) → 1 ≤ next → 1 ≤ to → m ≡ cond (eqb next 1) t u
+    → a ≡ areAlike (shareWith (sharedAs file next u alike) (markOf file t)) → sharedAs file (to + 1) m a ≡ shareWith (sharedAs file next u alike) (markOf file t)
+shared-on file next to t u m alike a h k em ea =
+    let l : leb (to + 1) 1 ≡ false = lt-leb (to + 1) 1 (omega arith) in
+    same-or next 1
+    (λ e.
+    let m₁ : m ≡ t = rw (eq-eqb _ _ e) at em in
+    let a₁ : a ≡ true = rw e at ea in
+    rw (l, m₁, a₁, e))
+    (λ n.
+    let m₁ : m ≡ u = rw (ne-eqb _ _ n) at em in
+    let o : leb next 1 ≡ false = lt-leb next 1 (omega arith) in
+    by alike
+    (λ y. by (sameMark (markOf file u) (markOf file t))
+    (λ s. let a₁ : a ≡ true = (rw (o, y, s) at ea) in rw (l, m₁, a₁, o, y, s))
+    (λ s. let a₁ : a ≡ false = (rw (o, y, s) at ea) in rw (l, m₁, a₁, o, y, s)))
+    (λ y. let a₁ : a ≡ false = (rw (o, y) at ea) in rw (l, m₁, a₁, o, y)))

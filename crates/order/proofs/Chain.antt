@@ -6,12 +6,12 @@ use mathlib.Core.Bool.{Bool, true, false, cond, not, _&&_, true≢false}
 use native.Mathlib.Omega.{arith}
 use lib.ListN.{length}
 use lib.Dec.{eqb, leb}
-use borrow.Author.Tests.{eq-eqb, ne-eqb, le-ltb, lt-ltb, not-true, not-false}
+use borrow.Author.Tests.{eqb-true, eq-eqb, ne-eqb, le-ltb, lt-ltb, not-true, not-false}
 use Rattle.ground.specs.Lists.{spanOf, part}
 use Rattle.ground.proofs.Spans.{part-length}
 use Rattle.format.specs.Bytes.{plain}
 use Rattle.format.specs.Cut.{fields}
-use Rattle.format.specs.Records.{kindIn, rowOf, countOf, qualitiesOf, firstBroken}
+use Rattle.format.specs.Records.{kindIn, rowOf, countOf, qualitiesOf}
 use Rattle.format.specs.Order.{Expected, mayCome, Due, on100, on200, afterOf}
 use Rattle.format.specs.Faults.{size, isOpen, brokenIn, isNotLater, isOff, isAlike, isElsewhere, faultIn, faultAt, faultOf}
 use Rattle.format.specs.declared.Fault.the-variants.{Fine, Stop}
@@ -71,7 +71,7 @@ module _ (st : Due) (k : ℕ) (fs : List (List ℕ)) where
 
   -- a kind with no refusal behind 6
   quiet : (k ≡ 300 → ⊥) → (k ≡ 400 → ⊥) → (k ≡ 500 → ⊥) → (k ≡ 250 → ⊥) → goes (afterOf st k fs) ≡ lastOf st k fs
-  unfolding brokenIn qualitiesOf firstBroken isNotLater isOff isAlike isElsewhere
+  unfolding brokenIn qualitiesOf isNotLater isOff isAlike isElsewhere
   quiet a b c d =
       late-none st k fs (rw (ne-eqb _ _ a, ne-eqb _ _ b, ne-eqb _ _ d)) (rw (ne-eqb _ _ a)) (rw (ne-eqb _ _ b)) (rw (ne-eqb _ _ b)) (rw (ne-eqb _ _ c))
 
@@ -229,6 +229,10 @@ module _ (file : List ℕ) (at e bad commas : ℕ) (st : State) (l : Looked file
 
         counted : length (cells file at e) ≡ commas + 1
         counted = let q : bad ≡ e = omega (arith, l .within) in rw (← q) (sym (l .count))
+
+        -- the 400s of a V day are under way
+        pub begun-400 : Kept file at st → k ≡ 400 → 1 ≤ st .next
+        begun-400 r z = r .begun (eqb-true _ _ (is-400 (st .expect) ∙ (rw z at comes)))
 
         pub step-5 : (commas + 1 ≡ c → ⊥) → stops 5 0 0 ≡ nextOf (seen file st) (part file at e)
         step-5 t =

@@ -100,7 +100,7 @@ one-day st b a p c =
 -- the state with other counts
 unfoldable pub counting : ℕ → ℕ → ℕ → Due → Due
 counting v c d st =
-    record { expect = st .expect; version = v; n = st .n; date = st .date; next = st .next; mark = st .mark; alike = st .alike; channels = c; days = d }
+    record { expect = st .expect; version = v; n = st .n; date = st .date; next = st .next; shared = st .shared; channels = c; days = d }
 
 -- no fault goes by the counts
 module _ (v c d : ℕ) where

@@ -15,7 +15,7 @@ use Rattle.format.specs.Bytes.{plain}
 use Rattle.format.specs.Cut.{fields}
 use Rattle.format.specs.Records.{kindIn, countOf, dateIn, firstIn, lastIn}
 use Rattle.format.specs.Order.{Expected, mayCome, inVaried, Due}
-use Rattle.format.specs.Faults.{_▹_, f3, isOpen, f10, f4, size, f5, faultIn, f6, brokenIn, f7, isNotLater, f8, covers, isOff, f9, isAlike, f11, isElsewhere, f12, faultAt, faultOf}
+use Rattle.format.specs.Faults.{_▹_, f3, isOpen, f10, f4, size, f5, faultIn, f6, f7, isNotLater, f8, covers, isOff, f9, isAlike, f11, isElsewhere, f12, faultAt, faultOf}
 use Rattle.format.specs.declared.Fault.{Fault}
 use Rattle.format.specs.declared.Fault.the-variants.{Fine}
 use Rattle.format.proofs.States.{no-kind}
@@ -23,7 +23,7 @@ use Rattle.format.proofs.Faults.{both-fine, stop-fine}
 
 -- what 5, 6 and 7 ask of the fields of a record of the kind k; n is the number of a 300's intervals
 abbrev pub Ok : ℕ → ℕ → List (List ℕ) → Type 0
-Ok k n fs = (length fs ≡ countOf k n) × (faultIn k n 0 0 fs ≡ Fine) × (brokenIn k n fs ≡ 0)
+Ok k n fs = (length fs ≡ countOf k n) × (faultIn k n 0 0 fs ≡ Fine) × (f7 k n fs ≡ Fine)
 
 -- ---- a record without a fault
 
@@ -49,7 +49,7 @@ module _ (st : Due) (r : List ℕ) where
         h .may,
         eq-eqb _ _ (h .ok .0),
         h .ok .1,
-        eq-eqb _ _ (h .ok .2),
+        h .ok .2,
         h .rises,
         h .cover,
         h .apart,
@@ -84,7 +84,7 @@ module _ (st : Due) (r : List ℕ) where
         bytes = spanned-all plain r (omega (arith, span-le plain r));
         free = stop-fine _ _ _ _ (b .0);
         may = not-false _ (stop-fine _ _ _ _ (c .0));
-        ok = (eqb-true _ _ (not-false _ (stop-fine _ _ _ _ (d .0))), i .0, eqb-true _ _ (not-false _ (stop-fine _ _ _ _ (j .0))));
+        ok = (eqb-true _ _ (not-false _ (stop-fine _ _ _ _ (d .0))), i .0, j .0);
         rises = stop-fine _ _ _ _ (f .0);
         cover = stop-fine _ _ _ _ (g .0);
         apart = stop-fine _ _ _ _ (h .0);

@@ -118,13 +118,13 @@ module _ (file : List ℕ) (at k : ℕ) (st : State) (done : st .expect ≡ 9) (
 -- ---- the state is kept, and a fault's place lies in its record
 
 kept-first : (file : List ℕ) → Kept file 0 (closed 0 0 0 0 0 0)
-kept-first file = record { known = omega arith; within = omega arith; small = omega arith; channels = omega arith; days = omega arith }
+kept-first file = record { known = omega arith; begun = λ z. absurd (let y : ⊥ = omega arith in y); within = omega arith; small = omega arith; channels = omega arith; days = omega arith }
 
 module _ (file : List ℕ) (at e : ℕ) (t : Step) (r : Holds file at e t) where
   kept-on : (n : State) → t ≡ step.On n → Kept file (e + 2) n
   kept-on n q =
       let h : Kept file (e + 1) n = rw q at r in
-      record { known = h .known; within = h .within; small = h .small; channels = omega (arith, h .channels); days = omega (arith, h .days) }
+      record { known = h .known; begun = h .begun; within = h .within; small = h .small; channels = omega (arith, h .channels); days = omega (arith, h .days) }
 
   pub stop-within : (x o i : ℕ) → t ≡ step.Stop x o i → at + o ≤ e
   stop-within x o i q = rw q at r

@@ -13,7 +13,7 @@ use Rattle.ground.proofs.Cases.{by}
 use Rattle.format.specs.Bytes.{areAll}
 use Rattle.format.specs.Numbers.{numberOf}
 use Rattle.format.specs.Cut.{Lines, line, rest, lines, fields}
-use Rattle.format.specs.Records.{isKind, indicatorOf, kindIn, rowOf, countOf, ruleOf, obeys, intervalsIn, qualitiesOf, firstBroken}
+use Rattle.format.specs.Records.{isKind, indicatorOf, kindIn, rowOf, countOf, ruleOf, obeys, intervalsIn, qualitiesOf}
 use Rattle.format.specs.Order.{mayCome, inDay, isEnd, Due, begun, isVaried, on300, afterOf}
 use Rattle.format.specs.Answers.{accepted}
 use Rattle.format.specs.Faults.{isOpen, faultIn, brokenIn, isNotLater, isOff, isAlike, isElsewhere, faultOf}
@@ -164,7 +164,7 @@ abbrev nine : List ℕ
 nine = bytes "900"
 
 nine-fine : (st : Due) → inDay (st .expect) ≡ true → isOpen st 300 ≡ false → faultOf st nine ≡ Fine
-unfolding fields kindIn indicatorOf isKind numberOf areAll isDigit countOf rowOf faultIn obeys ruleOf brokenIn qualitiesOf firstBroken isNotLater isOff isAlike isElsewhere
+unfolding fields kindIn indicatorOf isKind numberOf areAll isDigit countOf rowOf faultIn obeys ruleOf brokenIn qualitiesOf isNotLater isOff isAlike isElsewhere
 nine-fine st l f =
     fit-fine st nine
     (record {

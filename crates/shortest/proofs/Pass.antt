@@ -10,8 +10,8 @@ use lib.Dec.{eqb}
 use borrow.Author.Tests.{eqb-true, eq-eqb, le-leb, lt-leb}
 use Rattle.ground.proofs.Cases.{by}
 use Rattle.format.specs.Cut.{Lines, line, rest, lines, fields}
-use Rattle.format.specs.Records.{kindIn, intervalsIn, dateIn, firstIn, lastIn}
-use Rattle.format.specs.Order.{mayCome, inDay, inVaried, Due, isVaried, alikeWith, on300, on400, on500, afterOf}
+use Rattle.format.specs.Records.{kindIn, intervalsIn, dateIn, firstIn, lastIn, markIn}
+use Rattle.format.specs.Order.{mayCome, inDay, inVaried, shareWith, Due, isVaried, alikeWith, on300, on400, on500, afterOf}
 use Rattle.format.specs.Faults.{size, isOpen, isNotLater, covers, isOff, isAlike, isElsewhere, faultOf}
 use Rattle.format.specs.File.{after, behind200}
 use Rattle.format.specs.Day.{Row, DayRows, runsFrom, dayFrom, daysFrom, Day, dayOf}
@@ -20,14 +20,14 @@ use Rattle.format.proofs.States.{implied}
 use Rattle.passing.specs.Passes.{Passes, kindsOf, areUnder, isBlock, Free, Accepted}
 use Rattle.passing.proofs.Fit.{Ok, fit-fine, free-if, free-400}
 use Rattle.passing.proofs.Steps.{blockFound, days-more}
-use Rattle.theorems.specs.Grammar.{Each, Record, join, text, IsRecord, Block, Covers, Marked, Extra, IsBlock}
+use Rattle.theorems.specs.Grammar.{Each, Record, join, text, IsRecord, Block, Covers, Extra, IsBlock}
 use Rattle.theorems.specs.Days.{recordAt, rowsAt, rowsOf, blockAt, dayIn, meant}
 use Rattle.theorems.proofs.Bytes.{lines-row}
 use Rattle.theorems.proofs.Rows.{Fields, record-fields, record-ok}
 use Rattle.theorems.proofs.Says.{date-some, day-on}
 use Rattle.theorems.proofs.Meaning.{day-anywhere}
 use Rattle.theorems.proofs.Takes.{fields-of}
-use Rattle.theorems.proofs.Apart.{Apart, apart-on, marked-end}
+use Rattle.theorems.proofs.Apart.{Apart, apart-on, end-apart, marked-end}
 use Rattle.shortest.specs.Blocks.{Reads, Says}
 
 -- ---- records as their fields, and as the lines of a file
@@ -128,17 +128,17 @@ extras-pass (r ∷ rs) st l f x =
     let w = extras-pass rs (on500 st r) refl (λ z. absurd (false≢true z)) (x .1) in
     record { end = w .end; passes = go-on st 500 r (x .0 .0) (cut rs) (w .end) (tests-500 st r (x .0) l f) (w .passes); free = w .free }
 
-runs-pass : (rs xs : List Record) (st : Due) → inVaried (st .expect) ≡ true → 1 ≤ st .next → Each (IsRecord 400 0) rs → Covers (st .n) (st .next) rs → Apart st rs → Each (Extra (st .date)) xs
+runs-pass : (rs xs : List Record) (st : Due) → inVaried (st .expect) ≡ true → 1 ≤ st .next → Each (IsRecord 400 0) rs → Covers (st .n) (st .next) rs → Apart (st .shared) rs → Each (Extra (st .date)) xs
     → Done st (cut (rs ++ xs))
-unfolding afterOf
+unfolding afterOf alikeWith
 runs-pass [] xs st x o h cv a g = extras-pass xs st (implied inVaried inDay refl (st .expect) x) (λ z. omega arith) g
 runs-pass (r ∷ rs) xs st x o h cv a g =
-    let on : alikeWith st r ≡ true → Marked (on400 st r .mark) rs → ⊥ = apart-on st r rs a in
+    let on : Apart (shareWith (st .shared) (markIn r)) rs = apart-on r rs (st .shared) a in
     let no : lastIn r ≡ st .n → alikeWith st r ≡ false =
-    λ z. by (alikeWith st r) (λ t. absurd (on t (marked-end (st .n) (lastIn r + 1) rs (on400 st r .mark) (omega arith) (cv .3)))) (λ t. t) in
+    λ z. end-apart (shareWith (st .shared) (markIn r)) rs (λ m. marked-end (st .n) (lastIn r + 1) rs m (omega arith) (cv .3)) on in
     let le : firstIn r ≤ lastIn r = cv .1 in
     let eq : firstIn r ≡ st .next = cv .0 in
-    let w = runs-pass rs xs (on400 st r) refl (omega arith) (h .1) (cv .3) (record { first = λ z q. (let y : lastIn r + 1 ≡ 1 = z in omega arith); later = λ z. on }) g in
+    let w = runs-pass rs xs (on400 st r) refl (omega arith) (h .1) (cv .3) on g in
     record { end = w .end; passes = go-on st 400 r (h .0) (cut (rs ++ xs)) (w .end) (tests-400 st r x (cv .0) (cv .1) (cv .2) no) (w .passes); free = w .free }
 
 block-pass : (b : Block) (st : Due) → IsBlock (st .n) b → Free st → st .date < dateIn (b .top) → Done st (cut (rowsOf b))
@@ -150,7 +150,7 @@ block-pass b st h f l = by (isVaried (st .n) (b .top)) varied alike
 
     varied : isVaried (st .n) (b .top) ≡ true → Done st (cut (rowsOf b))
     varied e =
-        under (runs-pass (b .runs) (b .extra) (on300 st (b .top)) (rw e) (omega arith) (h .runs) (h .covers e) (record { first = λ z. h .unlike e; later = λ z. absurd (z refl) }) (h .extra))
+        under (runs-pass (b .runs) (b .extra) (on300 st (b .top)) (rw e) (omega arith) (h .runs) (h .covers e) (h .unlike e) (h .extra))
 
     alike : isVaried (st .n) (b .top) ≡ false → Done st (cut (rowsOf b))
     alike e =

@@ -11,18 +11,18 @@ use Rattle.ground.specs.Lists.{all}
 use Rattle.ground.proofs.Cases.{by}
 use Rattle.format.specs.Bytes.{plain}
 use Rattle.format.specs.Cut.{lines, fields}
-use Rattle.format.specs.Records.{kindIn, versionIn, intervalsIn, dateIn, firstIn, lastIn}
-use Rattle.format.specs.Order.{Expected, mayCome, inDay, inVaried, Due, begun, isVaried, alikeWith, on100, on200, on300, on400, on500, on250, on550, afterOf}
+use Rattle.format.specs.Records.{kindIn, versionIn, intervalsIn, dateIn, firstIn, lastIn, markIn}
+use Rattle.format.specs.Order.{Expected, mayCome, inDay, inVaried, shareWith, Due, begun, isVaried, alikeWith, on100, on200, on300, on400, on500, on250, on550, afterOf}
 use Rattle.format.specs.Faults.{isOpen, size, isNotLater, covers, isOff, isAlike, isElsewhere}
 use Rattle.format.specs.Answers.{accepted}
 use Rattle.format.specs.File.{walkOf}
 use Rattle.format.proofs.States.{implied, excluded, not-ended}
 use Rattle.passing.proofs.Fit.{Ok, Fit, fit-fine, free-if, free-400}
-use Rattle.theorems.specs.Grammar.{Each, Rising, Record, join, text, IsRecord, Block, Covers, Marked, Extra, IsBlock, datesOf, Channel, IsChannel, Reading, IsReading, Content, nem12, nem13, IsContent, blocksThen, channelsThen, readingsThen, contentThen, channelsIn, blocksIn, daysIn, InFormat}
+use Rattle.theorems.specs.Grammar.{Each, Rising, Record, join, text, IsRecord, Block, Covers, Extra, IsBlock, datesOf, Channel, IsChannel, Reading, IsReading, Content, nem12, nem13, IsContent, blocksThen, channelsThen, readingsThen, contentThen, channelsIn, blocksIn, daysIn, InFormat}
 use Rattle.theorems.proofs.Bytes.{fields-join, plain-join, lines-row}
 use Rattle.theorems.proofs.Rows.{Fields, record-fields, record-ok}
 use Rattle.theorems.proofs.Says.{date-some, day-on}
-use Rattle.theorems.proofs.Apart.{Apart, apart-on, marked-end}
+use Rattle.theorems.proofs.Apart.{Apart, apart-on, end-apart, marked-end}
 
 -- ---- one record on
 
@@ -142,21 +142,21 @@ takes-extras (x ∷ xs) rows v c d st f h g =
     (λ after q. g after (kin-on st (on500 st x) after kin q))))
 
 takes-runs : (rs rows : List Record) (v c d : ℕ) (st : Due) → inVaried (st .expect) ≡ true → 1 ≤ st .next → Each (IsRecord 400 0) rs → Covers (st .n) (st .next) rs
-    → Apart st rs → ((after : Due) → Kin st after → Full after → Takes after rows v c d) → Takes st (rs ++ rows) v c d
-unfolding afterOf
+    → Apart (st .shared) rs → ((after : Due) → Kin st after → Full after → Takes after rows v c d) → Takes st (rs ++ rows) v c d
+unfolding afterOf alikeWith
 takes-runs [] rows v c d st x o h cv a g =
     g st (record { n = refl; date = refl; version = refl; channels = refl; days = refl }) (record { inside = implied inVaried inDay refl (st .expect) x; full = λ z. omega arith })
 takes-runs (r ∷ rs) rows v c d st x o h cv a g =
     let kin : Kin st (on400 st r) = record { n = refl; date = refl; version = refl; channels = refl; days = refl } in
-    let on : alikeWith st r ≡ true → Marked (on400 st r .mark) rs → ⊥ = apart-on st r rs a in
+    let on : Apart (shareWith (st .shared) (markIn r)) rs = apart-on r rs (st .shared) a in
     let no : lastIn r ≡ st .n → alikeWith st r ≡ false =
-    λ z. by (alikeWith st r) (λ t. absurd (on t (marked-end (st .n) (lastIn r + 1) rs (on400 st r .mark) (omega arith) (cv .3)))) (λ t. t) in
+    λ z. end-apart (shareWith (st .shared) (markIn r)) rs (λ m. marked-end (st .n) (lastIn r + 1) rs m (omega arith) (cv .3)) on in
     let le : firstIn r ≤ lastIn r = cv .1 in
     let eq : firstIn r ≡ st .next = cv .0 in
     takes-row st r (rs ++ rows) v c d (record-fields 400 0 r (h .0)) (pass-400 st r (h .0) x (cv .0) (cv .1) (cv .2) no)
     (rw (h .0 .indicator)
     (takes-runs rs rows v c d (on400 st r) refl (omega arith) (h .1) (cv .3)
-    (record { first = λ z w. (let y : lastIn r + 1 ≡ 1 = z in omega arith); later = λ z. on })
+    on
     (λ after q. g after (kin-on st (on400 st r) after kin q))))
 
 -- a day: its 300, its 400s where it has V, its 500s
@@ -170,7 +170,7 @@ a-day b rows v c d st m f h t g =
   where
     varied : isVaried (st .n) (b .top) ≡ true → Takes (on300 st (b .top)) (b .runs ++ (b .extra ++ rows)) v c d
     varied e =
-        takes-runs (b .runs) (b .extra ++ rows) v c d (on300 st (b .top)) (rw e) (omega arith) (h .runs) (h .covers e) (record { first = λ z. h .unlike e; later = λ z. absurd (z refl) })
+        takes-runs (b .runs) (b .extra ++ rows) v c d (on300 st (b .top)) (rw e) (omega arith) (h .runs) (h .covers e) (h .unlike e)
         (λ after k x. takes-extras (b .extra) rows v c d after x (rw (k .date) (h .extra)) (λ last q. g last (kin-on (on300 st (b .top)) after last k q)))
 
     uniform : isVaried (st .n) (b .top) ≡ false → Takes (on300 st (b .top)) (b .runs ++ (b .extra ++ rows)) v c d

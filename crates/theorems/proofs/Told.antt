@@ -9,8 +9,8 @@ use lib.Dec.{eqb}
 use borrow.Author.Tests.{eqb-true, eqb-false, eq-eqb, ne-eqb, not-false}
 use Rattle.ground.proofs.Cases.{by}
 use Rattle.format.specs.Cut.{Lines, line, rest, lines, fields}
-use Rattle.format.specs.Records.{kindIn, versionIn, dateIn, firstIn, lastIn, readTimeIn}
-use Rattle.format.specs.Order.{the100, first200, first300, first250, kindsAt, mayCome, inDay, inVaried, isEnd, Due, begun, isVaried, alikeWith, on100, on200, on300, on400, on500, on250, on550, on900}
+use Rattle.format.specs.Records.{kindIn, versionIn, dateIn, firstIn, lastIn, readTimeIn, markIn}
+use Rattle.format.specs.Order.{the100, first200, first300, first250, kindsAt, mayCome, inDay, inVaried, isEnd, shareWith, Due, begun, isVaried, alikeWith, on100, on200, on300, on400, on500, on250, on550, on900}
 use Rattle.format.specs.Faults.{covers, isAlike, onDay, isElsewhere}
 use Rattle.format.specs.Answers.{accepted}
 use Rattle.format.specs.File.{after, walkOf}
@@ -23,7 +23,7 @@ use Rattle.theorems.specs.Grammar.{Each, Rising, Record, text, IsRecord,
 use Rattle.theorems.proofs.Bytes.{join-fields, fields-bytes}
 use Rattle.theorems.proofs.Rows.{Fields, is-record}
 use Rattle.theorems.proofs.Says.{intervals-some, version-13, on-day}
-use Rattle.theorems.proofs.Apart.{Apart, apart-back}
+use Rattle.theorems.proofs.Apart.{Apart, apart-back, apart-end}
 
 -- ---- one record on
 
@@ -89,7 +89,7 @@ pub record Under (st : Due) (ls : Lines) (v c d : ℕ) : Type 0 where
   pub runs : List Record
   pub each : Each (IsRecord 400 0) runs
   pub covers : Covers (st .n) (st .next) runs
-  pub apart : Apart st runs
+  pub apart : Apart (st .shared) runs
   pub extra : List Record
   pub fit : Each (Extra (st .date)) extra
   pub rows : List Record
@@ -133,7 +133,7 @@ pub record Inner (st : Due) : Type 0 where
   pub some : 1 ≤ st .n
   pub low : 1 ≤ st .next
   pub high : st .next ≤ st .n + 1
-  pub apart : st .n < st .next → st .alike ≡ false
+  pub apart : st .n < st .next → Apart (st .shared) []
 
 pub record Told (ls : Lines) (v c d : ℕ) : Type 0 where
   pub ext : (st : Due) (p k : ℕ) → 1 ≤ st .n → inDay (st .expect) ≡ true → inVaried (st .expect) ≡ false → walkOf st p k ls ≡ accepted (v ∷ c ∷ d ∷ []) → Extras st ls v c d
@@ -227,7 +227,7 @@ module _ (st : Due) (p k v c d : ℕ) (r : List ℕ) (ls : Lines) (ih : Told ls 
       let g = fit-300 st r fit q .0 in
       by (isVaried (st .n) (fields r))
       (λ t.
-      let u = ih .under (on300 st (fields r)) p k (record { in-v = rw t; some = s; low = omega arith; high = omega arith; apart = λ z. refl }) h in
+      let u = ih .under (on300 st (fields r)) p k (record { in-v = rw t; some = s; low = omega arith; high = omega arith; apart = λ z. absurd (let y : ⊥ = omega arith in y) }) h in
       a-day (record { top = fields r; runs = u .runs; extra = u .extra }) (u .rows) q refl
       (record {
         top = g;
@@ -235,7 +235,7 @@ module _ (st : Due) (p k v c d : ℕ) (r : List ℕ) (ls : Lines) (ih : Told ls 
         extra = u .fit;
         only-v = λ z. absurd (true≢false (sym t ∙ z));
         covers = λ z. u .covers;
-        unlike = λ z. u .apart .first refl;
+        unlike = λ z. u .apart;
       })
       (u .more) (u .bytes))
       (λ t.
@@ -252,7 +252,7 @@ module _ (st : Due) (p k v c d : ℕ) (r : List ℕ) (ls : Lines) (ih : Told ls 
       (u .more) (u .bytes))
 
   by-400 : Inner st → kindIn (fields r) ≡ 400 → Under st (line r ls) v c d
-  unfolding isAlike
+  unfolding isAlike alikeWith
   by-400 i q =
       let fs : Record = fields r in
       let x = fit-cover st r fit q in
@@ -260,14 +260,14 @@ module _ (st : Due) (p k v c d : ℕ) (r : List ℕ) (ls : Lines) (ih : Told ls 
       let o : firstIn fs ≤ lastIn fs = x .1 in
       let w : lastIn fs ≤ st .n = x .2 in
       let t : (eqb (lastIn fs) (st .n) && alikeWith st fs) ≡ false = rw q at (fit .apart) in
-      let no : st .n < lastIn fs + 1 → alikeWith st fs ≡ false =
-      λ z. (let b : lastIn fs ≡ st .n = omega arith in let g : alikeWith st fs ≡ false = (rw (eq-eqb _ _ b) at t) in g) in
+      let no : st .n < lastIn fs + 1 → Apart (shareWith (st .shared) (markIn fs)) [] =
+      λ z. (let b : lastIn fs ≡ st .n = omega arith in apart-end (st .shared) (markIn fs) (rw (eq-eqb _ _ b) at t)) in
       let u = ih .under (on400 st fs) p k (record { in-v = refl; some = i .some; low = omega arith; high = omega arith; apart = no }) (rw (after-400 st r q) at e) in
       record {
         runs = fs ∷ u .runs;
         each = (fit-rec st r 400 fit q (λ z. omega arith) (λ z. omega arith), u .each);
         covers = (a, o, w, u .covers);
-        apart = apart-back st fs (u .runs) (u .apart .later (λ z. omega (arith, i .low)));
+        apart = apart-back fs (u .runs) (st .shared) (u .apart);
         extra = u .extra;
         fit = u .fit;
         rows = u .rows;
@@ -361,7 +361,7 @@ no-runs st ls v c d i x u =
       runs = [];
       each = tt;
       covers = (let y = i .high in omega arith);
-      apart = record { first = λ z. absurd (let y : ⊥ = omega (arith, i .some) in y); later = λ z a b. true≢false (sym a ∙ i .apart x) };
+      apart = i .apart x;
       extra = u .extra;
       fit = u .fit;
       rows = u .rows;
