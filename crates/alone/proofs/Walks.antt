@@ -32,7 +32,8 @@ use Rattle.walker.proofs.Handed.{handed-none, handed-looked, handed-inside, han
 use Rattle.order.specs.declared.State.{State}
 use Rattle.order.specs.declared.Step.{Step}
 use Rattle.order.specs.declared.Step.the-variants as step
-use Rattle.order.specs.State.{seen, closed, Kept, nextOf, stepAs, Holds}
+use Rattle.order.specs.State.{expectedAs, seen, closed, Kept, between, nextOf, stepAs, Holds}
+use Rattle.order.proofs.Expected.{is-400, is-500}
 use Rattle.order.proofs.Next.{gone, stopped, kept-on, stop-within}
 use Rattle.alone.specs.declared.BlockWalk.{BlockWalk}
 use Rattle.alone.specs.declared.BlockTurn.{BlockTurn}
@@ -88,37 +89,41 @@ module _ (memory : List ℕ) (at : ℕ) (f : Found) (l : Looked memory at (f .en
     foreign-is t e = rw (plain-here h, ← ek, ← eo, t) e
 
 -- under the block's day, by the tests of the code
-module _ (x k : ℕ) {i : Bool} (ei : i ≡ inDay x) where
-  pub leaves-none : not i ≡ true → false ≡ inDay x && not (eqb k 400 || eqb k 500)
-  leaves-none h = rw (← ei, not-true i h)
+module _ (x k : ℕ) {i : Bool} (ei : i ≡ between 3 5 x) where
+  in-day : inDay (expectedAs x) ≡ i
+  in-day = sym (ei ∙ is-500 x)
+
+  pub leaves-none : not i ≡ true → false ≡ inDay (expectedAs x) && not (eqb k 400 || eqb k 500)
+  leaves-none h = rw (in-day, not-true i h)
 
   module _ (h : not i ≡ false) where
-    pub leaves-400 : k ≡ 400 → false ≡ inDay x && not (eqb k 400 || eqb k 500)
-    leaves-400 e = rw (← ei, not-false i h, e)
+    pub leaves-400 : k ≡ 400 → false ≡ inDay (expectedAs x) && not (eqb k 400 || eqb k 500)
+    leaves-400 e = rw (in-day, not-false i h, e)
 
-    pub leaves-other : {b : Bool} → (k ≡ 400 → ⊥) → b ≡ not (eqb k 500) → b ≡ inDay x && not (eqb k 400 || eqb k 500)
-    leaves-other e eb = rw (← ei, not-false i h, ne-eqb k 400 e) eb
+    pub leaves-other : {b : Bool} → (k ≡ 400 → ⊥) → b ≡ not (eqb k 500) → b ≡ inDay (expectedAs x) && not (eqb k 400 || eqb k 500)
+    leaves-other e eb = rw (in-day, not-false i h, ne-eqb k 400 e) eb
 
 -- the tests of the code's state
 module _ (memory : List ℕ) (st : State) (k : ℕ) {b : Bool} where
   pub open-is : b ≡ eqb (st .expect) 4 && (leb (st .next) (st .n) && not (eqb k 400)) → b ≡ isOpen (seen memory st) k
   unfolding isOpen
-  open-is e = e
+  open-is e = e ∙ rw (is-400 (st .expect))
 
-  pub leaves-is : b ≡ inDay (st .expect) && not (eqb k 400 || eqb k 500) → b ≡ isForeign (seen memory st) k
+  pub leaves-is : b ≡ inDay (expectedAs (st .expect)) && not (eqb k 400 || eqb k 500) → b ≡ isForeign (seen memory st) k
   unfolding isForeign
   leaves-is e = e
 
 -- ---- the walk on its way
 
 pub walking-first : (memory : List ℕ) (start n e : ℕ) (t : BlockWalk) → t ≡ firstWalk start n → LineEnd memory start e → n ≤ 288 → Walking memory start n t
+unfolding expectedAs
 walking-first memory start n e t q h s =
     rw q
     (record {
       order = omega arith;
       within = omega (arith, h .order, h .within);
       few = omega arith;
-      kept = record { within = omega arith; small = s; channels = omega arith; days = omega arith };
+      kept = record { known = omega arith; begun = λ z. absurd (let y : ⊥ = omega arith in y); within = omega arith; small = s; channels = omega arith; days = omega arith };
       walked = refl;
     })
 
@@ -199,7 +204,10 @@ module _ (memory : List ℕ) (start n : ℕ) (t : BlockWalk) (g : Walking memory
   abbrev at-end : Due
   at-end = seen memory (t .state)
 
-  module _ {i : Bool} (ei : i ≡ inDay (at-end .expect)) where
+  module _ {i : Bool} (eb : i ≡ between 3 5 (t .state .expect)) where
+    ei : i ≡ inDay (at-end .expect)
+    ei = eb ∙ is-500 (t .state .expect)
+
     pub end-none : {a : Answer} → a ≡ refused 2 (t .at - start) (t .records) 0 → not i ≡ true → a ≡ wholeOf memory start n
     unfolding blockWalkOf
     end-none q h = q ∙ sym (g .walked ∙ rw (no, ← ei, not-true i h))

@@ -3,8 +3,6 @@
 use day::fields::skip;
 use day::head::head_at;
 use day::head::times_at;
-use follows::in_day;
-use follows::is_open;
 use format::BlockChecked;
 use format::Refusal;
 use lines::Found;
@@ -12,6 +10,8 @@ use lines::line_end;
 use number_rules::intervals;
 use order::State;
 use order::Step;
+use order::tests::in_day;
+use order::tests::is_open;
 use says::kind_at;
 use walker::Record;
 use walker::record_at;
@@ -27,7 +27,7 @@ ghost use Rattle.format.specs.Order.{inDay};
 ghost use Rattle.format.specs.Answers.{blockCheckedAs};
 ghost use Rattle.format.specs.File.{blockCheckOf};
 ghost use Rattle.lines.specs.Places.{LineEnd, Looked};
-ghost use Rattle.order.specs.State.{seen};
+ghost use Rattle.order.specs.State.{expectedAs, seen};
 ghost use Rattle.alone.specs.Walk.{refusedAt, wholeOf, isForeignHere, firstWalk, Walking, Turned};
 ghost use Rattle.alone.specs.declared.BlockTurn.the-variants.{End};
 
@@ -54,7 +54,7 @@ pub struct Said {
 
 // Under the block's day, a record that is neither a 400 nor a 500.
 fn leaves_day(expect: u64, kind: u64) -> bool
-    ensures { λ r. ⌜ r ≡ inDay expect && not (eqb kind 400 || eqb kind 500) ⌝ }
+    ensures { λ r. ⌜ r ≡ inDay (expectedAs expect) && not (eqb kind 400 || eqb kind 500) ⌝ }
 {
     if !in_day(expect) {
         return false;

@@ -3,6 +3,7 @@ pub mod Dates
 pub mod Quality
 pub mod Cut
 pub mod Shapes
+pub mod States
 pub mod NumberText
 pub mod ValueText
 pub mod MarkText

@@ -15,8 +15,8 @@ use Rattle.format.specs.Numbers.{numberOf, leadingZero, smallOf, interva
 use Rattle.format.specs.Dates.{isLeap, daysIn, isDay, isDate, isTime, isMinute, dateOf, timeOf, createdOf, nextReadOf, loadOf, readTimeOf}
 use Rattle.format.specs.Quality.{standsAlone, takesMethod, qualityOf, needsReason, across, sameMark}
 use Rattle.format.specs.Cut.{lines, fields, startOf}
-use Rattle.format.specs.Records.{isKind, indicatorOf, kindIn, rowOf, countOf, ruleOf, obeys, versionIn, intervalsIn, dateIn, firstIn, lastIn, readTimeIn, qualitiesOf, markAt, agrees, firstBroken}
-use Rattle.format.specs.Order.{mayCome, isVaried, alikeWith, afterOf}
+use Rattle.format.specs.Records.{isKind, indicatorOf, kindIn, rowOf, countOf, ruleOf, obeys, versionIn, intervalsIn, dateIn, firstIn, lastIn, readTimeIn, qualitiesOf, markAt, agrees}
+use Rattle.format.specs.Order.{isVaried, alikeWith, afterOf}
 use Rattle.format.specs.Faults.{isOpen, faultIn, brokenIn, isNotLater, covers, isOff, isAlike, onDay, isElsewhere, faultAt, faultOf}
 use Rattle.format.specs.Answers.{accepted, refused}
 use Rattle.format.specs.File.{walkOf, checkOf}
@@ -71,7 +71,7 @@ pub record Refusals : Type 0 where
   pub none : checkOf thirteen ≡ accepted (13 ∷ 1 ∷ 0 ∷ [])
 
 pub refusals : Refusals
-unfolding spanOf same isDigit isCapital isLetter isAlnum endSpace isText areAll isNmi isSuffix isStream isParty isConfiguration isRegister isSerial isUnit isServiceOrder isDescription isDirection isTransCode versionOf numberOf leadingZero smallOf intervalOf isLength lengthOf intervalsOf reasonOf fractionOf valueOf areDigits isRead isIndexRead isLeap daysIn isDay isDate isTime isMinute dateOf timeOf createdOf nextReadOf loadOf readTimeOf standsAlone takesMethod qualityOf needsReason across sameMark lines fields startOf isKind indicatorOf kindIn rowOf countOf ruleOf obeys versionIn intervalsIn dateIn firstIn lastIn readTimeIn qualitiesOf markAt agrees firstBroken mayCome isVaried alikeWith afterOf isOpen faultIn brokenIn isNotLater covers isOff isAlike onDay isElsewhere faultAt faultOf walkOf checkOf
+unfolding spanOf same isDigit isCapital isLetter isAlnum endSpace isText areAll isNmi isSuffix isStream isParty isConfiguration isRegister isSerial isUnit isServiceOrder isDescription isDirection isTransCode versionOf numberOf leadingZero smallOf intervalOf isLength lengthOf intervalsOf reasonOf fractionOf valueOf areDigits isRead isIndexRead isLeap daysIn isDay isDate isTime isMinute dateOf timeOf createdOf nextReadOf loadOf readTimeOf standsAlone takesMethod qualityOf needsReason across sameMark lines fields startOf isKind indicatorOf kindIn rowOf countOf ruleOf obeys versionIn intervalsIn dateIn firstIn lastIn readTimeIn qualitiesOf markAt agrees isVaried alikeWith afterOf isOpen faultIn brokenIn isNotLater covers isOff isAlike onDay isElsewhere faultAt faultOf walkOf checkOf
 refusals =
     record {
       r1 = λ file h. rw (lt-ltb _ _ h);

@@ -1,6 +1,6 @@
 -- 01, Refusal numbers, the table from 3 to 12, one definition each, and their order: "In one record: 2, 3, 10, 4, 5, 6 (leftmost field), 7 (leftmost
 -- quality), 8 or 9, 11 or 12." A fault's place counts from the record's start; the walk over the file adds the rest.
-use Prim.Native.Nat.{ℕ, _+_, _-_, _/_}
+use Prim.Native.Nat.{ℕ, _+_, _/_}
 use mathlib.Core.List.{List, [], _∷_}
 use mathlib.Core.Bool.{Bool, cond, not, _&&_, _||_}
 use lib.ListN.{length}
@@ -8,8 +8,8 @@ use lib.Dec.{leb, ltb, eqb}
 use Rattle.ground.specs.Lists.{spanOf}
 use Rattle.format.specs.Bytes.{plain}
 use Rattle.format.specs.Cut.{fields, startOf}
-use Rattle.format.specs.Records.{kindIn, countOf, ruleOf, obeys, dateField, dateIn, firstField, firstIn, lastIn, readTimeField, readTimeIn, qualitiesOf, firstBroken}
-use Rattle.format.specs.Order.{Due, mayCome, alikeWith}
+use Rattle.format.specs.Records.{kindIn, countOf, ruleOf, obeys, dateField, dateIn, firstField, firstIn, lastIn, readTimeField, readTimeIn, qualitiesOf, markAt, agrees}
+use Rattle.format.specs.Order.{Due, mayCome, inVaried, alikeWith}
 use Rattle.format.specs.declared.Fault.{Fault}
 use Rattle.format.specs.declared.Fault.the-variants.{Fine, Stop}
 
@@ -29,7 +29,7 @@ f3 r = stop (ltb (spanOf plain r) (length r)) 3 (spanOf plain r) 0
 
 -- "a V day's cover isn't complete and this record isn't a 400": the cover is complete once the next interval is past n
 unfoldable pub isOpen : Due → ℕ → Bool
-isOpen st k = eqb (st .expect) 4 && (leb (st .next) (st .n) && not (eqb k 400))
+isOpen st k = inVaried (st .expect) && (leb (st .next) (st .n) && not (eqb k 400))
 
 abbrev pub f10 : Due → ℕ → Fault
 f10 st k = stop (isOpen st k) 10 0 0
@@ -54,12 +54,13 @@ faultIn k n o i (f ∷ fs) = cond (obeys k (ruleOf k n i) f) (faultIn k n (o + l
 abbrev pub f6 : ℕ → ℕ → List (List ℕ) → Fault
 f6 k n fs = faultIn k n 0 0 fs
 
--- "a rule across fields is broken": start of the leftmost such quality field
-unfoldable pub brokenIn : ℕ → ℕ → List (List ℕ) → ℕ
-brokenIn k n fs = firstBroken k fs (qualitiesOf k n)
+-- "a rule across fields is broken": start of the leftmost such quality field, of those with these numbers from 0
+unfoldable pub brokenIn : ℕ → List (List ℕ) → List ℕ → Fault
+brokenIn k fs [] = Fine
+brokenIn k fs (i ∷ is) = cond (agrees (markAt k i fs)) (brokenIn k fs is) (Stop 7 (startOf i fs) (i + 1))
 
 abbrev pub f7 : ℕ → ℕ → List (List ℕ) → Fault
-f7 k n fs = stop (not (eqb (brokenIn k n fs) 0)) 7 (startOf (brokenIn k n fs - 1) fs) (brokenIn k n fs)
+f7 k n fs = brokenIn k fs (qualitiesOf k n)
 
 -- "date not later than the day before it in this 200": date field
 unfoldable pub isNotLater : Due → ℕ → List (List ℕ) → Bool

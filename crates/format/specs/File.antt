@@ -9,7 +9,7 @@ use Rattle.format.specs.Cut.{Lines, line, rest, lines, fields}
 use Rattle.format.specs.Numbers.{intervalsOf}
 use Rattle.format.specs.Records.{kindIn, dateIn, updateIn, loadIn}
 use Rattle.format.specs.Answers.{Answer, accepted, refused, refusal}
-use Rattle.format.specs.Order.{Due, due, begun, inDay, afterOf}
+use Rattle.format.specs.Order.{first300, isEnd, Due, due, begun, inDay, afterOf}
 use Rattle.format.specs.Faults.{_▹_, stop, f3, isOpen, f10, faultOf}
 use Rattle.format.specs.declared.Fault.{Fault}
 use Rattle.format.specs.declared.Fault.the-variants.{Fine, Stop}
@@ -26,11 +26,11 @@ orGoOn p k (Stop x o i) a = refused x (p + o) k i
 -- the answer from record k on, which starts at p
 unfoldable pub walkOf : Due → ℕ → ℕ → Lines → Answer
 walkOf st p k (rest t) =
-    cond (eqb (st .expect) 9)
+    cond (isEnd (st .expect))
     (cond (eqb (length t) 0) (accepted (st .version ∷ st .channels ∷ st .days ∷ [])) (refused 13 p k 0))
     (refused 2 p k 0)
 walkOf st p k (line r ls) =
-    cond (eqb (st .expect) 9) (refused 13 p k 0) (orGoOn p k (faultOf st r) (walkOf (after st r) (p + length r + 2) (k + 1) ls))
+    cond (isEnd (st .expect)) (refused 13 p k 0) (orGoOn p k (faultOf st r) (walkOf (after st r) (p + length r + 2) (k + 1) ls))
 
 abbrev pub most : ℕ
 most = 1048576
@@ -46,7 +46,7 @@ checkOf file = cond (ltb most (length file)) (refusal 1) (walkOf begun 0 0 (line
 
 -- behind a 200 of n intervals
 abbrev pub behind200 : ℕ → Due
-behind200 n = due 2 12 n 0 0 0
+behind200 n = due first300 12 n 0 0 0
 
 -- "first record must be a 300" (no other may come behind a 200), "and what follows may only be a 400 or a 500"
 unfoldable pub isForeign : Due → ℕ → Bool

@@ -211,8 +211,3 @@ markIn fs = markAt 400 quality400 fs
 -- a mark keeps the rules across fields
 unfoldable pub agrees : Mark → Bool
 agrees m = across (m .flag) (m .reason) (length (m .text))
-
--- of the quality fields with the numbers from 0 that are listed, the number from 1 of the first that breaks a rule across fields, 0 if none does
-unfoldable pub firstBroken : ℕ → List (List ℕ) → List ℕ → ℕ
-firstBroken k fs [] = 0
-firstBroken k fs (i ∷ is) = cond (agrees (markAt k i fs)) (firstBroken k fs is) (i + 1)

@@ -1,18 +1,18 @@
 -- The step over one record: the chain of refusals from 3 to 6, and the record's own method by its kind. Assumes nothing.
 use Prim.Native.Nat.{ℕ, _+_, _-_, _≤_, _<_}
-use mathlib.Core.Path.{_≡_, sym, _∙_}
+use mathlib.Core.Path.{_≡_, refl, sym, _∙_}
 use mathlib.Core.List.{List}
-use mathlib.Core.Bool.{Bool, true, false, cond, not, _&&_, false≢true}
+use mathlib.Core.Bool.{Bool, true, false, cond, not, _&&_, true≢false}
 use native.Mathlib.Omega.{arith}
 use lib.ListN.{length}
 use lib.Dec.{eqb, leb}
-use borrow.Author.Tests.{eq-eqb, ne-eqb, le-ltb, lt-ltb, not-true, not-false}
+use borrow.Author.Tests.{eqb-true, eq-eqb, ne-eqb, le-ltb, lt-ltb, not-true, not-false}
 use Rattle.ground.specs.Lists.{spanOf, part}
 use Rattle.ground.proofs.Spans.{part-length}
 use Rattle.format.specs.Bytes.{plain}
 use Rattle.format.specs.Cut.{fields}
-use Rattle.format.specs.Records.{kindIn, rowOf, countOf, qualitiesOf, firstBroken}
-use Rattle.format.specs.Order.{Due, mayCome, on100, on200, afterOf}
+use Rattle.format.specs.Records.{kindIn, rowOf, countOf, qualitiesOf}
+use Rattle.format.specs.Order.{Expected, mayCome, Due, on100, on200, afterOf}
 use Rattle.format.specs.Faults.{size, isOpen, brokenIn, isNotLater, isOff, isAlike, isElsewhere, faultIn, faultAt, faultOf}
 use Rattle.format.specs.declared.Fault.the-variants.{Fine, Stop}
 use Rattle.format.specs.declared.Tag.{Tag}
@@ -26,7 +26,9 @@ use Rattle.record.specs.declared.Walked.the-variants as walked
 use Rattle.record.proofs.Turns.{second-field}
 use Rattle.rows.proofs.Rows.{count-300}
 use Rattle.order.specs.declared.State.{State}
-use Rattle.order.specs.State.{seen, closed, Kept, cells, Here, After, Ready, Next, goes, stops, orStop, nextOf, lateOf, furtherOf, lastOf}
+use Rattle.order.specs.State.{expectedAs, seen, closed, Kept, cells, Here, After, Ready, Next, goes, stops, orStop, nextOf, lateOf, furtherOf, lastOf}
+use Rattle.format.proofs.States.{no-kind}
+use Rattle.order.proofs.Expected.{is-400}
 use Rattle.order.proofs.Late.{late-none}
 
 -- ---- the places that a record's method asks for
@@ -69,7 +71,7 @@ module _ (st : Due) (k : ℕ) (fs : List (List ℕ)) where
 
   -- a kind with no refusal behind 6
   quiet : (k ≡ 300 → ⊥) → (k ≡ 400 → ⊥) → (k ≡ 500 → ⊥) → (k ≡ 250 → ⊥) → goes (afterOf st k fs) ≡ lastOf st k fs
-  unfolding brokenIn qualitiesOf firstBroken isNotLater isOff isAlike isElsewhere
+  unfolding brokenIn qualitiesOf isNotLater isOff isAlike isElsewhere
   quiet a b c d =
       late-none st k fs (rw (ne-eqb _ _ a, ne-eqb _ _ b, ne-eqb _ _ d)) (rw (ne-eqb _ _ a)) (rw (ne-eqb _ _ b)) (rw (ne-eqb _ _ b)) (rw (ne-eqb _ _ c))
 
@@ -85,13 +87,13 @@ module _ (file : List ℕ) (at e k : ℕ) (st s : State) where
       rw h (rw (a .is) (quiet (seen file st) 200 (cells file at e) (λ z. omega arith) (λ z. omega arith) (λ z. omega arith) (λ z. omega arith)))
 
   pub went-550 : k ≡ 550 → s ≡ closed 8 (st .version) 0 0 (st .channels) (st .days) → goes (seen file s) ≡ lastOf (seen file st) k (cells file at e)
-  unfolding afterOf
+  unfolding afterOf expectedAs
   went-550 h q =
       rw (h, q) (quiet (seen file st) 550 (cells file at e) (λ z. omega arith) (λ z. omega arith) (λ z. omega arith) (λ z. omega arith))
 
   pub went-900 : (k ≡ 100 → ⊥) → (k ≡ 200 → ⊥) → (k ≡ 300 → ⊥) → (k ≡ 400 → ⊥) → (k ≡ 500 → ⊥) → (k ≡ 250 → ⊥) → (k ≡ 550 → ⊥)
       → s ≡ closed 9 (st .version) 0 0 (st .channels) (st .days) → goes (seen file s) ≡ lastOf (seen file st) k (cells file at e)
-  unfolding afterOf
+  unfolding afterOf expectedAs
   went-900 a b c d f g h q =
       let w : afterOf (seen file st) k (cells file at e) ≡ seen file s =
       rw (q, ne-eqb _ _ a, ne-eqb _ _ b, ne-eqb _ _ c, ne-eqb _ _ d, ne-eqb _ _ f, ne-eqb _ _ g, ne-eqb _ _ h) in
@@ -190,9 +192,8 @@ size-small file at k n st r e = go (eqb k 300) e
     go false q = omega arith
 
 -- no record of no kind may come
-some-kind : (x k : ℕ) → mayCome x k ≡ true → k ≡ 0 → ⊥
-unfolding mayCome
-some-kind x k t h = false≢true (rw h at t)
+some-kind : (x : Expected) (k : ℕ) → mayCome x k ≡ true → k ≡ 0 → ⊥
+some-kind x k t h = true≢false (sym t ∙ rw h (no-kind x 0 refl refl refl refl refl refl refl refl))
 
 module _ (file : List ℕ) (at e bad commas : ℕ) (st : State) (l : Looked file at e bad commas) where
   span : spanOf plain (part file at e) ≡ bad - at
@@ -213,21 +214,25 @@ module _ (file : List ℕ) (at e bad commas : ℕ) (st : State) (l : Looked file
 
     opens : isOpen (seen file st) k ≡ o
     unfolding isOpen
-    opens = sym eo
+    opens = rw (← is-400 (st .expect)) (sym eo)
 
     pub step-10 : o ≡ true → stops 10 0 0 ≡ nextOf (seen file st) (part file at e)
     step-10 t = rw reached (chain-10 (seen file st) k (cells file at e) (opens ∙ t))
 
-    module _ {m : Bool} (no-10 : o ≡ false) (em : m ≡ mayCome (st .expect) k) where
+    module _ {m : Bool} (no-10 : o ≡ false) (em : m ≡ mayCome (expectedAs (st .expect)) k) where
       pub step-4 : not m ≡ true → stops 4 0 0 ≡ nextOf (seen file st) (part file at e)
       step-4 t = rw reached (chain-4 (seen file st) k (cells file at e) (opens ∙ no-10) (sym em ∙ not-true m t))
 
       module _ (n c : ℕ) (no-4 : not m ≡ false) (en : n ≡ cond (eqb k 300) (st .n) 0) (ec : c ≡ countOf k n) where
-        comes : mayCome (st .expect) k ≡ true
+        comes : mayCome (expectedAs (st .expect)) k ≡ true
         comes = sym em ∙ not-false m no-4
 
         counted : length (cells file at e) ≡ commas + 1
         counted = let q : bad ≡ e = omega (arith, l .within) in rw (← q) (sym (l .count))
+
+        -- the 400s of a V day are under way
+        pub begun-400 : Kept file at st → k ≡ 400 → 1 ≤ st .next
+        begun-400 r z = r .begun (eqb-true _ _ (is-400 (st .expect) ∙ (rw z at comes)))
 
         pub step-5 : (commas + 1 ≡ c → ⊥) → stops 5 0 0 ≡ nextOf (seen file st) (part file at e)
         step-5 t =
@@ -240,7 +245,7 @@ module _ (file : List ℕ) (at e bad commas : ℕ) (st : State) (l : Looked file
               order = l .ends .order;
               within = l .ends .within;
               kind = ek;
-              some = some-kind (st .expect) k comes;
+              some = some-kind (expectedAs (st .expect)) k comes;
               small = size-small file at k n st r en;
               count = counted ∙ t ∙ ec;
             }

@@ -17,8 +17,7 @@ use Rattle.format.specs.Day.{rowAt, tagAt}
 use Rattle.format.specs.declared.Tag.{Tag}
 use Rattle.lines.proofs.Cuts.{field-lies}
 use Rattle.says.proofs.Fields.{tag-moves}
-use Rattle.follows.specs.Follows.{markOf}
-use Rattle.order.specs.State.{cells, Here}
+use Rattle.order.specs.State.{markOf, cells, Here}
 
 no-bytes : (s : List ℕ) → length s ≡ 0 → s ≡ []
 no-bytes [] h = refl

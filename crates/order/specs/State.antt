@@ -2,14 +2,14 @@
 use Prim.Native.Nat.{ℕ, _+_, _≤_}
 use mathlib.Core.Path.{_≡_}
 use mathlib.Core.List.{List}
-use mathlib.Core.Bool.{Bool, true, false, cond, _&&_}
+use mathlib.Core.Bool.{Bool, false, cond, _&&_}
 use lib.ListN.{length}
 use lib.Dec.{leb, eqb}
 use Rattle.ground.specs.Lists.{part}
-use Rattle.format.specs.Quality.{Mark, noMethod, sameMark}
+use Rattle.format.specs.Quality.{Mark, noMethod}
 use Rattle.format.specs.Numbers.{noReason}
 use Rattle.format.specs.Cut.{fields}
-use Rattle.format.specs.Order.{Due, afterOf}
+use Rattle.format.specs.Order.{Expected, the100, first200, first300, underDay, underVaried, behind500, first250, behind250, behind550, theEnd, Shared, noneYet, allHave, theyDiffer, shareWith, areAlike, Due, afterOf}
 use Rattle.format.specs.File.{after}
 use Rattle.format.specs.Faults.{_▹_, size, f7, f8, f9, f11, f12, faultIn, faultOf}
 use Rattle.format.specs.declared.Fault.{Fault}
@@ -17,24 +17,42 @@ use Rattle.format.specs.declared.Fault.the-variants.{Fine, Stop}
 use Rattle.format.specs.declared.Tag.{Tag}
 use Rattle.lines.specs.Places.{Starts}
 use Rattle.record.specs.Walk.{Typed, Sound}
-use Rattle.follows.specs.Follows.{markOf}
 use Rattle.order.specs.declared.State.{State}
 use Rattle.order.specs.declared.Step.{Step}
 use Rattle.order.specs.declared.Step.the-variants as step
 
 -- ---- the state
 
+abbrev pub markOf : List ℕ → Tag → Mark
+markOf file t = record { flag = t .flag; method = t .method; reason = t .reason; text = part file (t .start) (t .start + t .length) }
+
+-- what the number in the code's state stands for
+unfoldable pub expectedAs : ℕ → Expected
+expectedAs x =
+    cond (eqb x 0) the100
+    (cond (eqb x 1) first200
+    (cond (eqb x 2) first300
+    (cond (eqb x 3) underDay
+    (cond (eqb x 4) underVaried
+    (cond (eqb x 5) behind500
+    (cond (eqb x 6) first250
+    (cond (eqb x 7) behind250
+    (cond (eqb x 8) behind550 theEnd))))))))
+
+-- what the day's 400s so far have in common, where the next has to start at this interval: the mark of the first, if they are alike
+abbrev pub sharedAs : List ℕ → ℕ → Tag → Bool → Shared
+sharedAs file next t alike = cond (leb next 1) noneYet (cond alike (allHave (markOf file t)) theyDiffer)
+
 -- what the code's state says
 abbrev pub seen : List ℕ → State → Due
 seen file st =
     record {
-      expect = st .expect;
+      expect = expectedAs (st .expect);
       version = st .version;
       n = st .n;
       date = st .date;
       next = st .next;
-      mark = markOf file (st .mark);
-      alike = st .alike;
+      shared = sharedAs file (st .next) (st .mark) (st .alike);
       channels = st .channels;
       days = st .days;
     }
@@ -46,8 +64,10 @@ noTag = record { flag = 0; method = noMethod; reason = noReason; start = 0; leng
 abbrev pub closed : ℕ → ℕ → ℕ → ℕ → ℕ → ℕ → State
 closed x v n t c d = record { expect = x; version = v; n = n; date = t; next = 0; mark = noTag; alike = false; channels = c; days = d }
 
--- the description lies in the file, and no count is past the place that the walk has come to
+-- the number stands for a state, a V day's intervals are counted from 1, the description lies in the file, and no count is past the place that the walk has come to
 pub record Kept (file : List ℕ) (at : ℕ) (st : State) : Type 0 where
+  pub known : st .expect ≤ 9
+  pub begun : st .expect ≡ 4 → 1 ≤ st .next
   pub within : st .mark .start + st .mark .length ≤ length file
   pub small : st .n ≤ 288
   pub channels : st .channels ≤ at
@@ -103,9 +123,17 @@ Holds file at e (step.Stop x o i) = at + o ≤ e
 
 -- ---- single tests
 
--- with this mark, every 400 of the day has one
+-- x is one of the numbers from a to b
+abbrev pub between : ℕ → ℕ → ℕ → Bool
+between a b x = leb a x && leb x b
+
+-- intervals from a to b go on with a cover whose next interval is given, in a day of n
+unfoldable pub goesOn : ℕ → ℕ → ℕ → ℕ → Bool
+goesOn next n a b = eqb a next && (leb a b && leb b n)
+
+-- with this mark, all of the day's 400s have one
 unfoldable pub alikeTo : Due → Mark → Bool
-alikeTo st m = cond (eqb (st .next) 1) true (st .alike && sameMark (st .mark) m)
+alikeTo st m = areAlike (shareWith (st .shared) m)
 
 -- a record of the kind k whose fields meet their rules, with the places that are asked for
 pub record Ready (file : List ℕ) (at e k p q : ℕ) (st : State) : Type 0 where

@@ -2,9 +2,9 @@
 // every field of it meets its rule.
 use super::State;
 use super::Step;
-use follows::goes_on;
-use follows::on_day;
-use follows::same_mark;
+use super::tests::goes_on;
+use super::tests::on_day;
+use super::tests::same_mark;
 use format::Tag;
 use quality_rules::across;
 use says::date_at;
@@ -19,8 +19,7 @@ ghost use lib.ListN.{length};
 ghost use lib.Dec.{eqb};
 ghost use Rattle.format.specs.Order.{on100, on200};
 ghost use Rattle.runs.specs.Ran.{Ran};
-ghost use Rattle.follows.specs.Follows.{markOf};
-ghost use Rattle.order.specs.State.{seen, noTag, closed, Kept, cells, Here, After, lastOf, stepAs, Holds, alikeTo};
+ghost use Rattle.order.specs.State.{markOf, seen, noTag, closed, Kept, cells, Here, After, lastOf, stepAs, Holds, alikeTo};
 
 fn no_tag() -> Tag
     ensures { λ r. ⌜ r ≡ noTag ⌝ }
@@ -79,9 +78,9 @@ impl State {
         }
     }
 
-    // With this mark, every 400 of the day has one: asked only while they are alike.
+    // With this mark, all of the day's 400s have one: asked only while they are alike.
     fn alike_with(self, file: &[u8], t: Tag) -> bool
-        requires { ⌜ (self .mark .start + self .mark .length ≤ length (now file)) × (t .start + t .length ≤ length (now file)) ⌝ }
+        requires { ⌜ (1 ≤ self .next) × (self .mark .start + self .mark .length ≤ length (now file)) × (t .start + t .length ≤ length (now file)) ⌝ }
         ensures { λ r. ⌜ r ≡ alikeTo (seen (now (file .entry)) self) (markOf (now (file .entry)) t) ⌝ }
     {
         if self.next == 1 {
@@ -160,7 +159,7 @@ impl State {
         q: usize,
         t: Tag,
     ) -> Step
-        requires { ⌜ Kept (now file) at self × Here (now file) at e 1 (at + 4) × Ran (now file) at e from to q t ⌝ }
+        requires { ⌜ Kept (now file) at self × Here (now file) at e 1 (at + 4) × Ran (now file) at e from to q t × (1 ≤ self .next) ⌝ }
         ensures { λ r. ⌜ (stepAs (now (file .entry)) r ≡ lastOf (seen (now (file .entry)) self) 400 (cells (now (file .entry)) at e)) × Holds (now (file .entry)) at e r ⌝ }
     {
         if !across(t.flag, t.reason, t.length) {

@@ -1,8 +1,8 @@
 // The step over one record: 3, 10, 4, 5 and 6 in document 01's order, then the record's own method.
 use super::State;
 use super::Step;
-use follows::is_open;
-use follows::may_come;
+use super::tests::is_open;
+use super::tests::may_come;
 use lines::Found;
 use record::Walked;
 use record::check_fields;
@@ -12,6 +12,7 @@ use runs::run_at;
 use says::kind_at;
 ghost use mathlib.Core.Path.{_≡_};
 ghost use mathlib.Core.Bool.{cond};
+ghost use Prim.Native.Nat.{_≤_};
 ghost use lib.ListN.{length};
 ghost use lib.Dec.{eqb};
 ghost use Rattle.ground.specs.Lists.{part};
@@ -40,7 +41,7 @@ impl State {
 
     // A 400 is read in one go, and hands its method what it says.
     fn run(self, file: &[u8], at: usize, e: usize) -> Step
-        requires { ⌜ Kept (now file) at self × Typed (now file) at e 400 0 ⌝ }
+        requires { ⌜ Kept (now file) at self × Typed (now file) at e 400 0 × (1 ≤ self .next) ⌝ }
         ensures { λ r. ⌜ (stepAs (now (file .entry)) r ≡ furtherOf (seen (now (file .entry)) self) 400 (cells (now (file .entry)) at e)) × Holds (now (file .entry)) at e r ⌝ }
     {
         let r = run_at(file, at, e);
@@ -68,7 +69,7 @@ impl State {
 
     // From 6 on: its fields, each held to its rule, and its own method.
     fn further(self, file: &[u8], at: usize, e: usize, kind: u64, n: usize) -> Step
-        requires { ⌜ Kept (now file) at self × Typed (now file) at e kind n × (n ≡ size (seen (now file) self) kind) ⌝ }
+        requires { ⌜ Kept (now file) at self × Typed (now file) at e kind n × (n ≡ size (seen (now file) self) kind) × (kind ≡ 400 → 1 ≤ self .next) ⌝ }
         ensures { λ r. ⌜ (stepAs (now (file .entry)) r ≡ furtherOf (seen (now (file .entry)) self) kind (cells (now (file .entry)) at e)) × Holds (now (file .entry)) at e r ⌝ }
     {
         if kind == 400 {

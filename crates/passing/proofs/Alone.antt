@@ -7,22 +7,23 @@ use mathlib.Core.Bool.{true, false, cond, _||_}
 use mathlib.Core.List.{List, [], _∷_, _++_}
 use native.Mathlib.Omega.{arith}
 use lib.ListN.{length}
-use lib.Dec.{leb, eqb}
-use borrow.Author.Tests.{eqb-false, eq-eqb, ne-eqb, leb-true, le-leb, not-false}
+use lib.Dec.{eqb}
+use borrow.Author.Tests.{eqb-false, eq-eqb, ne-eqb, not-false}
 use Rattle.ground.proofs.Tests.{and-true}
 use Rattle.ground.proofs.Cases.{by, both}
 use Rattle.format.specs.Numbers.{intervalsOf}
 use Rattle.format.specs.Cut.{Lines, line, rest, lines, fields}
 use Rattle.format.specs.Records.{kindIn, dateIn, updateIn, loadIn}
-use Rattle.format.specs.Order.{Due, inDay, mayCome, isVaried}
+use Rattle.format.specs.Order.{first300, mayCome, inDay, Due, isVaried}
 use Rattle.format.specs.Answers.{accepted, refused}
 use Rattle.format.specs.Faults.{_▹_, stop, f3, isOpen, f10, faultAt, faultOf}
 use Rattle.format.specs.File.{after, behind200, isForeign, blockFaultOf, endOf, blockWalkOf, topSays, blockCheckOf}
 use Rattle.format.specs.declared.Fault.{Fault}
 use Rattle.format.specs.declared.Fault.the-variants.{Fine}
 use Rattle.format.proofs.Faults.{both-fine, stop-fine}
+use Rattle.format.proofs.States.{implied, only}
 use Rattle.passing.specs.Passes.{Passes, kindsOf, areUnder, Free, Accepted, topDate, Awaits, Alone}
-use Rattle.passing.proofs.Fit.{fine-fit, fit-fine, head, only, free-of, free-if}
+use Rattle.passing.proofs.Fit.{fine-fit, fit-fine, free-of, free-if}
 use Rattle.passing.proofs.Steps.{after-300, after-400, after-500}
 use Rattle.passing.proofs.Walk.{not-accepted, on-fine}
 use Rattle.passing.proofs.Blocks.{headed, under-one, accepted-there, accepted-later}
@@ -69,12 +70,7 @@ module _ (st : Due) (r : List ℕ) where
 
 -- a 300 may come where a day may end
 inside-free : (st : Due) → Inside st → isOpen st 0 ≡ false → Free st
-unfolding mayCome
-inside-free st i h =
-    let w = and-true (leb 3 (st .expect)) (leb (st .expect) 5) i in
-    let l : 3 ≤ st .expect = leb-true _ _ (w .0) in
-    let m : 2 ≤ st .expect = omega arith in
-    (rw (le-leb _ _ m, w .1), free-if st 300 (free-of st 0 h (λ z. omega arith)))
+inside-free st i h = (implied inDay (λ x. mayCome x 300) refl (st .expect) i, free-if st 300 (free-of st 0 h (λ z. omega arith)))
 
 -- what is accepted of a block from a state under its 300 on, behind k records, where its 300 says x
 record Rest (x : List ℕ) (st : Due) (k : ℕ) (ls : Lines) (ys : List ℕ) : Type 0 where
@@ -143,7 +139,7 @@ module _ (n : ℕ) (s : List ℕ) where
       let st : Due = behind200 n in
       let w = on-fine 0 0 (blockFaultOf st r) (blockWalkOf x (after st r) (0 + length r + 2) (0 + 1) ls) ys e in
       let v = alone-fine st r (w .0) in
-      let k : kindIn (fields r) ≡ 300 = only _ _ (head _ _ (fine-fit st r (v .1) .may)) .at-2 refl in
+      let k : kindIn (fields r) ≡ 300 = only first300 300 _ refl (fine-fit st r (v .1) .may) in
       let g = walk-rest x (after st r) (0 + length r + 2) (0 + 1) ls ys (inside-300 st r k) (w .1) in
       let q : 0 + 1 + length (kindsOf ls) ≡ suc (length (kindsOf ls)) = omega arith in (
         record {
@@ -218,7 +214,7 @@ alone-anywhere m s t n u l k w st h =
 -- And the other way round: bytes that are accepted as a block in any state of so many intervals are accepted on their own, with a date later than the state's.
 pub anywhere-alone : (m : ℕ) (s : List ℕ) (st : Due) → intervalsOf m ≢ 0 → st .n ≡ intervalsOf m → Accepted st s
     → (t u l : ℕ) × Alone m s t (st .n) u l (length (kindsOf (lines s))) × (st .date < t)
-unfolding mayCome isOpen
+unfolding isOpen
 anywhere-alone m s st z i a =
     let n : ℕ = st .n in
     let d : st .date < topDate (lines s) = accepted-later st s a in

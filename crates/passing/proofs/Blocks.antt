@@ -12,7 +12,7 @@ use Rattle.ground.proofs.Tests.{and-true, or-other}
 use Rattle.ground.proofs.Cases.{by}
 use Rattle.format.specs.Cut.{Lines, line, rest, lines, fields}
 use Rattle.format.specs.Records.{kindIn, dateIn}
-use Rattle.format.specs.Order.{Due, alikeWith, on300}
+use Rattle.format.specs.Order.{inDay, Due, alikeWith, on300}
 use Rattle.format.specs.Faults.{size, isOpen, isNotLater, covers, isOff, isAlike, isElsewhere, faultAt, faultOf}
 use Rattle.format.specs.File.{after}
 use Rattle.format.specs.Day.{Row, DayRows, dayFrom, daysFrom}
@@ -52,7 +52,7 @@ pub record Kept (st end : Due) : Type 0 where
   pub version : end .version ≡ st .version
   pub channels : end .channels ≡ st .channels
   pub days : end .days ≡ st .days
-  pub under : 3 ≤ st .expect → 3 ≤ end .expect
+  pub under : inDay (st .expect) ≡ true → inDay (end .expect) ≡ true
 
 kept-on : (a b c : Due) → Kept a b → Kept b c → Kept a c
 kept-on a b c x y =
@@ -74,8 +74,8 @@ under-kept st end (line r ls) b h =
     one : (eqb (kindIn (fields r)) 400 || eqb (kindIn (fields r)) 500) ≡ true → Kept st (after st r)
     one t =
         under-one (kindIn (fields r)) t
-        (λ k. subst (Kept st) (sym (after-400 st r k)) (record { n = refl; date = refl; version = refl; channels = refl; days = refl; under = λ z. omega arith }))
-        (λ k. subst (Kept st) (sym (after-500 st r k)) (record { n = refl; date = refl; version = refl; channels = refl; days = refl; under = λ z. omega arith }))
+        (λ k. subst (Kept st) (sym (after-400 st r k)) (record { n = refl; date = refl; version = refl; channels = refl; days = refl; under = λ z. refl }))
+        (λ k. subst (Kept st) (sym (after-500 st r k)) (record { n = refl; date = refl; version = refl; channels = refl; days = refl; under = λ z. refl }))
 
 -- ---- what a reading finds
 
@@ -100,7 +100,7 @@ one-day st b a p c =
 -- the state with other counts
 unfoldable pub counting : ℕ → ℕ → ℕ → Due → Due
 counting v c d st =
-    record { expect = st .expect; version = v; n = st .n; date = st .date; next = st .next; mark = st .mark; alike = st .alike; channels = c; days = d }
+    record { expect = st .expect; version = v; n = st .n; date = st .date; next = st .next; shared = st .shared; channels = c; days = d }
 
 -- no fault goes by the counts
 module _ (v c d : ℕ) where

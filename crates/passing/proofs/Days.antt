@@ -10,14 +10,15 @@ use borrow.Author.Tests.{eqb-true, eqb-false, eq-eqb, le-leb}
 use Rattle.ground.proofs.Cases.{by}
 use Rattle.format.specs.Cut.{Lines, line, rest, lines, fields}
 use Rattle.format.specs.Records.{kindIn, rowOf, countOf, intervalsIn, firstIn, lastIn}
-use Rattle.format.specs.Order.{Due, begun, isVaried, on300, on400}
+use Rattle.format.specs.Order.{mayCome, inVaried, isEnd, Due, begun, isVaried, on300, on400}
 use Rattle.format.specs.Answers.{accepted}
 use Rattle.format.specs.File.{after, checkOf}
 use Rattle.format.specs.Day.{Row, runsFrom, daysFrom, noChannel, daysOf}
 use Rattle.format.specs.declared.Rule.the-variants.{Quality, Value, Reason, Description, Time, Load}
+use Rattle.format.proofs.States.{excluded}
 use Rattle.passing.specs.Passes.{Passes}
 use Rattle.passing.specs.Sound.{coversFrom, isSound, areSound}
-use Rattle.passing.proofs.Fit.{fine-fit, fit-cover, head, in-days, free-of}
+use Rattle.passing.proofs.Fit.{fine-fit, fit-cover, head, free-of}
 use Rattle.passing.proofs.Steps.{after-300, after-400, blockFound, channel-on}
 use Rattle.passing.proofs.Walk.{file-passes}
 use Rattle.passing.proofs.Counts.{Holds, counts-begun, holds-begun, counted}
@@ -25,10 +26,10 @@ use Rattle.passing.specs.Passes.{Counts}
 
 -- no V day is open where the records end
 abbrev Shut : Due → Type 0
-Shut st = st .expect ≡ 4 → st .n < st .next
+Shut st = inVaried (st .expect) ≡ true → st .n < st .next
 
 -- under a V day, from a state that expects the 400 of interval j + 1: the 400s here cover the rest of it
-covers-on : (st end : Due) (q j : ℕ) (ls : Lines) → Shut end → st .expect ≡ 4 → st .next ≡ j + 1 → j ≤ st .n → Passes st ls end → coversFrom j (st .n) (runsFrom q ls) ≡ true
+covers-on : (st end : Due) (q j : ℕ) (ls : Lines) → Shut end → inVaried (st .expect) ≡ true → st .next ≡ j + 1 → j ≤ st .n → Passes st ls end → coversFrom j (st .n) (runsFrom q ls) ≡ true
 unfolding runsFrom coversFrom
 covers-on st end q j (rest t) o x e h a =
     let l : st .n < st .next = subst Shut (sym (a .1)) o x in
@@ -65,7 +66,7 @@ sound-block st end q r ls o k a =
     (λ v. rw (eq-eqb _ _ count, v))
 
 -- the days that a reading finds in records that are passed, to where no V day is open, under the 200 c
-pub passed-days : (st end : Due) (q : ℕ) (c : Row) (ls : Lines) → (end .expect ≡ 4 → end .n < end .next) → Counts st → Holds st (intervalsIn (c .cells)) → Passes st ls end
+pub passed-days : (st end : Due) (q : ℕ) (c : Row) (ls : Lines) → (inVaried (end .expect) ≡ true → end .n < end .next) → Counts st → Holds st (intervalsIn (c .cells)) → Passes st ls end
     → areSound (daysFrom q c ls) ≡ true
 unfolding daysFrom
 passed-days st end q c (rest t) o g h a = refl
@@ -77,8 +78,8 @@ passed-days st end q c (line r ls) o g h a =
     (λ i.
     let k : kindIn (fields r) ≡ 300 = eqb-true _ _ i in
     let t : eqb (kindIn (fields r)) 200 ≡ false = rw k in
-    let m = in-days (st .expect) (rw k at (f .may)) in
-    let b : isSound (blockFound q r ls (intervalsIn (c .cells))) ≡ true = rw (h (m .0) (m .1)) at (sound-block st end q r ls o k a) in
+    let m : mayCome (st .expect) 300 ≡ true = rw k at (f .may) in
+    let b : isSound (blockFound q r ls (intervalsIn (c .cells))) ≡ true = rw (h m) at (sound-block st end q r ls o k a) in
     rw (i, b) (passed-days (after st r) end (q + length r + 2) c ls o (s .counts) (rw t at w) (a .1)))
     (λ i. rw i (passed-days (after st r) end (q + length r + 2) _ ls o (s .counts) (rw (channel-on (kindIn (fields r)) q c r) w) (a .1)))
 
@@ -87,4 +88,4 @@ pub checked-days : (file xs : List ℕ) → checkOf file ≡ accepted xs → are
 unfolding daysOf
 checked-days file xs e =
     let w = file-passes file xs e in
-    passed-days begun (w .end) 0 noChannel (lines file) (λ z. absurd (let y : ⊥ = omega (arith, w .expected) in y)) counts-begun (holds-begun _) (w .passes)
+    passed-days begun (w .end) 0 noChannel (lines file) (λ z. excluded inVaried isEnd refl (w .end .expect) z (w .expected)) counts-begun (holds-begun _) (w .passes)

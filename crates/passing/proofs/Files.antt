@@ -2,22 +2,23 @@
 -- behind them. Assumes nothing.
 use Prim.Native.Nat.{ℕ, suc, _+_, _≤_}
 use mathlib.Core.Path.{_≡_, refl, sym, ap, ap₂, _∙_, subst}
-use mathlib.Core.Bool.{false, cond}
+use mathlib.Core.Bool.{true, false, cond}
 use mathlib.Core.List.{List, [], _∷_, _++_}
 use native.Mathlib.Omega.{arith}
 use lib.ListN.{length, drop, length-append}
 use lib.Seq.{drop-at}
 use lib.Dec.{eqb}
-use borrow.Author.Tests.{eqb-true, eqb-false, ne-eqb}
+use borrow.Author.Tests.{eqb-true, eqb-false}
 use Rattle.ground.proofs.Cases.{by}
 use Rattle.format.specs.Cut.{isCrlf, Lines, line, rest, onFirst, lines, fields}
 use Rattle.format.specs.Records.{kindIn, intervalsIn}
-use Rattle.format.specs.Order.{Due, begun}
+use Rattle.format.specs.Order.{mayCome, isEnd, Due, begun}
 use Rattle.format.specs.File.{after, walkOf}
 use Rattle.format.specs.Day.{Row, DayRows, rowAt, runsFrom, dayFrom, daysFrom, noChannel, daysOf}
 use Rattle.format.proofs.Cut.{bytesOf, bytes-lines}
+use Rattle.format.proofs.States.{not-ended}
 use Rattle.passing.specs.Passes.{Passes, kindsOf}
-use Rattle.passing.proofs.Fit.{Fit, fine-fit, head, not-ended}
+use Rattle.passing.proofs.Fit.{Fit, fine-fit, head}
 use Rattle.passing.proofs.Steps.{days-more, days-skip, channel-on}
 use Rattle.passing.proofs.Counts.{Holds, counts-begun, holds-begun, counted}
 use Rattle.passing.specs.Passes.{Counts}
@@ -74,7 +75,7 @@ walk-lines a e p k (rest t) m h =
     let v : k ≡ k + 0 = omega arith in
     ap (λ (s : Due). walkOf s p k m) (h .1) ∙ ap₂ (λ (i j : ℕ). walkOf e i j m) u v
 walk-lines a e p k (line r ls) m h =
-    let n : eqb (a .expect) 9 ≡ false = ne-eqb _ _ (not-ended _ _ (head _ _ (fine-fit a r (h .0) .may))) in
+    let n : isEnd (a .expect) ≡ false = not-ended (a .expect) (kindIn (fields r)) (fine-fit a r (h .0) .may) in
     let u : p + length r + 2 + length (bytesOf ls) ≡ p + length (r ++ 13 ∷ 10 ∷ bytesOf ls) = omega (arith, length-append r (13 ∷ 10 ∷ bytesOf ls)) in
     let v : k + 1 + length (kindsOf ls) ≡ k + suc (length (kindsOf ls)) = omega arith in
     rw (n, h .0) (walk-lines (after a r) e (p + length r + 2) (k + 1) ls m (h .1) ∙ ap₂ (λ (i j : ℕ). walkOf e i j m) u v)
@@ -144,15 +145,15 @@ pub record Onward (e : Due) (x y : List ℕ) : Type 0 where
   pub intervals : intervalsIn (channel .cells) ≡ e .n
   pub is : drop (e .days) (daysOf (x ++ y)) ≡ daysFrom (length x) channel (lines y)
 
-pub days-append : (e : Due) (x y : List ℕ) → Passes begun (lines x) e → 2 ≤ e .expect → e .expect ≤ 5 → Onward e x y
+pub days-append : (e : Due) (x y : List ℕ) → Passes begun (lines x) e → mayCome (e .expect) 300 ≡ true → Onward e x y
 unfolding daysOf
-days-append e x y h l u =
+days-append e x y h u =
     let w = days-lines begun e 0 noChannel (lines x) (lines y) h counts-begun (holds-begun _) in
     let c : length (w .before) ≡ e .days = omega (arith, w .count) in
     let q : 0 + length (bytesOf (lines x)) ≡ length x = omega (arith, ap length (bytes-lines x)) in
     record {
       channel = w .behind;
-      intervals = sym (w .holds l u);
+      intervals = sym (w .holds u);
       is =
           ap (λ (ls : Lines). drop (e .days) (daysFrom 0 noChannel ls)) (lines-behind begun e x y h)
           ∙ ap (drop (e .days)) (w .is)

@@ -1,28 +1,29 @@
 -- A record has no fault exactly when each test passes; and the kinds of records by what may come. Assumes nothing.
 use Prim.Native.Nat.{ℕ, _≤_, _<_}
-use mathlib.Core.Path.{_≡_}
-use mathlib.Core.Bool.{true, false, true≢false, false≢true, not, _&&_, _||_}
+use mathlib.Core.Path.{_≡_, sym, _∙_, subst}
+use mathlib.Core.Bool.{true, false, true≢false, not, _&&_}
 use mathlib.Core.List.{List}
 use native.Mathlib.Omega.{arith}
 use lib.ListN.{length}
 use lib.Dec.{eqb, leb}
 use borrow.Author.Tests.{eqb-true, eq-eqb, ne-eqb, lt-leb, leb-true, leb-false, le-ltb, ltb-false, not-false}
 use Rattle.ground.specs.Lists.{all, spanOf}
-use Rattle.ground.proofs.Tests.{and-true, or-other}
+use Rattle.ground.proofs.Tests.{and-true}
 use Rattle.ground.proofs.Cases.{by}
 use Rattle.ground.proofs.Spans.{span-le, all-span, spanned-all}
 use Rattle.format.specs.Bytes.{plain}
 use Rattle.format.specs.Cut.{fields}
 use Rattle.format.specs.Records.{kindIn, countOf, dateIn, firstIn, lastIn}
-use Rattle.format.specs.Order.{Due, between, mayCome}
-use Rattle.format.specs.Faults.{_▹_, f3, isOpen, f10, f4, size, f5, faultIn, f6, brokenIn, f7, isNotLater, f8, covers, isOff, f9, isAlike, f11, isElsewhere, f12, faultAt, faultOf}
+use Rattle.format.specs.Order.{Expected, mayCome, inVaried, Due}
+use Rattle.format.specs.Faults.{_▹_, f3, isOpen, f10, f4, size, f5, faultIn, f6, f7, isNotLater, f8, covers, isOff, f9, isAlike, f11, isElsewhere, f12, faultAt, faultOf}
 use Rattle.format.specs.declared.Fault.{Fault}
 use Rattle.format.specs.declared.Fault.the-variants.{Fine}
+use Rattle.format.proofs.States.{no-kind}
 use Rattle.format.proofs.Faults.{both-fine, stop-fine}
 
 -- what 5, 6 and 7 ask of the fields of a record of the kind k; n is the number of a 300's intervals
 abbrev pub Ok : ℕ → ℕ → List (List ℕ) → Type 0
-Ok k n fs = (length fs ≡ countOf k n) × (faultIn k n 0 0 fs ≡ Fine) × (brokenIn k n fs ≡ 0)
+Ok k n fs = (length fs ≡ countOf k n) × (faultIn k n 0 0 fs ≡ Fine) × (f7 k n fs ≡ Fine)
 
 -- ---- a record without a fault
 
@@ -48,7 +49,7 @@ module _ (st : Due) (r : List ℕ) where
         h .may,
         eq-eqb _ _ (h .ok .0),
         h .ok .1,
-        eq-eqb _ _ (h .ok .2),
+        h .ok .2,
         h .rises,
         h .cover,
         h .apart,
@@ -83,7 +84,7 @@ module _ (st : Due) (r : List ℕ) where
         bytes = spanned-all plain r (omega (arith, span-le plain r));
         free = stop-fine _ _ _ _ (b .0);
         may = not-false _ (stop-fine _ _ _ _ (c .0));
-        ok = (eqb-true _ _ (not-false _ (stop-fine _ _ _ _ (d .0))), i .0, eqb-true _ _ (not-false _ (stop-fine _ _ _ _ (j .0))));
+        ok = (eqb-true _ _ (not-false _ (stop-fine _ _ _ _ (d .0))), i .0, j .0);
         rises = stop-fine _ _ _ _ (f .0);
         cover = stop-fine _ _ _ _ (g .0);
         apart = stop-fine _ _ _ _ (h .0);
@@ -105,90 +106,45 @@ module _ (st : Due) (r : List ℕ) where
 
 -- ---- what may come
 
-pub data Head (x k : ℕ) : Type 0 where
-  h100 : k ≡ 100 → x ≡ 0 → Head x k
-  h200 : k ≡ 200 → x ≡ 1 → Head x k
-  more200 : k ≡ 200 → 3 ≤ x → x ≤ 5 → Head x k
-  h300 : k ≡ 300 → 2 ≤ x → x ≤ 5 → Head x k
-  h400 : k ≡ 400 → x ≡ 4 → Head x k
-  h500 : k ≡ 500 → 3 ≤ x → x ≤ 5 → Head x k
-  h250 : k ≡ 250 → 6 ≤ x → x ≤ 8 → Head x k
-  h550 : k ≡ 550 → x ≡ 7 → Head x k
-  h900 : k ≡ 900 → 3 ≤ x → x ≤ 5 → Head x k
-  basic900 : k ≡ 900 → 7 ≤ x → x ≤ 8 → Head x k
+pub data Head (x : Expected) (k : ℕ) : Type 0 where
+  h100 : k ≡ 100 → mayCome x 100 ≡ true → Head x k
+  h200 : k ≡ 200 → mayCome x 200 ≡ true → Head x k
+  h300 : k ≡ 300 → mayCome x 300 ≡ true → Head x k
+  h400 : k ≡ 400 → mayCome x 400 ≡ true → Head x k
+  h500 : k ≡ 500 → mayCome x 500 ≡ true → Head x k
+  h250 : k ≡ 250 → mayCome x 250 ≡ true → Head x k
+  h550 : k ≡ 550 → mayCome x 550 ≡ true → Head x k
+  h900 : k ≡ 900 → mayCome x 900 ≡ true → Head x k
 
-in-range : (a b x : ℕ) → between a b x ≡ true → (a ≤ x) × (x ≤ b)
-in-range a b x h = let w = and-true (leb a x) (leb x b) h in (leb-true a x (w .0), leb-true x b (w .1))
-
-pub head : (x k : ℕ) → mayCome x k ≡ true → Head x k
-unfolding mayCome
+pub head : (x : Expected) (k : ℕ) → mayCome x k ≡ true → Head x k
 head x k h =
-    by (eqb k 100) (λ e. h100 (eqb-true k 100 e) (eqb-true x 0 (rw e at h)))
-    λ e₁. by (eqb k 200)
-    (λ e. let t : (eqb x 1 || between 3 5 x) ≡ true = (rw (e₁, e) at h) in
-    by (eqb x 1) (λ u. h200 (eqb-true k 200 e) (eqb-true x 1 u)) (λ u. let w = in-range 3 5 x (or-other (eqb x 1) (between 3 5 x) t u) in more200 (eqb-true k 200 e) (w .0) (w .1)))
-    λ e₂. by (eqb k 300) (λ e. let w = in-range 2 5 x (rw (e₁, e₂, e) at h) in h300 (eqb-true k 300 e) (w .0) (w .1))
-    λ e₃. by (eqb k 400) (λ e. h400 (eqb-true k 400 e) (eqb-true x 4 (rw (e₁, e₂, e₃, e) at h)))
-    λ e₄. by (eqb k 500) (λ e. let w = in-range 3 5 x (rw (e₁, e₂, e₃, e₄, e) at h) in h500 (eqb-true k 500 e) (w .0) (w .1))
-    λ e₅. by (eqb k 250) (λ e. let w = in-range 6 8 x (rw (e₁, e₂, e₃, e₄, e₅, e) at h) in h250 (eqb-true k 250 e) (w .0) (w .1))
-    λ e₆. by (eqb k 550) (λ e. h550 (eqb-true k 550 e) (eqb-true x 7 (rw (e₁, e₂, e₃, e₄, e₅, e₆, e) at h)))
-    λ e₇. by (eqb k 900)
-    (λ e. let t : (between 3 5 x || between 7 8 x) ≡ true = (rw (e₁, e₂, e₃, e₄, e₅, e₆, e₇, e) at h) in
-    by (between 3 5 x) (λ u. let w = in-range 3 5 x u in h900 (eqb-true k 900 e) (w .0) (w .1))
-    (λ u. let w = in-range 7 8 x (or-other (between 3 5 x) (between 7 8 x) t u) in basic900 (eqb-true k 900 e) (w .0) (w .1)))
-    λ e₈. absurd (false≢true (rw (e₁, e₂, e₃, e₄, e₅, e₆, e₇, e₈) at h))
-
--- where a 300 may come
-pub in-days : (x : ℕ) → mayCome x 300 ≡ true → (2 ≤ x) × (x ≤ 5)
-unfolding mayCome
-in-days x h = in-range 2 5 x h
-
--- where one kind only may come
-pub record Only (x k : ℕ) : Type 0 where
-  pub at-0 : x ≡ 0 → k ≡ 100
-  pub at-1 : x ≡ 1 → k ≡ 200
-  pub at-2 : x ≡ 2 → k ≡ 300
-  pub at-6 : x ≡ 6 → k ≡ 250
-
-pub only : (x k : ℕ) → Head x k → Only x k
-only x k (h100 q z) = record { at-0 = λ e. omega arith; at-1 = λ e. omega arith; at-2 = λ e. omega arith; at-6 = λ e. omega arith }
-only x k (h200 q z) = record { at-0 = λ e. omega arith; at-1 = λ e. omega arith; at-2 = λ e. omega arith; at-6 = λ e. omega arith }
-only x k (more200 q z w) = record { at-0 = λ e. omega arith; at-1 = λ e. omega arith; at-2 = λ e. omega arith; at-6 = λ e. omega arith }
-only x k (h300 q z w) = record { at-0 = λ e. omega arith; at-1 = λ e. omega arith; at-2 = λ e. omega arith; at-6 = λ e. omega arith }
-only x k (h400 q z) = record { at-0 = λ e. omega arith; at-1 = λ e. omega arith; at-2 = λ e. omega arith; at-6 = λ e. omega arith }
-only x k (h500 q z w) = record { at-0 = λ e. omega arith; at-1 = λ e. omega arith; at-2 = λ e. omega arith; at-6 = λ e. omega arith }
-only x k (h250 q z w) = record { at-0 = λ e. omega arith; at-1 = λ e. omega arith; at-2 = λ e. omega arith; at-6 = λ e. omega arith }
-only x k (h550 q z) = record { at-0 = λ e. omega arith; at-1 = λ e. omega arith; at-2 = λ e. omega arith; at-6 = λ e. omega arith }
-only x k (h900 q z w) = record { at-0 = λ e. omega arith; at-1 = λ e. omega arith; at-2 = λ e. omega arith; at-6 = λ e. omega arith }
-only x k (basic900 q z w) = record { at-0 = λ e. omega arith; at-1 = λ e. omega arith; at-2 = λ e. omega arith; at-6 = λ e. omega arith }
-
--- behind the 900 no record is passed
-pub not-ended : (x k : ℕ) → Head x k → x ≡ 9 → ⊥
-not-ended x k (h100 e a) z = omega arith
-not-ended x k (h200 e a) z = omega arith
-not-ended x k (more200 e a b) z = omega arith
-not-ended x k (h300 e a b) z = omega arith
-not-ended x k (h400 e a) z = omega arith
-not-ended x k (h500 e a b) z = omega arith
-not-ended x k (h250 e a b) z = omega arith
-not-ended x k (h550 e a) z = omega arith
-not-ended x k (h900 e a b) z = omega arith
-not-ended x k (basic900 e a b) z = omega arith
+    by (eqb k 100) (λ e. h100 (eqb-true k 100 e) (is 100 e))
+    λ e₁. by (eqb k 200) (λ e. h200 (eqb-true k 200 e) (is 200 e))
+    λ e₂. by (eqb k 300) (λ e. h300 (eqb-true k 300 e) (is 300 e))
+    λ e₃. by (eqb k 400) (λ e. h400 (eqb-true k 400 e) (is 400 e))
+    λ e₄. by (eqb k 500) (λ e. h500 (eqb-true k 500 e) (is 500 e))
+    λ e₅. by (eqb k 250) (λ e. h250 (eqb-true k 250 e) (is 250 e))
+    λ e₆. by (eqb k 550) (λ e. h550 (eqb-true k 550 e) (is 550 e))
+    λ e₇. by (eqb k 900) (λ e. h900 (eqb-true k 900 e) (is 900 e))
+    λ e₈. absurd (true≢false (sym h ∙ no-kind x k e₁ e₂ e₃ e₄ e₅ e₆ e₇ e₈))
+  where
+    is : (j : ℕ) → eqb k j ≡ true → mayCome x j ≡ true
+    is j e = subst (λ (i : ℕ). mayCome x i ≡ true) (eqb-true k j e) h
 
 -- ---- whether a V day is open
 
-pub free-of : (st : Due) (k : ℕ) → isOpen st k ≡ false → (k ≡ 400 → ⊥) → st .expect ≡ 4 → st .n < st .next
+pub free-of : (st : Due) (k : ℕ) → isOpen st k ≡ false → (k ≡ 400 → ⊥) → inVaried (st .expect) ≡ true → st .n < st .next
 unfolding isOpen
 free-of st k h g e =
-    let s : (leb (st .next) (st .n) && not (eqb k 400)) ≡ false = rw (eq-eqb _ _ e) at h in
+    let s : (leb (st .next) (st .n) && not (eqb k 400)) ≡ false = rw e at h in
     by (leb (st .next) (st .n))
     (λ t. absurd (true≢false (let z : true ≡ false = (rw (t, ne-eqb k 400 g) at s) in z)))
     (λ t. leb-false _ _ t)
 
-pub free-if : (st : Due) (k : ℕ) → (st .expect ≡ 4 → st .n < st .next) → isOpen st k ≡ false
+pub free-if : (st : Due) (k : ℕ) → (inVaried (st .expect) ≡ true → st .n < st .next) → isOpen st k ≡ false
 unfolding isOpen
-free-if st k h = by (eqb (st .expect) 4) (λ t. rw (t, lt-leb _ _ (h (eqb-true _ _ t)))) (λ t. rw t)
+free-if st k h = by (inVaried (st .expect)) (λ t. rw (t, lt-leb _ _ (h t))) (λ t. rw t)
 
 pub free-400 : (st : Due) → isOpen st 400 ≡ false
 unfolding isOpen
-free-400 st = by (eqb (st .expect) 4) (λ t. by (leb (st .next) (st .n)) (λ u. rw (t, u)) (λ u. rw (t, u))) (λ t. rw t)
+free-400 st = by (inVaried (st .expect)) (λ t. by (leb (st .next) (st .n)) (λ u. rw (t, u)) (λ u. rw (t, u))) (λ t. rw t)

@@ -6,21 +6,20 @@ use mathlib.Core.Bool.{Bool, true, false, _&&_}
 use mathlib.Core.List.{List, [], _∷_, _++_}
 use native.Mathlib.Omega.{arith}
 use lib.ListN.{length}
-use lib.Dec.{leb, eqb}
-use borrow.Author.Tests.{ne-eqb, leb-true}
-use Rattle.ground.proofs.Tests.{and-true}
+use lib.Dec.{eqb}
 use Rattle.ground.proofs.Cases.{by}
 use Rattle.format.specs.Numbers.{intervalsOf}
 use Rattle.format.specs.Cut.{Lines, line, rest, lines, fields}
 use Rattle.format.specs.Records.{kindIn}
-use Rattle.format.specs.Order.{Due, due, begun, inDay}
+use Rattle.format.specs.Order.{first300, inDay, isEnd, Due, due, begun}
 use Rattle.format.specs.Answers.{accepted, refused}
 use Rattle.format.specs.Faults.{_▹_, stop, f3, isOpen, f10, faultAt, faultOf}
 use Rattle.format.specs.File.{after, orGoOn, walkOf, behind200, isForeign, blockFaultOf, endOf, blockWalkOf, topSays, blockCheckOf}
 use Rattle.format.specs.declared.Fault.{Fault}
 use Rattle.format.specs.declared.Fault.the-variants.{Fine, Stop}
+use Rattle.format.proofs.States.{only, not-ended}
 use Rattle.passing.specs.Passes.{Leads, kindsOf}
-use Rattle.passing.proofs.Fit.{fine-fit, head, only}
+use Rattle.passing.proofs.Fit.{fine-fit}
 use Rattle.passing.proofs.Steps.{after-300}
 use Rattle.passing.proofs.Walk.{not-accepted}
 use Rattle.passing.proofs.Files.{walk-append}
@@ -54,7 +53,7 @@ module _ (y : List ℕ) (v c a b x q j i : ℕ) (n : x ≢ 4) where
       (λ s. let z : refused 2 p k 0 ≡ refused x q j i = (rw s at e) in let u : j ≡ k = cc in u)
 
   -- one record, and what the records behind it say
-  step : (d : ℕ) (st : Due) (p k : ℕ) (r : List ℕ) (ls : Lines) → st .expect ≢ 9
+  step : (d : ℕ) (st : Due) (p k : ℕ) (r : List ℕ) (ls : Lines) → isEnd (st .expect) ≡ false
       → (blockFaultOf st r ≡ Fine → blockWalkOf y (after st r) (p + length r + 2) (k + 1) ls ≡ refused x q j i
       → walkOf (after (counting v c d st) r) (a + (p + length r + 2)) (b + (k + 1)) ls ≡ refused x (a + q) (b + j) i)
       → blockWalkOf y st p k (line r ls) ≡ refused x q j i → walkOf (counting v c d st) (a + p) (b + k) (line r ls) ≡ refused x (a + q) (b + j) i
@@ -66,7 +65,7 @@ module _ (y : List ℕ) (v c a b x q j i : ℕ) (n : x ≢ 4) where
       go Fine h g =
           let u : a + p + length r + 2 ≡ a + (p + length r + 2) = omega arith in
           let z : b + k + 1 ≡ b + (k + 1) = omega arith in
-          rw (ne-eqb _ _ w, fault-counting v c d st r, alone-fine st r h .1)
+          rw (w, fault-counting v c d st r, alone-fine st r h .1)
           (ap₂ (λ (s t : ℕ). walkOf (after (counting v c d st) r) s t ls) u z ∙ ih h g)
       go (Stop z o m) h g =
           let e₁ : z ≡ x = cc in
@@ -74,29 +73,28 @@ module _ (y : List ℕ) (v c a b x q j i : ℕ) (n : x ≢ 4) where
           let e₃ : k ≡ j = cc in
           let e₄ : m ≡ i = cc in
           let u : a + p + o ≡ a + q = omega arith in
-          rw (ne-eqb _ _ w, fault-counting v c d st r, stop-same st r z o m (λ l. n (sym e₁ ∙ l)) h, u, e₁, e₃, e₄)
+          rw (w, fault-counting v c d st r, stop-same st r z o m (λ l. n (sym e₁ ∙ l)) h, u, e₁, e₃, e₄)
 
   -- under the 300
   same-under : (d : ℕ) (st : Due) (p k : ℕ) (ls : Lines) → Inside st → j < k + length (kindsOf ls) → blockWalkOf y st p k ls ≡ refused x q j i
       → walkOf (counting v c d st) (a + p) (b + k) ls ≡ refused x (a + q) (b + j) i
   same-under d st p k (rest t) h l e = absurd (let z : ⊥ = omega (arith, at-end st p k t e) in z)
   same-under d st p k (line r ls) h l e =
-      let u : st .expect ≤ 5 = leb-true _ _ (and-true (leb 3 (st .expect)) (leb (st .expect) 5) h .1) in
-      step d st p k r ls (λ z. omega arith)
+      step d st p k r ls (not-ended (st .expect) 500 h)
       (λ f g.
       let w = inside-kind st r h (alone-fine st r f .0) in
       rw (after-counting v c d st r w) (same-under d (after st r) (p + length r + 2) (k + 1) ls (inside-after st r w) (omega arith) g))
       e
 
   -- behind a 200
-  same-block : (d m : ℕ) (ls : Lines) → j < length (kindsOf ls) → blockWalkOf y (behind200 m) 0 0 ls ≡ refused x q j i → walkOf (due 2 v m 0 c d) (a + 0) (b + 0) ls ≡ refused x (a + q) (b + j) i
+  same-block : (d m : ℕ) (ls : Lines) → j < length (kindsOf ls) → blockWalkOf y (behind200 m) 0 0 ls ≡ refused x q j i → walkOf (due first300 v m 0 c d) (a + 0) (b + 0) ls ≡ refused x (a + q) (b + j) i
   unfolding counting
   same-block d m (rest t) l e = absurd (let z : ⊥ = omega (arith, at-end (behind200 m) 0 0 t e) in z)
   same-block d m (line r ls) l e =
-      step d (behind200 m) 0 0 r ls (λ z. omega arith)
+      step d (behind200 m) 0 0 r ls refl
       (λ f g.
       let st : Due = behind200 m in
-      let h : kindIn (fields r) ≡ 300 = only _ _ (head _ _ (fine-fit st r (alone-fine st r f .1) .may)) .at-2 refl in
+      let h : kindIn (fields r) ≡ 300 = only first300 300 _ refl (fine-fit st r (alone-fine st r f .1) .may) in
       let s : after (counting v c d st) r ≡ counting v c (d + 1) (after st r) = after-300 (counting v c d st) r h ∙ ap (counting v c (d + 1)) (sym (after-300 st r h)) in
       rw s (same-under (d + 1) (after st r) (0 + length r + 2) (0 + 1) ls (inside-300 st r h) (omega arith) g))
       e
@@ -106,7 +104,7 @@ module _ (y : List ℕ) (v c a b x q j i : ℕ) (n : x ≢ 4) where
 -- Behind any 200 of that interval length, the check of a file refuses the record as the block's check does: the same number and field, and place and record number
 -- counted on from the block's start.
 pub refused-there : (m : ℕ) (s : List ℕ) (x q j i : ℕ) → blockCheckOf m s ≡ refused x q j i → x ≢ 4 → x ≢ 16 → j < length (kindsOf (lines s))
-    → (before : List ℕ) (v c d : ℕ) → Leads before (due 2 v (intervalsOf m) 0 c d)
+    → (before : List ℕ) (v c d : ℕ) → Leads before (due first300 v (intervalsOf m) 0 c d)
     → walkOf begun 0 0 (lines (before ++ s)) ≡ refused x (length before + q) (length (kindsOf (lines before)) + j) i
 unfolding blockCheckOf
 refused-there m s x q j i e n z l before v c d h =
@@ -119,6 +117,6 @@ refused-there m s x q j i e n z l before v c d h =
     let g : blockWalkOf (topSays n₁ (lines s)) (behind200 n₁) 0 0 (lines s) ≡ refused x q j i = rw t at e in
     let u : a ≡ length before + 0 = omega arith in
     let w : b ≡ length (kindsOf (lines before)) + 0 = omega arith in
-    walk-append begun (due 2 v n₁ 0 c d) 0 0 before s h
-    ∙ ap₂ (λ (p k : ℕ). walkOf (due 2 v n₁ 0 c d) p k (lines s)) u w
+    walk-append begun (due first300 v n₁ 0 c d) 0 0 before s h
+    ∙ ap₂ (λ (p k : ℕ). walkOf (due first300 v n₁ 0 c d) p k (lines s)) u w
     ∙ same-block (topSays n₁ (lines s)) v c (length before) (length (kindsOf (lines before))) x q j i n d n₁ (lines s) l g)

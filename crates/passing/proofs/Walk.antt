@@ -7,10 +7,10 @@ use mathlib.Core.List.{List, [], _∷_}
 use native.Mathlib.Omega.{arith}
 use lib.ListN.{length}
 use lib.Dec.{ltb, eqb}
-use borrow.Author.Tests.{eqb-true, ne-eqb, ltb-false, le-ltb}
+use borrow.Author.Tests.{ne-eqb, ltb-false, le-ltb}
 use Rattle.ground.proofs.Cases.{by}
 use Rattle.format.specs.Cut.{Lines, line, rest, lines}
-use Rattle.format.specs.Order.{Due, begun}
+use Rattle.format.specs.Order.{isEnd, Due, begun}
 use Rattle.format.specs.Faults.{faultOf}
 use Rattle.format.specs.Answers.{Answer, accepted, refused, refusal}
 use Rattle.format.specs.File.{after, orGoOn, walkOf, most, checkOf}
@@ -40,7 +40,7 @@ module _ (st : Due) (p k : ℕ) where
   pub goes : (r : List ℕ) (ls : Lines) (xs : List ℕ) → walkOf st p k (line r ls) ≡ accepted xs → Goes r ls xs
   unfolding walkOf
   goes r ls xs e =
-      by (eqb (st .expect) 9)
+      by (isEnd (st .expect))
       (λ t. not-accepted 13 p k 0 xs (rw t at e))
       (λ t.
       let w = on-fine p k (faultOf st r) (walkOf (after st r) (p + length r + 2) (k + 1) ls) xs (rw t at e) in
@@ -48,20 +48,20 @@ module _ (st : Due) (p k : ℕ) where
 
   -- where the lines end
   pub record Ends (t : List ℕ) (xs : List ℕ) : Type 0 where
-    pub expected : st .expect ≡ 9
+    pub expected : isEnd (st .expect) ≡ true
     pub none-left : t ≡ []
     pub answer : xs ≡ st .version ∷ st .channels ∷ st .days ∷ []
 
   pub ends : (t : List ℕ) (xs : List ℕ) → walkOf st p k (rest t) ≡ accepted xs → Ends t xs
   unfolding walkOf
   ends t xs e =
-      by (eqb (st .expect) 9)
+      by (isEnd (st .expect))
       (λ s. go t s (rw s at e))
       (λ s. not-accepted 2 p k 0 xs (rw s at e))
     where
-      go : (t : List ℕ) → eqb (st .expect) 9 ≡ true
+      go : (t : List ℕ) → isEnd (st .expect) ≡ true
           → cond (eqb (length t) 0) (accepted (st .version ∷ st .channels ∷ st .days ∷ [])) (refused 13 p k 0) ≡ accepted xs → Ends t xs
-      go [] s h = record { expected = eqb-true _ _ s; none-left = refl; answer = cc }
+      go [] s h = record { expected = s; none-left = refl; answer = cc }
       go (b ∷ t) s h = not-accepted 13 p k 0 xs (rw (ne-eqb (suc (length t)) 0 (λ z. omega arith)) at h)
 
 -- ---- all steps
@@ -70,7 +70,7 @@ module _ (st : Due) (p k : ℕ) where
 pub record Passed (st : Due) (ls : Lines) (xs : List ℕ) : Type 0 where
   pub end : Due
   pub passes : Passes st ls end
-  pub expected : end .expect ≡ 9
+  pub expected : isEnd (end .expect) ≡ true
   pub answer : xs ≡ end .version ∷ end .channels ∷ end .days ∷ []
 
 pub passed : (st : Due) (p k : ℕ) (ls : Lines) (xs : List ℕ) → walkOf st p k ls ≡ accepted xs → Passed st ls xs

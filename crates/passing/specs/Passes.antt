@@ -11,7 +11,7 @@ use Rattle.ground.specs.Lists.{all}
 use Rattle.format.specs.Numbers.{intervalsOf}
 use Rattle.format.specs.Cut.{Lines, line, rest, lines, fields}
 use Rattle.format.specs.Records.{kindIn, dateIn}
-use Rattle.format.specs.Order.{Due, begun, mayCome}
+use Rattle.format.specs.Order.{mayCome, Due, begun}
 use Rattle.format.specs.Faults.{isOpen, faultOf}
 use Rattle.format.specs.File.{after, behind200, topSays}
 use Rattle.format.specs.declared.Fault.the-variants.{Fine}
@@ -82,4 +82,4 @@ pub record Alone (minutes : ℕ) (b : List ℕ) (t n u l k : ℕ) : Type 0 where
 
 -- nothing before the 100
 pub record Counts (st : Due) : Type 0 where
-  pub none : st .expect ≡ 0 → (st .days ≡ 0) × (st .channels ≡ 0)
+  pub none : mayCome (st .expect) 100 ≡ true → (st .days ≡ 0) × (st .channels ≡ 0)

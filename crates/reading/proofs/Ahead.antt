@@ -18,7 +18,7 @@ use Rattle.format.specs.Day.{daysOf}
 use Rattle.format.specs.declared.Fault.the-variants.{Fine}
 use Rattle.passing.proofs.Fit.{fine-fit, head}
 use Rattle.passing.proofs.Steps.{after-200}
-use Rattle.passing.proofs.Counts.{Counted, counted}
+use Rattle.passing.proofs.Counts.{isFirst, Counted, counted}
 use Rattle.lines.specs.Places.{LineEnd}
 use Rattle.lines.specs.declared.Found.{Found}
 use Rattle.record.proofs.Turns.{by-test}
@@ -31,6 +31,7 @@ use Rattle.order.specs.declared.Step.{Step}
 use Rattle.order.specs.declared.Step.the-variants as step
 use Rattle.order.specs.State.{seen, goes, nextOf, stepAs}
 use Rattle.order.proofs.Next.{gone}
+use Rattle.order.proofs.Expected.{is-first}
 use Rattle.day.specs.Places.{Heads, daysAt, DayAhead}
 use Rattle.day.specs.declared.Under.{Under}
 use Rattle.day.proofs.Find.{no-heads}
@@ -45,7 +46,7 @@ use Rattle.channel.proofs.Find as totals
 
 -- the record from at to e is passed, and s is the state behind it, v the 200
 module _ (file : List ℕ) (day channel at e : ℕ) (u v : Under) (st s : Due) (l : LineEnd file at e) (go : e ≡ length file → ⊥) (a : Ahead file day channel at u st)
-    (next : goes s ≡ nextOf st (part file at e)) (ev : v ≡ cond (eqb (s .expect) 2) (record { at = at; end = e; n = s .n }) u) where
+    (next : goes s ≡ nextOf st (part file at e)) (ev : v ≡ cond (isFirst (s .expect)) (record { at = at; end = e; n = s .n }) u) where
   abbrev k : ℕ
   k = kindIn (fields (part file at e))
 
@@ -65,7 +66,7 @@ module _ (file : List ℕ) (day channel at e : ℕ) (u v : Under) (st s : Due) (
   under-now : v ≡ cond (eqb k 200) (record { at = at; end = e; n = s .n }) u
   under-now =
       ev ∙ ap (λ (b : Bool). cond b (record { at = at; end = e; n = s .n }) u)
-      (ap (λ (x : Due). eqb (x .expect) 2) (both .1) ∙ counts-now .first)
+      (ap (λ (x : Due). isFirst (x .expect)) (both .1) ∙ counts-now .first)
 
   pub heads-on : Heads file u → Heads file v
   heads-on h = by (eqb k 200) refl
@@ -157,10 +158,13 @@ module _ (file : List ℕ) (day channel at : ℕ) (u v : Under) (st : State) (r 
   next-is : goes (seen file s) ≡ nextOf (seen file st) (part file at (f .end))
   next-is = rw q at et
 
+  first-is : v ≡ cond (eqb (s .expect) 2) (record { at = at; end = f .end; n = s .n }) u → v ≡ cond (isFirst (seen file s .expect)) (record { at = at; end = f .end; n = s .n }) u
+  first-is ev = ev ∙ ap (λ (b : Bool). cond b (record { at = at; end = f .end; n = s .n }) u) (is-first (s .expect))
+
   pub under-turn : Heads file u → v ≡ cond (eqb (s .expect) 2) (record { at = at; end = f .end; n = s .n }) u → Heads file v
   under-turn g ev =
-      heads-on file day channel at (f .end) u v (seen file st) (seen file s) (handed-looked file at r is p f h .ends) (handed-inside file at r is p f h) a next-is ev g
+      heads-on file day channel at (f .end) u v (seen file st) (seen file s) (handed-looked file at r is p f h .ends) (handed-inside file at r is p f h) a next-is (first-is ev) g
 
   pub ahead-turn : v ≡ cond (eqb (s .expect) 2) (record { at = at; end = f .end; n = s .n }) u → Ahead file day channel (f .end + 2) v (seen file s)
   ahead-turn ev =
-      ahead-on file day channel at (f .end) u v (seen file st) (seen file s) (handed-looked file at r is p f h .ends) (handed-inside file at r is p f h) a next-is ev
+      ahead-on file day channel at (f .end) u v (seen file st) (seen file s) (handed-looked file at r is p f h .ends) (handed-inside file at r is p f h) a next-is (first-is ev)

@@ -8,7 +8,7 @@ use native.Mathlib.Omega.{arith}
 use native.Mathlib.Decide.{decLt}
 use lib.ListN.{length, drop, length-drop}
 use lib.Seq.{drop-length}
-use borrow.Author.Tests.{eq-eqb, ne-eqb, lt-ltb, le-ltb}
+use borrow.Author.Tests.{ne-eqb, lt-ltb, le-ltb}
 use Rattle.ground.specs.Lists.{part}
 use Rattle.format.specs.Cut.{lines}
 use Rattle.format.specs.Order.{Due}
@@ -29,8 +29,9 @@ use Rattle.walker.proofs.Handed.{handed-none, handed-looked, handed-inside, han
 use Rattle.order.specs.declared.State.{State}
 use Rattle.order.specs.declared.Step.{Step}
 use Rattle.order.specs.declared.Step.the-variants as step
-use Rattle.order.specs.State.{seen, closed, Kept, Next, goes, stops, orStop, nextOf, stepAs, Holds}
+use Rattle.order.specs.State.{expectedAs, seen, closed, Kept, Next, goes, stops, orStop, nextOf, stepAs, Holds}
 use Rattle.order.proofs.Next.{kept-on}
+use Rattle.order.proofs.Expected.{is-end, not-end}
 use Rattle.day.specs.declared.Under.{Under}
 use Rattle.day.specs.declared.DayStart.{DayStart}
 use Rattle.day.specs.Places.{DayAhead}
@@ -51,7 +52,7 @@ unfolding checkOf
 too-long file h = rw (lt-ltb _ _ h)
 
 walk-begins : (file : List ℕ) → length file ≤ 1048576 → checkOf file ≡ walkOf (seen file (closed 0 0 0 0 0 0)) 0 0 (lines (drop 0 file))
-unfolding checkOf
+unfolding checkOf expectedAs
 walk-begins file h = rw (le-ltb _ _ h)
 
 -- ---- a turn: the walk stands at `at`, before record k, which ends at e
@@ -69,11 +70,11 @@ onward-is : (p k : ℕ) (f : Fault) (st : Due) (w : Due → Answer) → orGoOn p
 onward-is p k fault.Fine st w = refl
 onward-is p k (fault.Stop x o i) st w = refl
 
-module _ (file : List ℕ) (at k : ℕ) (st : State) (r : Record) (is : r ≡ recordAt file at) (going : st .expect ≡ 9 → ⊥)
+module _ (file : List ℕ) (at k : ℕ) (st : State) (r : Record) (is : r ≡ recordAt file at) (known : st .expect ≤ 9) (going : st .expect ≡ 9 → ⊥)
     (inv : checkOf file ≡ walkOf (seen file st) at k (lines (drop at file))) where
   pub walk-2 : r ≡ None → checkOf file ≡ refused 2 at k 0
   unfolding walkOf
-  walk-2 h = inv ∙ rw (handed-none file at r is h, ne-eqb _ _ going)
+  walk-2 h = inv ∙ rw (handed-none file at r is h, not-end (st .expect) known going)
 
   module _ (p : ℕ) (f : Found) (h : r ≡ At p f) (t : Step) (et : stepAs file t ≡ nextOf (seen file st) (part file at (f .end))) where
     abbrev e : ℕ
@@ -85,7 +86,7 @@ module _ (file : List ℕ) (at k : ℕ) (st : State) (r : Record) (is : r ≡ re
         let s : LineEnd file at e = handed-looked file at r is p f h .ends in
         let m : at + length (part file at e) + 2 ≡ e + 2 = omega (arith, line-long file at e s, s .order) in
         rw et
-        (inv ∙ rw (line-more file at e s (handed-inside file at r is p f h), ne-eqb _ _ going, m)
+        (inv ∙ rw (line-more file at e s (handed-inside file at r is p f h), not-end (st .expect) known going, m)
         (onward-is at k (faultOf (seen file st) (part file at e)) (after (seen file st) (part file at e)) (behind file e k)))
 
     pub walk-stop : (x o i : ℕ) → t ≡ step.Stop x o i → checkOf file ≡ refused x (at + o) k i
@@ -100,7 +101,7 @@ module _ (file : List ℕ) (at k : ℕ) (st : State) (r : Record) (is : r ≡ re
 module _ (file : List ℕ) (at k : ℕ) (st : State) (done : st .expect ≡ 9) (inv : checkOf file ≡ walkOf (seen file st) at k (lines (drop at file))) where
   pub walk-end : (v c d : ℕ) → at ≡ length file → v ≡ st .version → c ≡ st .channels → d ≡ st .days → accepted (v ∷ c ∷ d ∷ []) ≡ checkOf file
   unfolding walkOf lines
-  walk-end v c d h ev ec ed = rw (inv, h, drop-length file, eq-eqb _ _ done, ev, ec, ed)
+  walk-end v c d h ev ec ed = rw (inv, h, drop-length file, is-end (st .expect) done, ev, ec, ed)
 
   pub walk-13 : {a : Answer} → at ≤ length file → (at ≡ length file → ⊥) → a ≡ refused 13 at k 0 → a ≡ checkOf file
   unfolding walkOf
@@ -110,15 +111,15 @@ module _ (file : List ℕ) (at k : ℕ) (st : State) (done : st .expect ≡ 9) (
       e = at + lineLen (drop at file)
 
       by : Dec (e < length file) → walkOf (seen file st) at k (lines (drop at file)) ≡ refused 13 at k 0
-      by (yes p) = rw (line-more file at e (line-at file at l) (λ z. omega arith), eq-eqb _ _ done)
+      by (yes p) = rw (line-more file at e (line-at file at l) (λ z. omega arith), is-end (st .expect) done)
       by (no p) =
           let g : length (drop at file) ≡ 0 → ⊥ = λ z. omega (arith, length-drop at file) in
-          rw (line-none file at e (line-at file at l) (omega (arith, line-at file at l .within)), eq-eqb _ _ done, ne-eqb _ _ g)
+          rw (line-none file at e (line-at file at l) (omega (arith, line-at file at l .within)), is-end (st .expect) done, ne-eqb _ _ g)
 
 -- ---- the state is kept
 
 kept-first : (file : List ℕ) → Kept file 0 (closed 0 0 0 0 0 0)
-kept-first file = record { within = omega arith; small = omega arith; channels = omega arith; days = omega arith }
+kept-first file = record { known = omega arith; begun = λ z. absurd (let y : ⊥ = omega arith in y); within = omega arith; small = omega arith; channels = omega arith; days = omega arith }
 
 -- ---- the walk on its way
 
@@ -155,7 +156,7 @@ module _ (file : List ℕ) (day channel : ℕ) (t : Tour) (g : Touring file day 
           within = room;
           few = omega (arith, g .few, order);
           kept = kept-on file (t .at) (f .end) w hw s q;
-          walked = walk-on file (t .at) (t .records) (t .state) r is going (g .walked) p f h w ew s q;
+          walked = walk-on file (t .at) (t .records) (t .state) r is (g .kept .known) going (g .walked) p f h w ew s q;
           heads = b;
           ahead = a;
           to-day = day-noted file day channel (f .end + 2) u (seen file s) room b a (t .day) d (g .to-day) ed;
@@ -168,11 +169,11 @@ module _ (file : List ℕ) (day channel : ℕ) (t : Tour) (g : Touring file day 
 module _ (file : List ℕ) (day channel : ℕ) (t : Tour) (g : Touring file day channel t) (going : t .state .expect ≡ 9 → ⊥) (r : Record)
     (is : r ≡ recordAt file (t .at)) where
   pub turned-2 : r ≡ None → checkOf file ≡ refused 2 (t .at) (t .records) 0
-  turned-2 h = walk-2 file (t .at) (t .records) (t .state) r is going (g .walked) h
+  turned-2 h = walk-2 file (t .at) (t .records) (t .state) r is (g .kept .known) going (g .walked) h
 
   pub turned-stop : (p : ℕ) (f : Found) → r ≡ At p f → (w : Step) → stepAs file w ≡ nextOf (seen file (t .state)) (part file (t .at) (f .end)) → (x o i : ℕ)
       → w ≡ step.Stop x o i → checkOf file ≡ refused x (t .at + o) (t .records) i
-  turned-stop p f h w ew x o i q = walk-stop file (t .at) (t .records) (t .state) r is going (g .walked) p f h w ew x o i q
+  turned-stop p f h w ew x o i q = walk-stop file (t .at) (t .records) (t .state) r is (g .kept .known) going (g .walked) p f h w ew x o i q
 
 -- behind the 900
 module _ (file : List ℕ) (day channel : ℕ) (t : Tour) (g : Touring file day channel t) (done : t .state .expect ≡ 9) where

@@ -2,27 +2,28 @@
 -- Assumes nothing.
 use Prim.Native.Nat.{ℕ, _+_, _≤_, _<_}
 use mathlib.Core.Path.{_≡_, refl, sym, ap, ap₂, _∙_, subst}
-use mathlib.Core.Bool.{Bool, true, false, cond}
+use mathlib.Core.Bool.{true, false}
 use mathlib.Core.List.{List, [], _∷_, _++_, map, append-assoc}
 use native.Mathlib.Omega.{arith}
 use lib.ListN.{length, drop}
 use lib.Seq.{drop-append-seam}
-use borrow.Author.Tests.{eqb-true, ne-eqb, le-leb}
 use Rattle.ground.specs.Text.{bytes}
 use Rattle.ground.specs.Digits.{isDigit}
+use Rattle.ground.proofs.Cases.{by}
 use Rattle.format.specs.Bytes.{areAll}
 use Rattle.format.specs.Numbers.{numberOf}
 use Rattle.format.specs.Cut.{Lines, line, rest, lines, fields}
-use Rattle.format.specs.Records.{isKind, indicatorOf, kindIn, rowOf, countOf, ruleOf, obeys, intervalsIn, qualitiesOf, firstBroken}
-use Rattle.format.specs.Order.{Due, begun, mayCome, isVaried, on300, afterOf}
+use Rattle.format.specs.Records.{isKind, indicatorOf, kindIn, rowOf, countOf, ruleOf, obeys, intervalsIn, qualitiesOf}
+use Rattle.format.specs.Order.{mayCome, inDay, isEnd, Due, begun, isVaried, on300, afterOf}
 use Rattle.format.specs.Answers.{accepted}
 use Rattle.format.specs.Faults.{isOpen, faultIn, brokenIn, isNotLater, isOff, isAlike, isElsewhere, faultOf}
 use Rattle.format.specs.File.{after, walkOf, most, checkOf}
 use Rattle.format.specs.Day.{Row, rowAt, DayRows, runsFrom, dayFrom, daysFrom, daysOf, tagsOf, Day, marksOf, dayOf}
 use Rattle.format.specs.declared.Fault.the-variants.{Fine}
 use Rattle.format.proofs.Cut.{bytesOf, bytes-lines}
+use Rattle.format.proofs.States.{implied, not-ended}
 use Rattle.passing.specs.Passes.{kindsOf, Free, Accepted, Awaits, Leads}
-use Rattle.passing.proofs.Fit.{fine-fit, fit-fine, fit-cover, in-days, free-of, free-if}
+use Rattle.passing.proofs.Fit.{fine-fit, fit-fine, fit-cover, free-of, free-if}
 use Rattle.passing.proofs.Walk.{not-accepted, goes, walk-of, of-walk}
 use Rattle.passing.proofs.Steps.{after-300, runs-end, days-more}
 use Rattle.passing.proofs.Blocks.{headed, Kept, under-kept}
@@ -41,12 +42,7 @@ record Ended (st end : Due) (d : Day) : Type 0 where
   version : end .version ≡ st .version
   channels : end .channels ≡ st .channels
   days : end .days ≡ st .days + 1
-  low : 3 ≤ end .expect
-  high : end .expect ≤ 5
-
-varied-low : (b : Bool) → 3 ≤ cond b 4 3
-varied-low true = omega arith
-varied-low false = omega arith
+  inside : inDay (end .expect) ≡ true
 
 module _ (st : Due) (b : List ℕ) (a : Accepted st b) where
   ended : (p : ℕ) (c : Row) (d : Day) → intervalsIn (c .cells) ≡ st .n → Reads p c b d → Ended st (a .end) d
@@ -61,8 +57,7 @@ module _ (st : Due) (b : List ℕ) (a : Accepted st b) where
         version = k .version;
         channels = k .channels;
         days = k .days;
-        low = k .under (varied-low (isVaried (st .n) (fields (w .first))));
-        high = in-days (a .end .expect) (a .free .0) .1;
+        inside = k .under (by (isVaried (st .n) (fields (w .first))) (λ t. rw t) (λ t. rw t));
       }
 
   -- ---- where a block may stand
@@ -73,18 +68,17 @@ module _ (st : Due) (b : List ℕ) (a : Accepted st b) where
 
 -- behind a 200
 pub behind-200 : (st : Due) (r : List ℕ) → kindIn (fields r) ≡ 200 → (date : ℕ) → 1 ≤ date → Awaits (after st r) (intervalsIn (fields r)) date
-unfolding afterOf mayCome isOpen
+unfolding afterOf isOpen
 behind-200 st r k t l = rw k (record { free = (refl, refl); intervals = refl; earlier = l })
 
 -- ---- the records behind a block
 
 -- no 400 follows where the cover is complete
 no-run : (st : Due) (r : List ℕ) → Free st → faultOf st r ≡ Fine → kindIn (fields r) ≡ 400 → ⊥
-unfolding mayCome
 no-run st r f h k =
     let w = fine-fit st r h in
     let m : mayCome (st .expect) 400 ≡ true = rw k at (w .may) in
-    let l : st .n < st .next = free-of st 300 (f .1) (λ z. omega arith) (eqb-true _ _ m) in
+    let l : st .n < st .next = free-of st 300 (f .1) (λ z. omega arith) m in
     let c = fit-cover st r w k in
     omega (arith, c .0, c .1, c .2)
 
@@ -111,8 +105,8 @@ module _ (before b behind : List ℕ) (st : Due) (d : Day) (h : Leads before st)
   onward : Onward st before (b ++ behind)
   onward =
       let w = headed st b a in
-      let m = in-days (st .expect) (rw (w .kind) at (w .fit .may)) in
-      days-append st before (b ++ behind) h (m .0) (m .1)
+      let m : mayCome (st .expect) 300 ≡ true = rw (w .kind) at (w .fit .may) in
+      days-append st before (b ++ behind) h m
 
   -- the rows of the block's day
   rows : DayRows
@@ -169,14 +163,14 @@ module _ (before b behind : List ℕ) (st : Due) (d : Day) (h : Leads before st)
 abbrev nine : List ℕ
 nine = bytes "900"
 
-nine-fine : (st : Due) → 3 ≤ st .expect → st .expect ≤ 5 → isOpen st 300 ≡ false → faultOf st nine ≡ Fine
-unfolding fields kindIn indicatorOf isKind numberOf areAll isDigit mayCome countOf rowOf faultIn obeys ruleOf brokenIn qualitiesOf firstBroken isNotLater isOff isAlike isElsewhere
-nine-fine st l h f =
+nine-fine : (st : Due) → inDay (st .expect) ≡ true → isOpen st 300 ≡ false → faultOf st nine ≡ Fine
+unfolding fields kindIn indicatorOf isKind numberOf areAll isDigit countOf rowOf faultIn obeys ruleOf brokenIn qualitiesOf isNotLater isOff isAlike isElsewhere
+nine-fine st l f =
     fit-fine st nine
     (record {
       bytes = refl;
       free = free-if st 900 (free-of st 300 f (λ z. omega arith));
-      may = rw (le-leb 3 (st .expect) l, le-leb (st .expect) 5 h);
+      may = implied inDay (λ y. mayCome y 900) refl (st .expect) l;
       ok = (refl, refl, refl);
       rises = refl;
       cover = refl;
@@ -184,17 +178,17 @@ nine-fine st l h f =
       day = refl;
     })
 
-nine-ends : (st : Due) (p k : ℕ) → faultOf st nine ≡ Fine → (st .expect ≡ 9 → ⊥) → walkOf st p k (lines (bytes "900\r\n")) ≡ accepted (st .version ∷ st .channels ∷ st .days ∷ [])
+nine-ends : (st : Due) (p k : ℕ) → faultOf st nine ≡ Fine → isEnd (st .expect) ≡ false → walkOf st p k (lines (bytes "900\r\n")) ≡ accepted (st .version ∷ st .channels ∷ st .days ∷ [])
 unfolding walkOf lines afterOf fields kindIn indicatorOf isKind numberOf areAll isDigit
-nine-ends st p k h e = rw (ne-eqb _ _ e, h)
+nine-ends st p k h e = rw (e, h)
 
 pub closes : (before b : List ℕ) (st : Due) (d : Day) → Leads before st → Accepted st b → (c : Row) → intervalsIn (c .cells) ≡ st .n → Reads (length before) c b d
     → length (before ++ b ++ bytes "900\r\n") ≤ most
     → checkOf (before ++ b ++ bytes "900\r\n") ≡ accepted (st .version ∷ st .channels ∷ (st .days + 1) ∷ [])
 closes before b st d h a c n s l =
     let w = ended st b a (length before) c d n s in
-    let f = nine-fine (a .end) (w .low) (w .high) (a .free .1) in
+    let f = nine-fine (a .end) (w .inside) (a .free .1) in
     let g : accepted (a .end .version ∷ a .end .channels ∷ a .end .days ∷ []) ≡ accepted (st .version ∷ st .channels ∷ (st .days + 1) ∷ []) =
     rw (w .version, w .channels, w .days) in
     of-walk (before ++ b ++ bytes "900\r\n") (accepted (st .version ∷ st .channels ∷ (st .days + 1) ∷ [])) l
-    (walks before b (bytes "900\r\n") st d h a c n s ∙ nine-ends (a .end) (length (before ++ b)) (length (kindsOf (lines (before ++ b)))) f (λ z. omega (arith, w .high)) ∙ g)
+    (walks before b (bytes "900\r\n") st d h a c n s ∙ nine-ends (a .end) (length (before ++ b)) (length (kindsOf (lines (before ++ b)))) f (not-ended (a .end .expect) 500 (w .inside)) ∙ g)

@@ -2,7 +2,7 @@
 use Prim.Native.Nat.{ℕ, _+_, _≤_, _<_}
 use mathlib.Core.Path.{_≡_, refl, sym, ap, ap₂, _∙_, subst}
 use mathlib.Core.Logic.{_⊎_, inl, inr}
-use mathlib.Core.Bool.{true, false}
+use mathlib.Core.Bool.{true, false, false≢true}
 use mathlib.Core.List.{List, [], _∷_, _++_, map}
 use native.Mathlib.Omega.{arith}
 use lib.ListN.{length}
@@ -10,23 +10,24 @@ use lib.Dec.{eqb}
 use borrow.Author.Tests.{eqb-true, eq-eqb, le-leb, lt-leb}
 use Rattle.ground.proofs.Cases.{by}
 use Rattle.format.specs.Cut.{Lines, line, rest, lines, fields}
-use Rattle.format.specs.Records.{kindIn, intervalsIn, dateIn, firstIn, lastIn}
-use Rattle.format.specs.Order.{Due, mayCome, isVaried, alikeWith, on300, on400, on500, afterOf}
+use Rattle.format.specs.Records.{kindIn, intervalsIn, dateIn, firstIn, lastIn, markIn}
+use Rattle.format.specs.Order.{mayCome, inDay, inVaried, shareWith, Due, isVaried, alikeWith, on300, on400, on500, afterOf}
 use Rattle.format.specs.Faults.{size, isOpen, isNotLater, covers, isOff, isAlike, isElsewhere, faultOf}
 use Rattle.format.specs.File.{after, behind200}
 use Rattle.format.specs.Day.{Row, DayRows, runsFrom, dayFrom, daysFrom, Day, dayOf}
 use Rattle.format.specs.declared.Fault.the-variants.{Fine}
+use Rattle.format.proofs.States.{implied}
 use Rattle.passing.specs.Passes.{Passes, kindsOf, areUnder, isBlock, Free, Accepted}
 use Rattle.passing.proofs.Fit.{Ok, fit-fine, free-if, free-400}
 use Rattle.passing.proofs.Steps.{blockFound, days-more}
-use Rattle.theorems.specs.Grammar.{Each, Record, join, text, IsRecord, Block, Covers, Marked, Extra, IsBlock}
+use Rattle.theorems.specs.Grammar.{Each, Record, join, text, IsRecord, Block, Covers, Extra, IsBlock}
 use Rattle.theorems.specs.Days.{recordAt, rowsAt, rowsOf, blockAt, dayIn, meant}
 use Rattle.theorems.proofs.Bytes.{lines-row}
 use Rattle.theorems.proofs.Rows.{Fields, record-fields, record-ok}
 use Rattle.theorems.proofs.Says.{date-some, day-on}
 use Rattle.theorems.proofs.Meaning.{day-anywhere}
 use Rattle.theorems.proofs.Takes.{fields-of}
-use Rattle.theorems.proofs.Apart.{Apart, apart-on, marked-end}
+use Rattle.theorems.proofs.Apart.{Apart, apart-on, end-apart, marked-end}
 use Rattle.shortest.specs.Blocks.{Reads, Says}
 
 -- ---- records as their fields, and as the lines of a file
@@ -85,24 +86,24 @@ module _ (st : Due) (fs : Record) where
   tests-300 f l =
       record { free = f .1; may = f .0; rises = lt-leb _ _ l; cover = refl; apart = refl; day = refl }
 
-  tests-400 : st .expect ≡ 4 → firstIn fs ≡ st .next → firstIn fs ≤ lastIn fs → lastIn fs ≤ st .n → (lastIn fs ≡ st .n → alikeWith st fs ≡ false) → Tests st 400 fs
-  unfolding mayCome isNotLater isOff covers isAlike isElsewhere
+  tests-400 : inVaried (st .expect) ≡ true → firstIn fs ≡ st .next → firstIn fs ≤ lastIn fs → lastIn fs ≤ st .n → (lastIn fs ≡ st .n → alikeWith st fs ≡ false) → Tests st 400 fs
+  unfolding isNotLater isOff covers isAlike isElsewhere
   tests-400 x s o w al =
       record {
         free = free-400 st;
-        may = eq-eqb _ _ x;
+        may = x;
         rises = refl;
         cover = rw (eq-eqb _ _ s, le-leb _ _ o, le-leb _ _ w);
         apart = by (eqb (lastIn fs) (st .n)) (λ t. rw (t, al (eqb-true _ _ t))) (λ t. rw t);
         day = refl;
       }
 
-  tests-500 : Extra (st .date) fs → 3 ≤ st .expect → st .expect ≤ 5 → (st .expect ≡ 4 → st .n < st .next) → Tests st 500 fs
-  unfolding mayCome isNotLater isOff isAlike isElsewhere
-  tests-500 x l h f =
+  tests-500 : Extra (st .date) fs → inDay (st .expect) ≡ true → (inVaried (st .expect) ≡ true → st .n < st .next) → Tests st 500 fs
+  unfolding isNotLater isOff isAlike isElsewhere
+  tests-500 x l f =
       record {
         free = free-if st 500 f;
-        may = rw (le-leb _ _ l, le-leb _ _ h);
+        may = l;
         rises = refl;
         cover = refl;
         apart = refl;
@@ -117,28 +118,27 @@ record Done (st : Due) (ls : Lines) : Type 0 where
   passes : Passes st ls end
   free : Free end
 
-free-here : (st : Due) → 3 ≤ st .expect → st .expect ≤ 5 → (st .expect ≡ 4 → st .n < st .next) → Free st
-unfolding mayCome
-free-here st l h f = let a : 2 ≤ st .expect = omega arith in (rw (le-leb _ _ a, le-leb _ _ h), free-if st 300 f)
+free-here : (st : Due) → inDay (st .expect) ≡ true → (inVaried (st .expect) ≡ true → st .n < st .next) → Free st
+free-here st l f = (implied inDay (λ y. mayCome y 300) refl (st .expect) l, free-if st 300 f)
 
-extras-pass : (xs : List Record) (st : Due) → 3 ≤ st .expect → st .expect ≤ 5 → (st .expect ≡ 4 → st .n < st .next) → Each (Extra (st .date)) xs → Done st (cut xs)
+extras-pass : (xs : List Record) (st : Due) → inDay (st .expect) ≡ true → (inVaried (st .expect) ≡ true → st .n < st .next) → Each (Extra (st .date)) xs → Done st (cut xs)
 unfolding afterOf
-extras-pass [] st l h f x = record { end = st; passes = (refl, refl); free = free-here st l h f }
-extras-pass (r ∷ rs) st l h f x =
-    let w = extras-pass rs (on500 st r) (omega arith) (omega arith) (λ z. absurd (let y : ⊥ = omega arith in y)) (x .1) in
-    record { end = w .end; passes = go-on st 500 r (x .0 .0) (cut rs) (w .end) (tests-500 st r (x .0) l h f) (w .passes); free = w .free }
+extras-pass [] st l f x = record { end = st; passes = (refl, refl); free = free-here st l f }
+extras-pass (r ∷ rs) st l f x =
+    let w = extras-pass rs (on500 st r) refl (λ z. absurd (false≢true z)) (x .1) in
+    record { end = w .end; passes = go-on st 500 r (x .0 .0) (cut rs) (w .end) (tests-500 st r (x .0) l f) (w .passes); free = w .free }
 
-runs-pass : (rs xs : List Record) (st : Due) → st .expect ≡ 4 → 1 ≤ st .next → Each (IsRecord 400 0) rs → Covers (st .n) (st .next) rs → Apart st rs → Each (Extra (st .date)) xs
+runs-pass : (rs xs : List Record) (st : Due) → inVaried (st .expect) ≡ true → 1 ≤ st .next → Each (IsRecord 400 0) rs → Covers (st .n) (st .next) rs → Apart (st .shared) rs → Each (Extra (st .date)) xs
     → Done st (cut (rs ++ xs))
-unfolding afterOf
-runs-pass [] xs st x o h cv a g = extras-pass xs st (omega arith) (omega arith) (λ z. omega arith) g
+unfolding afterOf alikeWith
+runs-pass [] xs st x o h cv a g = extras-pass xs st (implied inVaried inDay refl (st .expect) x) (λ z. omega arith) g
 runs-pass (r ∷ rs) xs st x o h cv a g =
-    let on : alikeWith st r ≡ true → Marked (on400 st r .mark) rs → ⊥ = apart-on st r rs a in
+    let on : Apart (shareWith (st .shared) (markIn r)) rs = apart-on r rs (st .shared) a in
     let no : lastIn r ≡ st .n → alikeWith st r ≡ false =
-    λ z. by (alikeWith st r) (λ t. absurd (on t (marked-end (st .n) (lastIn r + 1) rs (on400 st r .mark) (omega arith) (cv .3)))) (λ t. t) in
+    λ z. end-apart (shareWith (st .shared) (markIn r)) rs (λ m. marked-end (st .n) (lastIn r + 1) rs m (omega arith) (cv .3)) on in
     let le : firstIn r ≤ lastIn r = cv .1 in
     let eq : firstIn r ≡ st .next = cv .0 in
-    let w = runs-pass rs xs (on400 st r) refl (omega arith) (h .1) (cv .3) (record { first = λ z q. (let y : lastIn r + 1 ≡ 1 = z in omega arith); later = λ z. on }) g in
+    let w = runs-pass rs xs (on400 st r) refl (omega arith) (h .1) (cv .3) on g in
     record { end = w .end; passes = go-on st 400 r (h .0) (cut (rs ++ xs)) (w .end) (tests-400 st r x (cv .0) (cv .1) (cv .2) no) (w .passes); free = w .free }
 
 block-pass : (b : Block) (st : Due) → IsBlock (st .n) b → Free st → st .date < dateIn (b .top) → Done st (cut (rowsOf b))
@@ -150,12 +150,11 @@ block-pass b st h f l = by (isVaried (st .n) (b .top)) varied alike
 
     varied : isVaried (st .n) (b .top) ≡ true → Done st (cut (rowsOf b))
     varied e =
-        under (runs-pass (b .runs) (b .extra) (on300 st (b .top)) (rw e) (omega arith) (h .runs) (h .covers e) (record { first = λ z. h .unlike e; later = λ z. absurd (z refl) }) (h .extra))
+        under (runs-pass (b .runs) (b .extra) (on300 st (b .top)) (rw e) (omega arith) (h .runs) (h .covers e) (h .unlike e) (h .extra))
 
     alike : isVaried (st .n) (b .top) ≡ false → Done st (cut (rowsOf b))
     alike e =
-        let x : on300 st (b .top) .expect ≡ 3 = rw e in
-        let w = extras-pass (b .extra) (on300 st (b .top)) (omega (arith, x)) (omega (arith, x)) (λ z. absurd (let y : ⊥ = omega (arith, x) in y)) (h .extra) in
+        let w = extras-pass (b .extra) (on300 st (b .top)) (rw e) (λ z. absurd (false≢true (rw e at z))) (h .extra) in
         under (subst (λ (rs : List Record). Done (on300 st (b .top)) (cut (rs ++ b .extra))) (sym (h .only-v e)) w)
 
 -- ---- the block
@@ -242,7 +241,7 @@ block-accepted b st h f l =
 
 -- every block of the grammar says, under a 200 of its n, the day that it is
 pub block-says : (b : Block) (n : ℕ) → IsBlock n b → (c : Row) → intervalsIn (c .cells) ≡ n → Says (text (rowsOf b)) (dayIn n b)
-unfolding mayCome isOpen
+unfolding isOpen
 block-says b n h c e =
     let st : Due = behind200 n in
     record {

@@ -15,8 +15,8 @@ use Rattle.format.specs.Texts.{isNmi, isSuffix, isStream, isParty, isConfigurat
 use Rattle.format.specs.Numbers.{numberOf, leadingZero, smallOf, isLength, lengthOf, intervalsOf}
 use Rattle.format.specs.Dates.{isLeap, daysIn, isDay, isDate, isTime, isMinute, dateOf, createdOf, nextReadOf}
 use Rattle.format.specs.Cut.{lines, fields}
-use Rattle.format.specs.Records.{isKind, indicatorOf, kindIn, rowOf, countOf, ruleOf, obeys, versionIn, intervalsIn, qualitiesOf, firstBroken}
-use Rattle.format.specs.Order.{due, mayCome, afterOf}
+use Rattle.format.specs.Records.{isKind, indicatorOf, kindIn, rowOf, countOf, ruleOf, obeys, versionIn, intervalsIn, qualitiesOf}
+use Rattle.format.specs.Order.{first300, due, afterOf}
 use Rattle.format.specs.Faults.{isOpen, faultIn, brokenIn, isNotLater, isOff, isAlike, isElsewhere, faultAt, faultOf}
 use Rattle.format.specs.Day.{Row, rowAt}
 use Rattle.format.specs.Settled.{records}
@@ -35,8 +35,8 @@ channel m z =
     λ e₂. by (eqb m 30) (λ e. rw (eqb-true m 30 e) (rowAt 0 (bytes ",,,,,,,,30,"), refl))
     λ e₃. absurd (z (rw (e₁, e₂, e₃)))
 
-pub place : (m : ℕ) → intervalsOf m ≢ 0 → (before : List ℕ) × Leads before (due 2 12 (intervalsOf m) 0 1 0)
-unfolding spanOf same isDigit isCapital isLetter isAlnum endSpace isText areAll isNmi isSuffix isStream isParty isConfiguration isRegister isSerial isUnit versionOf numberOf leadingZero smallOf isLength lengthOf intervalsOf isLeap daysIn isDay isDate isTime isMinute dateOf createdOf nextReadOf lines fields isKind indicatorOf kindIn rowOf countOf ruleOf obeys versionIn intervalsIn qualitiesOf firstBroken mayCome afterOf isOpen faultIn brokenIn isNotLater isOff isAlike isElsewhere faultAt faultOf
+pub place : (m : ℕ) → intervalsOf m ≢ 0 → (before : List ℕ) × Leads before (due first300 12 (intervalsOf m) 0 1 0)
+unfolding spanOf same isDigit isCapital isLetter isAlnum endSpace isText areAll isNmi isSuffix isStream isParty isConfiguration isRegister isSerial isUnit versionOf numberOf leadingZero smallOf isLength lengthOf intervalsOf isLeap daysIn isDay isDate isTime isMinute dateOf createdOf nextReadOf lines fields isKind indicatorOf kindIn rowOf countOf ruleOf obeys versionIn intervalsIn qualitiesOf afterOf isOpen faultIn brokenIn isNotLater isOff isAlike isElsewhere faultAt faultOf
 place m z =
     by (eqb m 5) (λ e. rw (eqb-true m 5 e) (opening "200,NEM1234567,E1,1,E1,N1,METER1,kWh,5,", (refl, (refl, (refl, refl)))))
     λ e₁. by (eqb m 15) (λ e. rw (eqb-true m 15 e) (opening "200,NEM1234567,E1,1,E1,N1,METER1,kWh,15,", (refl, (refl, (refl, refl)))))

@@ -10,9 +10,11 @@ use borrow.Author.Tests.{eqb-true, eqb-false, ne-eqb, not-true, not-false}
 use Rattle.ground.proofs.Tests.{and-true}
 use Rattle.ground.proofs.Cases.{by}
 use Rattle.format.specs.Numbers.{noReason}
+use Rattle.format.specs.Cut.{startOf}
 use Rattle.format.specs.Quality.{Mark, needsReason, across}
-use Rattle.format.specs.Records.{markAt, agrees, qualitiesOf, firstBroken}
-use Rattle.format.specs.Faults.{brokenIn}
+use Rattle.format.specs.Records.{markAt, agrees, qualitiesOf}
+use Rattle.format.specs.Faults.{brokenIn, f7}
+use Rattle.format.specs.declared.Fault.the-variants.{Fine, Stop}
 use Rattle.theorems.specs.Grammar.{Each, Record, Together}
 
 module _ (m : Mark) where
@@ -53,24 +55,22 @@ module _ (m : Mark) where
       rw (a, b, c)
 
 module _ (k : ℕ) (fs : Record) where
-  broken-none : (is : List ℕ) → firstBroken k fs is ≡ 0 → Each (λ i. Together (markAt k i fs)) is
-  unfolding firstBroken
+  broken-none : (is : List ℕ) → brokenIn k fs is ≡ Fine → Each (λ i. Together (markAt k i fs)) is
+  unfolding brokenIn
   broken-none [] h = tt
   broken-none (i ∷ is) h =
       by (agrees (markAt k i fs))
       (λ e. (agrees-together (markAt k i fs) e, broken-none is (rw e at h)))
-      (λ e. absurd (let z : i + 1 ≡ 0 = (rw e at h) in let y : ⊥ = omega arith in y))
+      (λ e. absurd (let z : Stop 7 (startOf i fs) (i + 1) ≡ Fine = (rw e at h) in let y : _≡_ {A = ℕ} 0 1 = cc in let u : ⊥ = omega arith in u))
 
-  none-broken : (is : List ℕ) → Each (λ i. Together (markAt k i fs)) is → firstBroken k fs is ≡ 0
-  unfolding firstBroken
+  none-broken : (is : List ℕ) → Each (λ i. Together (markAt k i fs)) is → brokenIn k fs is ≡ Fine
+  unfolding brokenIn
   none-broken [] h = refl
   none-broken (i ∷ is) h = rw (together-agrees (markAt k i fs) (h .0)) (none-broken is (h .1))
 
   -- no quality field breaks a rule exactly when every quality stands together with its reason and description
-  pub unbroken-together : (n : ℕ) → brokenIn k n fs ≡ 0 → Each (λ i. Together (markAt k i fs)) (qualitiesOf k n)
-  unfolding brokenIn
+  pub unbroken-together : (n : ℕ) → f7 k n fs ≡ Fine → Each (λ i. Together (markAt k i fs)) (qualitiesOf k n)
   unbroken-together n h = broken-none (qualitiesOf k n) h
 
-  pub together-unbroken : (n : ℕ) → Each (λ i. Together (markAt k i fs)) (qualitiesOf k n) → brokenIn k n fs ≡ 0
-  unfolding brokenIn
+  pub together-unbroken : (n : ℕ) → Each (λ i. Together (markAt k i fs)) (qualitiesOf k n) → f7 k n fs ≡ Fine
   together-unbroken n h = none-broken (qualitiesOf k n) h

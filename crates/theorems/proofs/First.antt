@@ -7,10 +7,10 @@ use mathlib.Core.List.{List, [], _∷_}
 use native.Mathlib.Omega.{arith}
 use lib.ListN.{length, length-append}
 use lib.Dec.{ltb}
-use borrow.Author.Tests.{eq-eqb, ne-eqb, lt-ltb, ltb-true, ltb-false}
+use borrow.Author.Tests.{ne-eqb, lt-ltb, ltb-true, ltb-false}
 use Rattle.ground.proofs.Cases.{by}
 use Rattle.format.specs.Cut.{Lines, line, rest, lines}
-use Rattle.format.specs.Order.{Due, begun}
+use Rattle.format.specs.Order.{isEnd, Due, begun}
 use Rattle.format.specs.Answers.{Answer, accepted, refused}
 use Rattle.format.specs.File.{after, walkOf, checkOf}
 use Rattle.format.proofs.Cut.{bytesOf, bytes-lines}
@@ -67,7 +67,7 @@ through (suc k) (rest t) st p a h = absurd h
 through (suc k) (line r ls) st p a h =
     let z : p + length r + 2 + placeIn k ls ≡ p + (length r + (2 + placeIn k ls)) = omega arith in
     let y : a + 1 + k ≡ a + suc k = omega arith in
-    rw (ne-eqb _ _ (h .0), none-fine st r (h .1), ← z, ← y) (through k ls (after st r) (p + length r + 2) (a + 1) (h .2))
+    rw (h .0, none-fine st r (h .1), ← z, ← y) (through k ls (after st r) (p + length r + 2) (a + 1) (h .2))
 
 module _ (file : List ℕ) (x q k i : ℕ) (l : length file ≤ 1048576) (c : Clear k begun (lines file)) where
   from-there : walkOf (stateAt k file) (placeOf k file) k (past k (lines file)) ≡ refused x q k i → checkOf file ≡ refused x q k i
@@ -79,16 +79,16 @@ module _ (file : List ℕ) (x q k i : ℕ) (l : length file ≤ 1048576) (c : Cl
       of-walk file (refused x q k i) l (t ∙ e)
 
 -- bytes behind the 900
-rest-behind : (ls : Lines) (st : Due) (p k : ℕ) → st .expect ≡ 9 → 1 ≤ length (bytesOf ls) → walkOf st p k ls ≡ refused 13 p k 0
+rest-behind : (ls : Lines) (st : Due) (p k : ℕ) → isEnd (st .expect) ≡ true → 1 ≤ length (bytesOf ls) → walkOf st p k ls ≡ refused 13 p k 0
 unfolding walkOf
-rest-behind (rest t) st p k e h = rw (eq-eqb _ _ e, ne-eqb (length t) 0 (λ z. omega arith))
-rest-behind (line r ls) st p k e h = rw (eq-eqb _ _ e)
+rest-behind (rest t) st p k e h = rw (e, ne-eqb (length t) 0 (λ z. omega arith))
+rest-behind (line r ls) st p k e h = rw e
 
 given-refused : (file : List ℕ) (x q k i : ℕ) → Given file x q k i → checkOf file ≡ refused x q k i
 unfolding checkOf walkOf
 given-refused file x q k i (too-long l a b c d) = rw (lt-ltb _ _ l, a, b, c, d)
-given-refused file x q k i (no-end l c t e o a b d) = from-there file x q k i l c (rw (e, ne-eqb _ _ o, a, b, d))
-given-refused file x q k i (at-fault l c r more e n o f b) = from-there file x q k i l c (rw (e, ne-eqb _ _ n, first-fault (stateAt k file) r x o i f, b))
+given-refused file x q k i (no-end l c t e o a b d) = from-there file x q k i l c (rw (e, o, a, b, d))
+given-refused file x q k i (at-fault l c r more e n o f b) = from-there file x q k i l c (rw (e, n, first-fault (stateAt k file) r x o i f, b))
 given-refused file x q k i (behind-end l c h e a b d) =
     from-there file x q k i l c
     (rw (a, b, d) (rest-behind (past k (lines file)) (stateAt k file) (placeOf k file) k e (let z = left k file (clear-has k begun (lines file) c) in omega arith)))

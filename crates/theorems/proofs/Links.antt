@@ -15,8 +15,8 @@ use Rattle.ground.proofs.Cases.{by}
 use Rattle.ground.proofs.Spans.{spanned-all, span-le}
 use Rattle.format.specs.Bytes.{plain}
 use Rattle.format.specs.Cut.{fields, field, startOf}
-use Rattle.format.specs.Records.{kindIn, countOf, ruleOf, obeys, dateIn, firstIn, lastIn, readTimeIn, qualitiesOf, markAt, agrees, firstBroken}
-use Rattle.format.specs.Order.{Due, between, mayCome, alikeWith}
+use Rattle.format.specs.Records.{kindIn, countOf, ruleOf, obeys, dateIn, firstIn, lastIn, readTimeIn, qualitiesOf, markAt, agrees}
+use Rattle.format.specs.Order.{mayCome, inVaried, Due, alikeWith}
 use Rattle.format.specs.Faults.{_▹_, stop, f3, isOpen, f10, f4, size, f5, faultIn, f6, brokenIn, f7, isNotLater, f8, covers, isOff, f9, isAlike, f11, onDay, isElsewhere, f12, faultAt, faultOf}
 use Rattle.format.specs.declared.Fault.{Fault}
 use Rattle.format.specs.declared.Fault.the-variants.{Fine, Stop}
@@ -73,10 +73,10 @@ module _ (st : Due) (k n : ℕ) (fs : Record) where
   link-10 =
       test-link (isOpen st k) 0 0 (entry10 st k n fs)
       (λ t.
-      let a = and-true (eqb (st .expect) 4) (leb (st .next) (st .n) && not (eqb k 400)) t in
+      let a = and-true (inVaried (st .expect)) (leb (st .next) (st .n) && not (eqb k 400)) t in
       let b = and-true (leb (st .next) (st .n)) (not (eqb k 400)) (a .1) in
-      (eqb-true _ _ (a .0), leb-true _ _ (b .0), eqb-false _ _ (not-true _ (b .1)), refl, refl))
-      (λ t o i g. true≢false (let z : true ≡ false = (rw (eq-eqb _ _ (g .0), le-leb _ _ (g .1), ne-eqb _ _ (g .2)) at t) in z))
+      (a .0, leb-true _ _ (b .0), eqb-false _ _ (not-true _ (b .1)), refl, refl))
+      (λ t o i g. true≢false (let z : true ≡ false = (rw (g .0, le-leb _ _ (g .1), ne-eqb _ _ (g .2)) at t) in z))
 
   link-4 : Link (f4 st k) (entry4 st k n fs)
   link-4 = test-link (not (mayCome (st .expect) k)) 0 0 (entry4 st k n fs) (λ t. (not-true _ t, refl, refl)) (λ t o i g. true≢false (sym (not-false _ t) ∙ g .0))
@@ -203,31 +203,35 @@ module _ (k n : ℕ) where
 -- ---- 7
 
 module _ (k : ℕ) (fs : Record) where
-  broken-leftmost : (js : List ℕ) → (firstBroken k fs js ≡ 0 → ⊥) → Leftmost (λ a. Together (markAt k a fs)) (firstBroken k fs js - 1) js × (1 ≤ firstBroken k fs js)
-  unfolding firstBroken
-  broken-leftmost [] h = absurd (h refl)
-  broken-leftmost (a ∷ js) h =
+  broken-leftmost : (js : List ℕ) (x o i : ℕ) → brokenIn k fs js ≡ Stop x o i
+      → (x ≡ 7) × (j : ℕ) × Leftmost (λ a. Together (markAt k a fs)) j js × (o ≡ startOf j fs) × (i ≡ j + 1)
+  unfolding brokenIn
+  broken-leftmost [] x o i e = absurd (let z : true ≡ false = cc in true≢false z)
+  broken-leftmost (a ∷ js) x o i e =
       by (agrees (markAt k a fs))
-      (λ t. let w = broken-leftmost js (λ e. h (rw t e)) in rw t (inr (agrees-together (markAt k a fs) t, w .0), w .1))
-      (λ t. rw t (inl (let z : a + 1 - 1 ≡ a = omega arith in z, λ g. true≢false (sym (together-agrees (markAt k a fs) g) ∙ t)), omega arith))
+      (λ t. let w = broken-leftmost js x o i (rw t at e) in (w .0, w .1, inr (agrees-together (markAt k a fs) t, w .2), w .3, w .4))
+      (λ t.
+      let y : Stop 7 (startOf a fs) (a + 1) ≡ Stop x o i = rw t at e in
+      let ex : x ≡ 7 = cc in
+      let eo : o ≡ startOf a fs = cc in
+      let ei : i ≡ a + 1 = cc in
+      (ex, a, inl (refl, λ g. true≢false (sym (together-agrees (markAt k a fs) g) ∙ t)), eo, ei))
 
-  unbroken-none : (js : List ℕ) (j : ℕ) → firstBroken k fs js ≡ 0 → Leftmost (λ a. Together (markAt k a fs)) j js → ⊥
-  unfolding firstBroken
+  unbroken-none : (js : List ℕ) (j : ℕ) → brokenIn k fs js ≡ Fine → Leftmost (λ a. Together (markAt k a fs)) j js → ⊥
+  unfolding brokenIn
   unbroken-none [] j e g = g
   unbroken-none (a ∷ js) j e (inl w) =
       by (agrees (markAt k a fs))
       (λ t. w .1 (agrees-together (markAt k a fs) t))
-      (λ t. let z : a + 1 ≡ 0 = (rw t at e) in omega arith)
+      (λ t. let y : Stop 7 (startOf a fs) (a + 1) ≡ Fine = (rw t at e) in let z : true ≡ false = cc in true≢false z)
   unbroken-none (a ∷ js) j e (inr w) = unbroken-none js j (rw (together-agrees (markAt k a fs) (w .0)) at e) (w .1)
 
   link-7 : (st : Due) (n : ℕ) → Link (f7 k n fs) (entry7 st k n fs)
-  unfolding brokenIn
   link-7 st n =
-      test-link (not (eqb (brokenIn k n fs) 0)) (startOf (brokenIn k n fs - 1) fs) (brokenIn k n fs) (entry7 st k n fs)
-      (λ t.
-      let w = broken-leftmost (qualitiesOf k n) (eqb-false _ _ (not-true _ t)) in
-      (brokenIn k n fs - 1, w .0, refl, omega (arith, w .1)))
-      (λ t o i g. unbroken-none (qualitiesOf k n) (g .0) (eqb-true _ _ (not-false _ t)) (g .1))
+      record {
+        stops = λ x o i e. (let w = broken-leftmost (qualitiesOf k n) x o i e in (w .0, (w .1, w .2, w .3, w .4)));
+        fine = λ e o i g. unbroken-none (qualitiesOf k n) (g .0) e (g .1);
+      }
 
 -- ---- the chain
 
@@ -377,14 +381,17 @@ module _ (st : Due) (r : List ℕ) where
 
 -- ---- the numbers are those from 3 to 12
 
+abbrev inTable : ℕ → Bool
+inTable x = leb 3 x && leb x 12
+
 abbrev within : List Entry → Bool
 within [] = true
-within (c ∷ cs) = between 3 12 (c .number) && within cs
+within (c ∷ cs) = inTable (c .number) && within cs
 
-first-within : (cs : List Entry) (x o i : ℕ) → within cs ≡ true → First x o i cs → between 3 12 x ≡ true
+first-within : (cs : List Entry) (x o i : ℕ) → within cs ≡ true → First x o i cs → inTable x ≡ true
 first-within [] x o i w f = absurd f
-first-within (c ∷ cs) x o i w (inl f) = rw (f .0) (and-true (between 3 12 (c .number)) (within cs) w .0)
-first-within (c ∷ cs) x o i w (inr f) = first-within cs x o i (and-true (between 3 12 (c .number)) (within cs) w .1) (f .1)
+first-within (c ∷ cs) x o i w (inl f) = rw (f .0) (and-true (inTable (c .number)) (within cs) w .0)
+first-within (c ∷ cs) x o i w (inr f) = first-within cs x o i (and-true (inTable (c .number)) (within cs) w .1) (f .1)
 
 pub fault-number : (st : Due) (r : List ℕ) (x o i : ℕ) → faultOf st r ≡ Stop x o i → (3 ≤ x) × (x ≤ 12)
 fault-number st r x o i e =

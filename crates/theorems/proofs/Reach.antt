@@ -8,10 +8,10 @@ use native.Mathlib.Omega.{arith}
 use native.Mathlib.Numerals.{add-one}
 use lib.ListN.{length, take, drop, length-append, length-take, take-append-drop}
 use lib.Dec.{eqb}
-use borrow.Author.Tests.{eqb-true, eqb-false, eq-eqb, ne-eqb}
+use borrow.Author.Tests.{eqb-false}
 use Rattle.ground.proofs.Cases.{by}
 use Rattle.format.specs.Cut.{Lines, line, rest, lines}
-use Rattle.format.specs.Order.{Due, begun}
+use Rattle.format.specs.Order.{isEnd, Due, begun}
 use Rattle.format.specs.Faults.{faultOf}
 use Rattle.format.specs.Answers.{Answer, accepted, refused}
 use Rattle.format.specs.File.{after, orGoOn, walkOf, checkOf}
@@ -26,9 +26,9 @@ use Rattle.theorems.proofs.Links.{fine-none, fault-number}
 
 -- why a record is refused with x at q and field i, where it would start at p in the state st, and ls are the lines from there on
 pub data Why (st : Due) (p : ℕ) (ls : Lines) (x q i : ℕ) : Type 0 where
-  unfinished : (t : List ℕ) → ls ≡ rest t → (st .expect ≡ 9 → ⊥) → x ≡ 2 → q ≡ p → i ≡ 0 → Why st p ls x q i
-  faulty : (r : List ℕ) (more : Lines) (o : ℕ) → ls ≡ line r more → (st .expect ≡ 9 → ⊥) → faultOf st r ≡ Stop x o i → q ≡ p + o → Why st p ls x q i
-  trailing : st .expect ≡ 9 → 1 ≤ length (bytesOf ls) → x ≡ 13 → q ≡ p → i ≡ 0 → Why st p ls x q i
+  unfinished : (t : List ℕ) → ls ≡ rest t → isEnd (st .expect) ≡ false → x ≡ 2 → q ≡ p → i ≡ 0 → Why st p ls x q i
+  faulty : (r : List ℕ) (more : Lines) (o : ℕ) → ls ≡ line r more → isEnd (st .expect) ≡ false → faultOf st r ≡ Stop x o i → q ≡ p + o → Why st p ls x q i
+  trailing : isEnd (st .expect) ≡ true → 1 ≤ length (bytesOf ls) → x ≡ 13 → q ≡ p → i ≡ 0 → Why st p ls x q i
 
 -- record k, the j-th from here, is reached, and the answer comes from there, whatever its lines are
 record Reached (st : Due) (p a : ℕ) (ls : Lines) (x q k i : ℕ) : Type 0 where
@@ -53,7 +53,7 @@ here ls st p a x q k i e w =
     }
 
 -- one record on
-further : (r : List ℕ) (ls : Lines) (st : Due) (p a x q k i : ℕ) → (st .expect ≡ 9 → ⊥) → faultOf st r ≡ Fine
+further : (r : List ℕ) (ls : Lines) (st : Due) (p a x q k i : ℕ) → isEnd (st .expect) ≡ false → faultOf st r ≡ Fine
     → Reached (after st r) (p + length r + 2) (a + 1) ls x q k i → Reached st p a (line r ls) x q k i
 unfolding walkOf
 further r ls st p a x q k i o e w =
@@ -63,42 +63,42 @@ further r ls st p a x q k i o e w =
       number = omega (arith, w .number);
       has = w .has;
       clear = (o, fine-none st r e, w .clear);
-      same = λ m. rw (ne-eqb _ _ o, e, ← z) (w .same m);
+      same = λ m. rw (o, e, ← z) (w .same m);
       why = subst (λ (y : ℕ). Why (stateIn (w .j) (after st r) ls) y (past (w .j) ls) x q i) z (w .why);
     }
 
 reached : (ls : Lines) (st : Due) (p a x q k i : ℕ) → walkOf st p a ls ≡ refused x q k i → Reached st p a ls x q k i
 unfolding walkOf
 reached (rest t) st p a x q k i e =
-    by (eqb (st .expect) 9)
+    by (isEnd (st .expect))
     (λ s. by (eqb (length t) 0)
     (λ b. absurd (let y : accepted (st .version ∷ st .channels ∷ st .days ∷ []) ≡ refused x q k i = (rw (s, b) at e) in let z : true ≡ false = cc in true≢false z))
     (λ b.
     let y : refused 13 p a 0 ≡ refused x q k i = rw (s, b) at e in
     let n : length t ≡ 0 → ⊥ = eqb-false _ _ b in
-    here (rest t) st p a x q k i (let z : k ≡ a = cc in z) (trailing (eqb-true _ _ s) (omega arith) (let z : x ≡ 13 = cc in z) (let z : q ≡ p = cc in z) (let z : i ≡ 0 = cc in z))))
+    here (rest t) st p a x q k i (let z : k ≡ a = cc in z) (trailing s (omega arith) (let z : x ≡ 13 = cc in z) (let z : q ≡ p = cc in z) (let z : i ≡ 0 = cc in z))))
     (λ s.
     let y : refused 2 p a 0 ≡ refused x q k i = rw s at e in
-    here (rest t) st p a x q k i (let z : k ≡ a = cc in z) (unfinished t refl (eqb-false _ _ s) (let z : x ≡ 2 = cc in z) (let z : q ≡ p = cc in z) (let z : i ≡ 0 = cc in z)))
+    here (rest t) st p a x q k i (let z : k ≡ a = cc in z) (unfinished t refl s (let z : x ≡ 2 = cc in z) (let z : q ≡ p = cc in z) (let z : i ≡ 0 = cc in z)))
 reached (line r ls) st p a x q k i e =
-    by (eqb (st .expect) 9)
+    by (isEnd (st .expect))
     (λ s.
     let y : refused 13 p a 0 ≡ refused x q k i = rw s at e in
     here (line r ls) st p a x q k i (let z : k ≡ a = cc in z)
-    (trailing (eqb-true _ _ s) (omega (arith, length-append r (13 ∷ 10 ∷ bytesOf ls))) (let z : x ≡ 13 = cc in z) (let z : q ≡ p = cc in z) (let z : i ≡ 0 = cc in z)))
+    (trailing s (omega (arith, length-append r (13 ∷ 10 ∷ bytesOf ls))) (let z : x ≡ 13 = cc in z) (let z : q ≡ p = cc in z) (let z : i ≡ 0 = cc in z)))
     (λ s. go s (faultOf st r) refl (rw s at e) (λ h. reached ls (after st r) (p + length r + 2) (a + 1) x q k i h))
   where
-    go : eqb (st .expect) 9 ≡ false → (g : Fault) → faultOf st r ≡ g
+    go : isEnd (st .expect) ≡ false → (g : Fault) → faultOf st r ≡ g
         → orGoOn p a (faultOf st r) (walkOf (after st r) (p + length r + 2) (a + 1) ls) ≡ refused x q k i
         → (walkOf (after st r) (p + length r + 2) (a + 1) ls ≡ refused x q k i → Reached (after st r) (p + length r + 2) (a + 1) ls x q k i)
         → Reached st p a (line r ls) x q k i
-    go s Fine w h ih = further r ls st p a x q k i (eqb-false _ _ s) w (ih (rw w at h))
+    go s Fine w h ih = further r ls st p a x q k i s w (ih (rw w at h))
     go s (Stop y o f) w h ih =
         let z : refused y (p + o) a f ≡ refused x q k i = rw w at h in
         let ex : y ≡ x = cc in
         let ef : f ≡ i = cc in
         here (line r ls) st p a x q k i (let u : k ≡ a = cc in u)
-        (faulty r ls o refl (eqb-false _ _ s) (w ∙ rw (ex, ef)) (let u : q ≡ p + o = cc in u))
+        (faulty r ls o refl s (w ∙ rw (ex, ef)) (let u : q ≡ p + o = cc in u))
 
 -- ---- the same of a whole file, by the record's number
 
@@ -154,8 +154,8 @@ module _ (file : List ℕ) (x q k i : ℕ) (e : checkOf file ≡ refused x q k i
   prefix lo hi = let c = there (λ z. omega arith) in cut-there file k (c .1 .has) (c .1 .same) (c .0) (refused 2 (placeOf k file) k 0) (go (c .1 .why))
     where
       go : Why (stateAt k file) (placeOf k file) (past k (lines file)) x q i → walkOf (stateAt k file) (placeOf k file) k (rest []) ≡ refused 2 (placeOf k file) k 0
-      go (unfinished t a o b d f) = rw (ne-eqb _ _ o)
-      go (faulty r more o a n b d) = rw (ne-eqb _ _ n)
+      go (unfinished t a o b d f) = rw o
+      go (faulty r more o a n b d) = rw n
       go (trailing a b d f g) = absurd (let y : ⊥ = omega arith in y)
 
   -- and for 13 they are accepted
@@ -173,7 +173,7 @@ module _ (file : List ℕ) (x q k i : ℕ) (e : checkOf file ≡ refused x q k i
           → walkOf (stateAt k file) (placeOf k file) k (rest []) ≡ accepted (stateAt k file .version ∷ stateAt k file .channels ∷ stateAt k file .days ∷ [])
       go (unfinished t a o b d f) = absurd (let z : ⊥ = omega arith in z)
       go (faulty r more o a n b d) = absurd (let z : ⊥ = omega (arith, fault-number (stateAt k file) r x o i b) in z)
-      go (trailing a b d f g) = rw (eq-eqb _ _ a)
+      go (trailing a b d f g) = rw a
 
   -- ---- locality
 
@@ -191,7 +191,7 @@ module _ (file : List ℕ) (x q k i : ℕ) (e : checkOf file ≡ refused x q k i
             lines-cut (suc k) file t (has-next r more k (lines file) (w .has) a),
             keep-next r more k (lines file) (lines t) (w .has) a,
             w .same (line r (lines t)),
-            ne-eqb _ _ n,
+            n,
             b,
             d,
           )

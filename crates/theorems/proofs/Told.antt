@@ -9,29 +9,30 @@ use lib.Dec.{eqb}
 use borrow.Author.Tests.{eqb-true, eqb-false, eq-eqb, ne-eqb, not-false}
 use Rattle.ground.proofs.Cases.{by}
 use Rattle.format.specs.Cut.{Lines, line, rest, lines, fields}
-use Rattle.format.specs.Records.{kindIn, versionIn, dateIn, firstIn, lastIn, readTimeIn}
-use Rattle.format.specs.Order.{Due, begun, isVaried, alikeWith, on100, on200, on300, on400, on500, on250, on550, on900}
+use Rattle.format.specs.Records.{kindIn, versionIn, dateIn, firstIn, lastIn, readTimeIn, markIn}
+use Rattle.format.specs.Order.{the100, first200, first300, first250, kindsAt, mayCome, inDay, inVaried, isEnd, shareWith, Due, begun, isVaried, alikeWith, on100, on200, on300, on400, on500, on250, on550, on900}
 use Rattle.format.specs.Faults.{covers, isAlike, onDay, isElsewhere}
 use Rattle.format.specs.Answers.{accepted}
 use Rattle.format.specs.File.{after, walkOf}
 use Rattle.format.proofs.Cut.{bytesOf, bytes-lines, fields-some}
-use Rattle.passing.proofs.Fit.{Ok, Fit, fit-later, fit-cover, Head, h100, h200, more200, h300, h400, h500, h250, h550, h900, basic900, head, only, not-ended, free-of}
+use Rattle.format.proofs.States.{implied, excluded, only, not-ended}
+use Rattle.passing.proofs.Fit.{Ok, Fit, fit-later, fit-cover, Head, h100, h200, h300, h400, h500, h250, h550, h900, head, free-of}
 use Rattle.passing.proofs.Steps.{after-100, after-200, after-300, after-400, after-500, after-250, after-550, after-900}
 use Rattle.passing.proofs.Walk.{goes, ends}
 use Rattle.theorems.specs.Grammar.{Each, Rising, Record, text, IsRecord, Block, Covers, Extra, IsBlock, datesOf, Channel, IsChannel, Reading, IsReading, nem12, nem13, blocksThen, channelsThen, readingsThen, blocksIn, InFormat}
 use Rattle.theorems.proofs.Bytes.{join-fields, fields-bytes}
 use Rattle.theorems.proofs.Rows.{Fields, is-record}
 use Rattle.theorems.proofs.Says.{intervals-some, version-13, on-day}
-use Rattle.theorems.proofs.Apart.{Apart, apart-back}
+use Rattle.theorems.proofs.Apart.{Apart, apart-back, apart-end}
 
 -- ---- one record on
 
 module _ (st : Due) (p k v c d : ℕ) where
-  told-open : (t : List ℕ) → (st .expect ≡ 9 → ⊥) → walkOf st p k (rest t) ≡ accepted (v ∷ c ∷ d ∷ []) → ⊥
-  told-open t x e = x (ends st p k t (v ∷ c ∷ d ∷ []) e .expected)
+  told-open : (t : List ℕ) → isEnd (st .expect) ≡ false → walkOf st p k (rest t) ≡ accepted (v ∷ c ∷ d ∷ []) → ⊥
+  told-open t x e = true≢false (sym (ends st p k t (v ∷ c ∷ d ∷ []) e .expected) ∙ x)
 
-  told-end : (ls : Lines) → st .expect ≡ 9 → walkOf st p k ls ≡ accepted (v ∷ c ∷ d ∷ []) → (bytesOf ls ≡ []) × (v ≡ st .version) × (c ≡ st .channels) × (d ≡ st .days)
-  told-end (line r ls) x e = absurd (not-ended _ _ (head _ _ (goes st p k r ls (v ∷ c ∷ d ∷ []) e .fit .may)) x)
+  told-end : (ls : Lines) → isEnd (st .expect) ≡ true → walkOf st p k ls ≡ accepted (v ∷ c ∷ d ∷ []) → (bytesOf ls ≡ []) × (v ≡ st .version) × (c ≡ st .channels) × (d ≡ st .days)
+  told-end (line r ls) x e = absurd (true≢false (sym x ∙ not-ended (st .expect) (kindIn (fields r)) (goes st p k r ls (v ∷ c ∷ d ∷ []) e .fit .may)))
   told-end (rest t) x e =
       let w = ends st p k t (v ∷ c ∷ d ∷ []) e in
       let z : v ∷ c ∷ d ∷ [] ≡ st .version ∷ st .channels ∷ st .days ∷ [] = w .answer in
@@ -88,7 +89,7 @@ pub record Under (st : Due) (ls : Lines) (v c d : ℕ) : Type 0 where
   pub runs : List Record
   pub each : Each (IsRecord 400 0) runs
   pub covers : Covers (st .n) (st .next) runs
-  pub apart : Apart st runs
+  pub apart : Apart (st .shared) runs
   pub extra : List Record
   pub fit : Each (Extra (st .date)) extra
   pub rows : List Record
@@ -128,18 +129,18 @@ pub data Seven (st : Due) (ls : Lines) (v c d : ℕ) : Type 0 where
   one : (e : Record) (rows : List Record) → IsRecord 550 0 e → Basics (st .version) (st .channels) (st .days) v c d rows → bytesOf ls ≡ text (e ∷ rows) → Seven st ls v c d
 
 pub record Inner (st : Due) : Type 0 where
-  pub in-v : st .expect ≡ 4
+  pub in-v : inVaried (st .expect) ≡ true
   pub some : 1 ≤ st .n
   pub low : 1 ≤ st .next
   pub high : st .next ≤ st .n + 1
-  pub apart : st .n < st .next → st .alike ≡ false
+  pub apart : st .n < st .next → Apart (st .shared) []
 
 pub record Told (ls : Lines) (v c d : ℕ) : Type 0 where
-  pub ext : (st : Due) (p k : ℕ) → 1 ≤ st .n → 3 ≤ st .expect → st .expect ≤ 5 → (st .expect ≡ 4 → ⊥) → walkOf st p k ls ≡ accepted (v ∷ c ∷ d ∷ []) → Extras st ls v c d
+  pub ext : (st : Due) (p k : ℕ) → 1 ≤ st .n → inDay (st .expect) ≡ true → inVaried (st .expect) ≡ false → walkOf st p k ls ≡ accepted (v ∷ c ∷ d ∷ []) → Extras st ls v c d
   pub under : (st : Due) (p k : ℕ) → Inner st → walkOf st p k ls ≡ accepted (v ∷ c ∷ d ∷ []) → Under st ls v c d
-  pub first : (st : Due) (p k : ℕ) → 1 ≤ st .n → st .expect ≡ 2 → walkOf st p k ls ≡ accepted (v ∷ c ∷ d ∷ []) → Firsts st ls v c d
-  pub seven : (st : Due) (p k : ℕ) → st .expect ≡ 7 → walkOf st p k ls ≡ accepted (v ∷ c ∷ d ∷ []) → Seven st ls v c d
-  pub eight : (st : Due) (p k : ℕ) → st .expect ≡ 8 → walkOf st p k ls ≡ accepted (v ∷ c ∷ d ∷ []) → (rows : List Record) × Basics (st .version) (st .channels) (st .days) v c d rows × (bytesOf ls ≡ text rows)
+  pub first : (st : Due) (p k : ℕ) → 1 ≤ st .n → st .expect ≡ first300 → walkOf st p k ls ≡ accepted (v ∷ c ∷ d ∷ []) → Firsts st ls v c d
+  pub seven : (st : Due) (p k : ℕ) → mayCome (st .expect) 250 ≡ true → walkOf st p k ls ≡ accepted (v ∷ c ∷ d ∷ []) → Seven st ls v c d
+  pub eight : (st : Due) (p k : ℕ) → mayCome (st .expect) 250 ≡ true → mayCome (st .expect) 550 ≡ false → walkOf st p k ls ≡ accepted (v ∷ c ∷ d ∷ []) → (rows : List Record) × Basics (st .version) (st .channels) (st .days) v c d rows × (bytesOf ls ≡ text rows)
 
 -- ---- a record of each kind
 
@@ -148,7 +149,7 @@ module _ (st : Due) (p k v c d : ℕ) (r : List ℕ) (ls : Lines) (ih : Told ls 
   by-500 : 1 ≤ st .n → kindIn (fields r) ≡ 500 → Extras st (line r ls) v c d
   unfolding isElsewhere
   by-500 s q =
-      let u = ih .ext (on500 st (fields r)) p k s (omega arith) (omega arith) (λ z. omega arith) (rw (after-500 st r q) at e) in
+      let u = ih .ext (on500 st (fields r)) p k s refl refl (rw (after-500 st r q) at e) in
       let t : onDay (st .date) (readTimeIn (fields r)) ≡ true = not-false _ (rw q at (fit .day)) in
       let g = fit-rec st r 500 fit q (λ z. omega arith) (λ z. omega arith) in
       record {
@@ -226,7 +227,7 @@ module _ (st : Due) (p k v c d : ℕ) (r : List ℕ) (ls : Lines) (ih : Told ls 
       let g = fit-300 st r fit q .0 in
       by (isVaried (st .n) (fields r))
       (λ t.
-      let u = ih .under (on300 st (fields r)) p k (record { in-v = rw t; some = s; low = omega arith; high = omega arith; apart = λ z. refl }) h in
+      let u = ih .under (on300 st (fields r)) p k (record { in-v = rw t; some = s; low = omega arith; high = omega arith; apart = λ z. absurd (let y : ⊥ = omega arith in y) }) h in
       a-day (record { top = fields r; runs = u .runs; extra = u .extra }) (u .rows) q refl
       (record {
         top = g;
@@ -234,11 +235,11 @@ module _ (st : Due) (p k v c d : ℕ) (r : List ℕ) (ls : Lines) (ih : Told ls 
         extra = u .fit;
         only-v = λ z. absurd (true≢false (sym t ∙ z));
         covers = λ z. u .covers;
-        unlike = λ z. u .apart .first refl;
+        unlike = λ z. u .apart;
       })
       (u .more) (u .bytes))
       (λ t.
-      let u = ih .ext (on300 st (fields r)) p k s (rw t (omega arith)) (rw t (omega arith)) (λ z. (let y : 3 ≡ 4 = (rw t at z) in omega arith)) h in
+      let u = ih .ext (on300 st (fields r)) p k s (rw t) (rw t) h in
       a-day (record { top = fields r; runs = []; extra = u .extra }) (u .rows) q refl
       (record {
         top = g;
@@ -251,7 +252,7 @@ module _ (st : Due) (p k v c d : ℕ) (r : List ℕ) (ls : Lines) (ih : Told ls 
       (u .more) (u .bytes))
 
   by-400 : Inner st → kindIn (fields r) ≡ 400 → Under st (line r ls) v c d
-  unfolding isAlike
+  unfolding isAlike alikeWith
   by-400 i q =
       let fs : Record = fields r in
       let x = fit-cover st r fit q in
@@ -259,14 +260,14 @@ module _ (st : Due) (p k v c d : ℕ) (r : List ℕ) (ls : Lines) (ih : Told ls 
       let o : firstIn fs ≤ lastIn fs = x .1 in
       let w : lastIn fs ≤ st .n = x .2 in
       let t : (eqb (lastIn fs) (st .n) && alikeWith st fs) ≡ false = rw q at (fit .apart) in
-      let no : st .n < lastIn fs + 1 → alikeWith st fs ≡ false =
-      λ z. (let b : lastIn fs ≡ st .n = omega arith in let g : alikeWith st fs ≡ false = (rw (eq-eqb _ _ b) at t) in g) in
+      let no : st .n < lastIn fs + 1 → Apart (shareWith (st .shared) (markIn fs)) [] =
+      λ z. (let b : lastIn fs ≡ st .n = omega arith in apart-end (st .shared) (markIn fs) (rw (eq-eqb _ _ b) at t)) in
       let u = ih .under (on400 st fs) p k (record { in-v = refl; some = i .some; low = omega arith; high = omega arith; apart = no }) (rw (after-400 st r q) at e) in
       record {
         runs = fs ∷ u .runs;
         each = (fit-rec st r 400 fit q (λ z. omega arith) (λ z. omega arith), u .each);
         covers = (a, o, w, u .covers);
-        apart = apart-back st fs (u .runs) (u .apart .later (λ z. omega (arith, i .low)));
+        apart = apart-back fs (u .runs) (st .shared) (u .apart);
         extra = u .extra;
         fit = u .fit;
         rows = u .rows;
@@ -285,7 +286,7 @@ module _ (st : Due) (p k v c d : ℕ) (r : List ℕ) (ls : Lines) (ih : Told ls 
 
   by-550 : kindIn (fields r) ≡ 550 → Seven st (line r ls) v c d
   by-550 q =
-      let u = ih .eight (on550 st (fields r)) p k refl (rw (after-550 st r q) at e) in
+      let u = ih .eight (on550 st (fields r)) p k refl refl (rw (after-550 st r q) at e) in
       one (fields r) (u .0) (fit-rec st r 550 fit q (λ z. omega arith) (λ z. omega arith)) (u .1) (row-bytes r ls (u .0) (u .2))
 
   by-250 : kindIn (fields r) ≡ 250
@@ -360,7 +361,7 @@ no-runs st ls v c d i x u =
       runs = [];
       each = tt;
       covers = (let y = i .high in omega arith);
-      apart = record { first = λ z. absurd (let y : ⊥ = omega (arith, i .some) in y); later = λ z a b. true≢false (sym a ∙ i .apart x) };
+      apart = i .apart x;
       extra = u .extra;
       fit = u .fit;
       rows = u .rows;
@@ -370,80 +371,76 @@ no-runs st ls v c d i x u =
 
 module _ (st : Due) (p k v c d : ℕ) (r : List ℕ) (ls : Lines) (ih : Told ls v c d) (f : Fit st r)
     (e : walkOf (after st r) p k ls ≡ accepted (v ∷ c ∷ d ∷ [])) where
-  ext-on : 1 ≤ st .n → 3 ≤ st .expect → st .expect ≤ 5 → (st .expect ≡ 4 → kindIn (fields r) ≡ 400 → ⊥) → Head (st .expect) (kindIn (fields r)) → Extras st (line r ls) v c d
-  ext-on s a b x (h100 q z) = absurd (let y : ⊥ = omega arith in y)
-  ext-on s a b x (h200 q z) = absurd (let y : ⊥ = omega arith in y)
-  ext-on s a b x (more200 q z w) = no-blocks st (line r ls) v c d (by-200 st p k v c d r ls ih f e q)
-  ext-on s a b x (h300 q z w) = let u = by-300 st p k v c d r ls ih f e s q in no-extra st (line r ls) v c d (u .rows) (u .more) (u .bytes)
-  ext-on s a b x (h400 q z) = absurd (x z q)
-  ext-on s a b x (h500 q z w) = by-500 st p k v c d r ls ih f e s q
-  ext-on s a b x (h250 q z w) = absurd (let y : ⊥ = omega arith in y)
-  ext-on s a b x (h550 q z) = absurd (let y : ⊥ = omega arith in y)
-  ext-on s a b x (h900 q z w) = let u = by-900 st p k v c d r ls ih f e q in no-extra st (line r ls) v c d (u .0) (u .1) (u .2)
-  ext-on s a b x (basic900 q z w) = absurd (let y : ⊥ = omega arith in y)
+  ext-on : 1 ≤ st .n → inDay (st .expect) ≡ true → (kindIn (fields r) ≡ 400 → ⊥) → Head (st .expect) (kindIn (fields r)) → Extras st (line r ls) v c d
+  ext-on s a x (h100 q z) = excluded inDay (λ y. mayCome y 100) refl (st .expect) a z
+  ext-on s a x (h200 q z) = no-blocks st (line r ls) v c d (by-200 st p k v c d r ls ih f e q)
+  ext-on s a x (h300 q z) = let u = by-300 st p k v c d r ls ih f e s q in no-extra st (line r ls) v c d (u .rows) (u .more) (u .bytes)
+  ext-on s a x (h400 q z) = absurd (x q)
+  ext-on s a x (h500 q z) = by-500 st p k v c d r ls ih f e s q
+  ext-on s a x (h250 q z) = excluded inDay (λ y. mayCome y 250) refl (st .expect) a z
+  ext-on s a x (h550 q z) = excluded inDay (λ y. mayCome y 550) refl (st .expect) a z
+  ext-on s a x (h900 q z) = let u = by-900 st p k v c d r ls ih f e q in no-extra st (line r ls) v c d (u .0) (u .1) (u .2)
 
   under-on : Inner st → Head (st .expect) (kindIn (fields r)) → Under st (line r ls) v c d
   under-on i h =
       by (eqb (kindIn (fields r)) 400)
       (λ t. by-400 st p k v c d r ls ih f e i (eqb-true _ _ t))
       (λ t. no-runs st (line r ls) v c d i (free-of st (kindIn (fields r)) (f .free) (eqb-false _ _ t) (i .in-v))
-      (ext-on (i .some) (omega (arith, i .in-v)) (omega (arith, i .in-v)) (λ z. eqb-false _ _ t) h))
+      (ext-on (i .some) (implied inVaried inDay refl (st .expect) (i .in-v)) (eqb-false _ _ t) h))
 
-  seven-on : 7 ≤ st .expect → st .expect ≤ 8 → Head (st .expect) (kindIn (fields r)) → (kindIn (fields r) ≡ 550 → st .expect ≡ 7 → ⊥)
+  seven-on : mayCome (st .expect) 250 ≡ true → (kindIn (fields r) ≡ 550 → ⊥) → Head (st .expect) (kindIn (fields r))
       → (rows : List Record) × Basics (st .version) (st .channels) (st .days) v c d rows × (bytesOf (line r ls) ≡ text rows)
-  seven-on a b (h100 q z) n = absurd (let y : ⊥ = omega arith in y)
-  seven-on a b (h200 q z) n = absurd (let y : ⊥ = omega arith in y)
-  seven-on a b (more200 q z w) n = absurd (let y : ⊥ = omega arith in y)
-  seven-on a b (h300 q z w) n = absurd (let y : ⊥ = omega arith in y)
-  seven-on a b (h400 q z) n = absurd (let y : ⊥ = omega arith in y)
-  seven-on a b (h500 q z w) n = absurd (let y : ⊥ = omega arith in y)
-  seven-on a b (h250 q z w) n = let u = by-250 st p k v c d r ls ih f e q in (u .0, u .1, u .2)
-  seven-on a b (h550 q z) n = absurd (n q z)
-  seven-on a b (h900 q z w) n = absurd (let y : ⊥ = omega arith in y)
-  seven-on a b (basic900 q z w) n = last-13 st p k v c d r ls ih f e q
+  seven-on a n (h100 q z) = excluded (λ y. mayCome y 250) (λ y. mayCome y 100) refl (st .expect) a z
+  seven-on a n (h200 q z) = excluded (λ y. mayCome y 250) (λ y. mayCome y 200) refl (st .expect) a z
+  seven-on a n (h300 q z) = excluded (λ y. mayCome y 250) (λ y. mayCome y 300) refl (st .expect) a z
+  seven-on a n (h400 q z) = excluded (λ y. mayCome y 250) (λ y. mayCome y 400) refl (st .expect) a z
+  seven-on a n (h500 q z) = excluded (λ y. mayCome y 250) (λ y. mayCome y 500) refl (st .expect) a z
+  seven-on a n (h250 q z) = let u = by-250 st p k v c d r ls ih f e q in (u .0, u .1, u .2)
+  seven-on a n (h550 q z) = absurd (n q)
+  seven-on a n (h900 q z) = last-13 st p k v c d r ls ih f e q
 
 pub all-told : (ls : Lines) (v c d : ℕ) → Told ls v c d
 all-told (rest t) v c d =
     record {
-      ext = λ st p k s a b x e. absurd (told-open st p k v c d t (λ z. omega arith) e);
-      under = λ st p k i e. absurd (told-open st p k v c d t (λ z. omega (arith, i .in-v)) e);
-      first = λ st p k s x e. absurd (told-open st p k v c d t (λ z. omega arith) e);
-      seven = λ st p k x e. absurd (told-open st p k v c d t (λ z. omega arith) e);
-      eight = λ st p k x e. absurd (told-open st p k v c d t (λ z. omega arith) e);
+      ext = λ st p k s a x e. absurd (told-open st p k v c d t (not-ended (st .expect) 500 a) e);
+      under = λ st p k i e. absurd (told-open st p k v c d t (not-ended (st .expect) 400 (i .in-v)) e);
+      first = λ st p k s x e. absurd (told-open st p k v c d t (rw x) e);
+      seven = λ st p k x e. absurd (told-open st p k v c d t (not-ended (st .expect) 250 x) e);
+      eight = λ st p k x n e. absurd (told-open st p k v c d t (not-ended (st .expect) 250 x) e);
     }
 all-told (line r ls) v c d =
     let ih = all-told ls v c d in
     record {
-      ext = λ st p k s a b x e. (let w = goes st p k r ls (v ∷ c ∷ d ∷ []) e in ext-on st (p + length r + 2) (k + 1) v c d r ls ih (w .fit) (w .on) s a b (λ z y. x z) (head _ _ (w .fit .may)));
+      ext = λ st p k s a x e. (let w = goes st p k r ls (v ∷ c ∷ d ∷ []) e in ext-on st (p + length r + 2) (k + 1) v c d r ls ih (w .fit) (w .on) s a (λ z. true≢false (sym (rw z at (w .fit .may)) ∙ x)) (head _ _ (w .fit .may)));
       under = λ st p k i e. (let w = goes st p k r ls (v ∷ c ∷ d ∷ []) e in under-on st (p + length r + 2) (k + 1) v c d r ls ih (w .fit) (w .on) i (head _ _ (w .fit .may)));
-      first = λ st p k s x e. (let w = goes st p k r ls (v ∷ c ∷ d ∷ []) e in by-300 st (p + length r + 2) (k + 1) v c d r ls ih (w .fit) (w .on) s (only _ _ (head _ _ (w .fit .may)) .at-2 x));
+      first = λ st p k s x e. (let w = goes st p k r ls (v ∷ c ∷ d ∷ []) e in by-300 st (p + length r + 2) (k + 1) v c d r ls ih (w .fit) (w .on) s (only (st .expect) 300 _ (ap kindsAt x) (w .fit .may)));
       seven = λ st p k x e. (let w = goes st p k r ls (v ∷ c ∷ d ∷ []) e in
           by (eqb (kindIn (fields r)) 550)
           (λ t. by-550 st (p + length r + 2) (k + 1) v c d r ls ih (w .fit) (w .on) (eqb-true _ _ t))
-          (λ t. let u = seven-on st (p + length r + 2) (k + 1) v c d r ls ih (w .fit) (w .on) (omega arith) (omega arith) (head _ _ (w .fit .may)) (λ y z. eqb-false _ _ t y) in none (u .0) (u .1) (u .2)));
-      eight = λ st p k x e. (let w = goes st p k r ls (v ∷ c ∷ d ∷ []) e in seven-on st (p + length r + 2) (k + 1) v c d r ls ih (w .fit) (w .on) (omega arith) (omega arith) (head _ _ (w .fit .may)) (λ y z. omega arith));
+          (λ t. let u = seven-on st (p + length r + 2) (k + 1) v c d r ls ih (w .fit) (w .on) x (eqb-false _ _ t) (head _ _ (w .fit .may)) in none (u .0) (u .1) (u .2)));
+      eight = λ st p k x n e. (let w = goes st p k r ls (v ∷ c ∷ d ∷ []) e in seven-on st (p + length r + 2) (k + 1) v c d r ls ih (w .fit) (w .on) x (λ z. true≢false (sym (rw z at (w .fit .may)) ∙ n)) (head _ _ (w .fit .may)));
     }
 
 -- ---- the header, and the file
 
-channels-on : (st : Due) (p k v c d : ℕ) (ls : Lines) → st .expect ≡ 1 → walkOf st p k ls ≡ accepted (v ∷ c ∷ d ∷ []) → Chans st ls v c d
-channels-on st p k v c d (rest t) x e = absurd (told-open st p k v c d t (λ z. omega arith) e)
+channels-on : (st : Due) (p k v c d : ℕ) (ls : Lines) → st .expect ≡ first200 → walkOf st p k ls ≡ accepted (v ∷ c ∷ d ∷ []) → Chans st ls v c d
+channels-on st p k v c d (rest t) x e = absurd (told-open st p k v c d t (rw x) e)
 channels-on st p k v c d (line r ls) x e =
     let w = goes st p k r ls (v ∷ c ∷ d ∷ []) e in
-    by-200 st (p + length r + 2) (k + 1) v c d r ls (all-told ls v c d) (w .fit) (w .on) (only _ _ (head _ _ (w .fit .may)) .at-1 x)
+    by-200 st (p + length r + 2) (k + 1) v c d r ls (all-told ls v c d) (w .fit) (w .on) (only (st .expect) 200 _ (ap kindsAt x) (w .fit .may))
 
-readings-on : (st : Due) (p k v c d : ℕ) (ls : Lines) → st .expect ≡ 6 → walkOf st p k ls ≡ accepted (v ∷ c ∷ d ∷ [])
+readings-on : (st : Due) (p k v c d : ℕ) (ls : Lines) → st .expect ≡ first250 → walkOf st p k ls ≡ accepted (v ∷ c ∷ d ∷ [])
     → (rows : List Record) × (b : Basics (st .version) (st .channels) (st .days) v c d rows) × (bytesOf ls ≡ text rows) × (1 ≤ length (b .readings))
-readings-on st p k v c d (rest t) x e = absurd (told-open st p k v c d t (λ z. omega arith) e)
+readings-on st p k v c d (rest t) x e = absurd (told-open st p k v c d t (rw x) e)
 readings-on st p k v c d (line r ls) x e =
     let w = goes st p k r ls (v ∷ c ∷ d ∷ []) e in
-    by-250 st (p + length r + 2) (k + 1) v c d r ls (all-told ls v c d) (w .fit) (w .on) (only _ _ (head _ _ (w .fit .may)) .at-6 x)
+    by-250 st (p + length r + 2) (k + 1) v c d r ls (all-told ls v c d) (w .fit) (w .on) (only (st .expect) 250 _ (ap kindsAt x) (w .fit .may))
 
 whole : (v c d : ℕ) (ls : Lines) → length (bytesOf ls) ≤ 1048576 → walkOf begun 0 0 ls ≡ accepted (v ∷ c ∷ d ∷ []) → InFormat (bytesOf ls) v c d
-whole v c d (rest t) m e = absurd (told-open begun 0 0 v c d t (λ z. omega arith) e)
+whole v c d (rest t) m e = absurd (told-open begun 0 0 v c d t refl e)
 whole v c d (line r ls) m e =
     let t = goes begun 0 0 r ls (v ∷ c ∷ d ∷ []) e in
-    let q : kindIn (fields r) ≡ 100 = only _ _ (head _ _ (t .fit .may)) .at-0 refl in
+    let q : kindIn (fields r) ≡ 100 = only the100 100 _ refl (t .fit .may) in
     let h : walkOf (on100 begun (fields r)) (0 + length r + 2) (0 + 1) ls ≡ accepted (v ∷ c ∷ d ∷ []) = rw (after-100 begun r q) at (t .on) in
     let g = fit-rec begun r 100 (t .fit) q (λ z. omega arith) (λ z. omega arith) in
     by (eqb (versionIn (fields r)) 12)

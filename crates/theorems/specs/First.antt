@@ -10,7 +10,7 @@ use Rattle.ground.specs.Lists.{all}
 use Rattle.format.specs.Bytes.{plain}
 use Rattle.format.specs.Cut.{Lines, line, rest, lines, fields, field, startOf}
 use Rattle.format.specs.Records.{kindIn, countOf, ruleOf, obeys, dateIn, firstIn, lastIn, readTimeIn, qualitiesOf, markAt}
-use Rattle.format.specs.Order.{Due, begun, mayCome, alikeWith}
+use Rattle.format.specs.Order.{mayCome, inVaried, isEnd, Due, begun, alikeWith}
 use Rattle.format.specs.Faults.{size}
 use Rattle.format.specs.File.{after}
 use Rattle.theorems.specs.Grammar.{Record, Together}
@@ -36,7 +36,7 @@ entry3 r = record { number = 3; given = λ o i. (o < length r) × (all plain (ta
 module _ (st : Due) (k n : ℕ) (fs : Record) where
   -- "a V day's cover isn't complete and this record isn't a 400": record start
   abbrev pub entry10 : Entry
-  entry10 = record { number = 10; given = λ o i. (st .expect ≡ 4) × (st .next ≤ st .n) × (k ≢ 400) × (o ≡ 0) × (i ≡ 0) }
+  entry10 = record { number = 10; given = λ o i. (inVaried (st .expect) ≡ true) × (st .next ≤ st .n) × (k ≢ 400) × (o ≡ 0) × (i ≡ 0) }
 
   -- "first field is no indicator, or this record may not come here": record start
   abbrev pub entry4 : Entry
@@ -113,7 +113,7 @@ First x o i (c ∷ cs) = ((x ≡ c .number) × c .given o i) ⊎ (Never c × Fir
 -- there are k records, none of them behind the 900, and of none is an entry given after those before it
 abbrev pub Clear : ℕ → Due → Lines → Type 0
 Clear zero st ls = Unit {0}
-Clear (suc k) st (line r ls) = (st .expect ≢ 9) × None (inOrder st r) × Clear k (after st r) ls
+Clear (suc k) st (line r ls) = (isEnd (st .expect) ≡ false) × None (inOrder st r) × Clear k (after st r) ls
 Clear (suc k) st (rest t) = ⊥
 
 -- the number x with place q, record k and field i is given to the file
@@ -121,11 +121,11 @@ pub data Given (file : List ℕ) (x q k i : ℕ) : Type 0 where
   -- "file longer than 1,048,576 bytes", "asked before all else"
   too-long : 1048576 < length file → x ≡ 1 → q ≡ 0 → k ≡ 0 → i ≡ 0 → Given file x q k i
   -- "no CR LF from here to the end, 900 not yet read": record start
-  no-end : length file ≤ 1048576 → Clear k begun (lines file) → (t : List ℕ) → past k (lines file) ≡ rest t → stateAt k file .expect ≢ 9
+  no-end : length file ≤ 1048576 → Clear k begun (lines file) → (t : List ℕ) → past k (lines file) ≡ rest t → isEnd (stateAt k file .expect) ≡ false
       → x ≡ 2 → q ≡ placeOf k file → i ≡ 0 → Given file x q k i
   -- record k, with the bytes r, is the first of which an entry is given
-  at-fault : length file ≤ 1048576 → Clear k begun (lines file) → (r : List ℕ) (more : Lines) → past k (lines file) ≡ line r more → stateAt k file .expect ≢ 9
+  at-fault : length file ≤ 1048576 → Clear k begun (lines file) → (r : List ℕ) (more : Lines) → past k (lines file) ≡ line r more → isEnd (stateAt k file .expect) ≡ false
       → (o : ℕ) → First x o i (inOrder (stateAt k file) r) → q ≡ placeOf k file + o → Given file x q k i
   -- "bytes after the 900 record": first of them
-  behind-end : length file ≤ 1048576 → Clear k begun (lines file) → placeOf k file < length file → stateAt k file .expect ≡ 9
+  behind-end : length file ≤ 1048576 → Clear k begun (lines file) → placeOf k file < length file → isEnd (stateAt k file .expect) ≡ true
       → x ≡ 13 → q ≡ placeOf k file → i ≡ 0 → Given file x q k i

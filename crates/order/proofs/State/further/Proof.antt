@@ -5,7 +5,7 @@ use Rattle.order.proofs.State.further.Statement.{statement}
 use Rattle.order.proofs.State.further.Tie as tie
 
 run-requires : tie.Need-run-requires
-run-requires c κs = (c .before .before .pre .0, search typed-400)
+run-requires c κs = (c .before .before .pre .0, search typed-400, search (c .before .before .pre .3))
 
 returns : tie.Need-returns
 returns c = (search further-400, search needs)

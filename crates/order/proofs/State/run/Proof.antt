@@ -14,7 +14,7 @@ enum-known-r-2 : tie.Need-enum-known-r-2
 enum-known-r-2 c = search needs
 
 on-400-requires : tie.Need-on-400-requires
-on-400-requires c κs = (search needs, search behind-400, search ran)
+on-400-requires c κs = (search needs, search behind-400, search ran, search needs)
 
 returns : tie.Need-returns
 returns c = run-stops _ _ _ _ (c .before .before .before .run-at .ensures) (c .before .before .before .before .before .args .self) _ _ (c .before .r .given .1)

@@ -1,5 +1,5 @@
 -- `order::State::step` meets its contract. Assumes nothing.
-use Rattle.order.proofs.Chain.{size-small, step-3, step-10, step-4, step-5, typed, step-on}
+use Rattle.order.proofs.Chain.{size-small, begun-400, step-3, step-10, step-4, step-5, typed, step-on}
 use borrow.Author.Needs.{needs}
 use native.Mathlib.Omega.{arith}
 use Rattle.order.proofs.State.step.Statement.{statement}
@@ -39,7 +39,7 @@ returns-4 : tie.Need-returns-4
 returns-4 c = (search step-5, search needs)
 
 further-requires : tie.Need-further-requires
-further-requires c κs = (search needs, search typed, search needs)
+further-requires c κs = (search needs, search typed, search needs, search begun-400)
 
 returns-5 : tie.Need-returns-5
 returns-5 c = (search step-on, search needs)

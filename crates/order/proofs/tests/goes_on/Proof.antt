@@ -1,8 +1,8 @@
--- `follows::goes_on` meets its contract. Assumes nothing.
+-- `order::tests::goes_on` meets its contract. Assumes nothing.
 use Rattle.ground.proofs.Tests.{tests}
-use Rattle.follows.specs.Follows.{goesOn}
-use Rattle.follows.proofs.goes_on.Statement.{statement}
-use Rattle.follows.proofs.goes_on.Tie as tie
+use Rattle.order.specs.State.{goesOn}
+use Rattle.order.proofs.tests.goes_on.Statement.{statement}
+use Rattle.order.proofs.tests.goes_on.Tie as tie
 
 returns : tie.Need-returns
 unfolding goesOn

@@ -1,8 +1,8 @@
--- `follows::on_day` meets its contract. Assumes nothing.
+-- `order::tests::on_day` meets its contract. Assumes nothing.
 use Rattle.format.specs.Faults.{onDay}
 use Rattle.ground.proofs.Tests.{tests}
-use Rattle.follows.proofs.on_day.Statement.{statement}
-use Rattle.follows.proofs.on_day.Tie as tie
+use Rattle.order.proofs.tests.on_day.Statement.{statement}
+use Rattle.order.proofs.tests.on_day.Tie as tie
 
 returns : tie.Need-returns
 unfolding onDay

@@ -1,12 +1,10 @@
--- `follows::may_come` meets its contract. Assumes nothing.
-use Rattle.format.specs.Order.{mayCome}
-use Rattle.follows.proofs.Follows.{may}
+-- `order::tests::may_come` meets its contract. Assumes nothing.
+use Rattle.order.proofs.Cases.{may}
 use borrow.Author.Needs.{needs}
-use Rattle.follows.proofs.may_come.Statement.{statement}
-use Rattle.follows.proofs.may_come.Tie as tie
+use Rattle.order.proofs.tests.may_come.Statement.{statement}
+use Rattle.order.proofs.tests.may_come.Tie as tie
 
 returns : tie.Need-returns
-unfolding mayCome
 returns c = search may
 
 in-day-requires : tie.Need-in-day-requires
@@ -25,46 +23,36 @@ in-day-requires-3 : tie.Need-in-day-requires-3
 in-day-requires-3 c κs = search needs
 
 returns-2 : tie.Need-returns-2
-unfolding mayCome
 returns-2 c = search may
 
 between-requires-3 : tie.Need-between-requires-3
 between-requires-3 c κs = search needs
 
 returns-3 : tie.Need-returns-3
-unfolding mayCome
 returns-3 c = search may
 
 returns-4 : tie.Need-returns-4
-unfolding mayCome
 returns-4 c = search may
 
 returns-5 : tie.Need-returns-5
-unfolding mayCome
 returns-5 c = search may
 
 returns-6 : tie.Need-returns-6
-unfolding mayCome
 returns-6 c = search may
 
 returns-7 : tie.Need-returns-7
-unfolding mayCome
 returns-7 c = search may
 
 returns-8 : tie.Need-returns-8
-unfolding mayCome
 returns-8 c = search may
 
 returns-9 : tie.Need-returns-9
-unfolding mayCome
 returns-9 c = search may
 
 returns-10 : tie.Need-returns-10
-unfolding mayCome
 returns-10 c = search may
 
 returns-11 : tie.Need-returns-11
-unfolding mayCome
 returns-11 c = search may
 
 pub may-come-spec : {M : Type 1} → statement M

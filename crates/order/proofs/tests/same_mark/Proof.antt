@@ -1,8 +1,8 @@
--- `follows::same_mark` meets its contract. Assumes nothing.
-use Rattle.follows.proofs.Follows.{marks}
+-- `order::tests::same_mark` meets its contract. Assumes nothing.
+use Rattle.order.proofs.Cases.{marks}
 use borrow.Author.Needs.{needs}
-use Rattle.follows.proofs.same_mark.Statement.{statement}
-use Rattle.follows.proofs.same_mark.Tie as tie
+use Rattle.order.proofs.tests.same_mark.Statement.{statement}
+use Rattle.order.proofs.tests.same_mark.Tie as tie
 
 returns : tie.Need-returns
 returns c = search marks

@@ -1,4 +1,4 @@
-// What may follow, tested on numbers: what may come, an open cover, a 400's intervals, a read time's date, two marks.
+// Tests on numbers: what may come, an open cover, a 400's intervals, a read time's date, two marks.
 use format::Tag;
 use leaf::bytes::same_bytes;
 ghost use mathlib.Core.Path.{_≡_};
@@ -7,9 +7,9 @@ ghost use Prim.Native.Nat.{_≤_, _+_};
 ghost use lib.ListN.{length};
 ghost use lib.Dec.{eqb, leb};
 ghost use Rattle.format.specs.Quality.{sameMark};
-ghost use Rattle.format.specs.Order.{between, inDay, mayCome};
+ghost use Rattle.format.specs.Order.{mayCome};
 ghost use Rattle.format.specs.Faults.{onDay};
-ghost use Rattle.follows.specs.Follows.{markOf, goesOn};
+ghost use Rattle.order.specs.State.{markOf, expectedAs, between, goesOn};
 
 fn between(a: u64, b: u64, x: u64) -> bool
     ensures { λ r. ⌜ r ≡ between a b x ⌝ }
@@ -22,14 +22,14 @@ fn between(a: u64, b: u64, x: u64) -> bool
 
 // Under a day, which may end here.
 pub fn in_day(x: u64) -> bool
-    ensures { λ r. ⌜ r ≡ inDay x ⌝ }
+    ensures { λ r. ⌜ r ≡ between 3 5 x ⌝ }
 {
     between(3, 5, x)
 }
 
-// A record of the kind may come where x is expected.
+// A record of the kind may come where the state's number is x.
 pub fn may_come(x: u64, kind: u64) -> bool
-    ensures { λ r. ⌜ r ≡ mayCome x kind ⌝ }
+    ensures { λ r. ⌜ r ≡ mayCome (expectedAs x) kind ⌝ }
 {
     match kind {
         100 => x == 0,
