@@ -1,6 +1,6 @@
 -- A block on its own: its check accepts exactly the bytes that are accepted as a block behind a 200, and these are accepted wherever a day of their date may
 -- stand. Assumes nothing.
-use Prim.Native.Nat.{ℕ, suc, _+_, _≤_, _<_}
+use Prim.Native.Nat.{ℕ, suc, _+_, _<_}
 use mathlib.Core.Path.{_≡_, refl, sym, ap, _∙_, subst}
 use mathlib.Core.Logic.{_≢_, _↔_}
 use mathlib.Core.Bool.{true, false, cond, _||_}
