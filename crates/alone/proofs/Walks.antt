@@ -1,6 +1,6 @@
 -- The walk over a block: a record's fault there, what each way out of a turn answers, and the turn itself. Assumes nothing.
 use Prim.Native.Nat.{ℕ, _+_, _-_, _≤_, _<_}
-use mathlib.Core.Path.{_≡_, refl, sym, ap, _∙_}
+use mathlib.Core.Path.{_≡_, refl, sym, _∙_}
 use mathlib.Core.List.{List, [], _∷_}
 use mathlib.Core.Bool.{Bool, true, false, not, _&&_, _||_, false≢true}
 use native.Mathlib.Omega.{arith}
@@ -32,9 +32,9 @@ use Rattle.walker.proofs.Handed.{handed-none, handed-looked, handed-inside, han
 use Rattle.order.specs.declared.State.{State}
 use Rattle.order.specs.declared.Step.{Step}
 use Rattle.order.specs.declared.Step.the-variants as step
-use Rattle.order.specs.State.{expectedAs, seen, closed, Kept, between, nextOf, stepAs, Holds}
+use Rattle.order.specs.State.{expectedAs, seen, between, nextOf, stepAs, Holds}
 use Rattle.order.proofs.Expected.{is-400, is-500}
-use Rattle.order.proofs.Next.{gone, stopped, kept-on, stop-within}
+use Rattle.order.proofs.Next.{gone, stopped, kept-on}
 use Rattle.alone.specs.declared.BlockWalk.{BlockWalk}
 use Rattle.alone.specs.declared.BlockTurn.{BlockTurn}
 use Rattle.alone.specs.declared.BlockTurn.the-variants as turn

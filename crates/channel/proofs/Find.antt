@@ -16,7 +16,7 @@ use Rattle.format.specs.declared.Number.the-variants.{Is, Bad}
 use Rattle.lines.specs.Places.{LineEnd, Cut, Rest}
 use Rattle.lines.proofs.Cuts.{rest-here}
 use Rattle.lines.proofs.Ends.{line-none, line-more}
-use Rattle.day.specs.Places.{IsAccepted}
+use Rattle.format.specs.File.{IsAccepted}
 use Rattle.sums.specs.Sums.{held, sumAt}
 use Rattle.sums.proofs.Sums.{got-is, got-bad, got-fits}
 use Rattle.channel.specs.declared.Channel.{Channel}

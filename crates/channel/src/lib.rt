@@ -13,10 +13,10 @@ ghost use mathlib.Core.Path.{_≡_};
 ghost use mathlib.Core.List.{[], _∷_};
 ghost use Prim.Native.Nat.{_+_, _≤_};
 ghost use lib.ListN.{length, drop};
-ghost use Rattle.format.specs.Answers.{refusal, totalledAs};
+ghost use Rattle.format.specs.Answers.{totalledAs};
 ghost use Rattle.format.specs.Total.{totalFirst, totalOf};
 ghost use Rattle.sums.specs.Sums.{sumAt};
-ghost use Rattle.day.specs.Places.{IsAccepted};
+ghost use Rattle.format.specs.File.{IsAccepted};
 ghost use Rattle.channel.specs.Places.{totalsIn, ChannelAhead, totalled, inside};
 
 // From where a channel is found: it stands behind `left` more channels from the record at `at` on.
@@ -32,18 +32,6 @@ pub enum Channel {
     Missing,
 }
 
-// A refusal without a place of its own.
-fn no_total(number: u64) -> Totalled
-    ensures { λ r. ⌜ totalledAs r ≡ refusal number ⌝ }
-{
-    Totalled::Refused(Refusal {
-        number,
-        place: 0,
-        record: 0,
-        field: 0,
-    })
-}
-
 // What the days from a place on add up to.
 fn days_total(file: &[u8], start: usize, n: usize) -> Totalled
     requires { ⌜ start ≤ length (now file) ⌝ }
@@ -52,7 +40,7 @@ fn days_total(file: &[u8], start: usize, n: usize) -> Totalled
     let x = add_days(file, start, n);
     match x {
         Number::Is(v) => Totalled::Total(v),
-        Number::Bad => no_total(17),
+        Number::Bad => Totalled::Refused(Refusal::bare(17)),
     }
 }
 
@@ -62,7 +50,7 @@ fn total_place(file: &[u8], c: Channel) -> Totalled
     ensures { λ r. ⌜ totalledAs r ≡ totalFirst (totalled (now (file .entry)) c) ⌝ }
 {
     match c {
-        Channel::Missing => no_total(14),
+        Channel::Missing => Totalled::Refused(Refusal::bare(14)),
         Channel::Quantity(a, e) => Totalled::Total(quantity_of(file, a, e)),
         Channel::Days(a, e) => days_total(file, e + 2, intervals_of(file, a, e)),
     }

@@ -1,6 +1,6 @@
 // Numbers that are dates and times.
 ghost use mathlib.Core.Path.{_≡_};
-ghost use Rattle.format.specs.Dates.{isLeap, daysIn, isDate, isTime};
+ghost use Rattle.format.specs.Dates.{isLeap, daysInMonth, isDate, isTime};
 
 fn is_leap(y: u64) -> bool
     ensures { λ r. ⌜ r ≡ isLeap y ⌝ }
@@ -15,7 +15,7 @@ fn is_leap(y: u64) -> bool
 }
 
 fn days_in(y: u64, m: u64) -> u64
-    ensures { λ r. ⌜ r ≡ daysIn y m ⌝ }
+    ensures { λ r. ⌜ r ≡ daysInMonth y m ⌝ }
 {
     if m == 2 {
         if is_leap(y) {

@@ -7,7 +7,6 @@ use lib.ListN.{length, drop}
 use lib.Seq.{drop-nil, drop-length}
 use borrow.Author.Tests.{ne-eqb}
 use Rattle.ground.specs.Lists.{part}
-use Rattle.ground.specs.Digits.{isDigit}
 use Rattle.format.specs.Bytes.{areAll}
 use Rattle.format.specs.Numbers.{numberIn, numberOf, leadingZero, smallOf, isLength, lengthOf, intervalsOf}
 use Rattle.format.specs.Cut.{lines, fields, field}

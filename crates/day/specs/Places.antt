@@ -6,10 +6,8 @@ use mathlib.Core.Bool.{Bool, true, cond}
 use lib.ListN.{length, drop, replicate}
 use lib.Dec.{eqb}
 use Rattle.ground.specs.Lists.{part}
-use Rattle.format.specs.Answers.{accepted}
 use Rattle.format.specs.Cut.{lines, fields, field}
 use Rattle.format.specs.Records.{intervalsIn, millionths}
-use Rattle.format.specs.File.{checkOf}
 use Rattle.format.specs.Day.{Row, rowAt, BlockRows, DayRows, runsFrom, daysFrom, daysOf, coverOf, tagAt}
 use Rattle.format.specs.declared.Tag.{Tag}
 use Rattle.passing.specs.Sound.{coversFrom}
@@ -82,8 +80,3 @@ pub record Behind (file : List ℕ) (p : Place) (from : DayStart) : Type 0 where
   pub within : from .at ≤ length file
   pub heads : Heads file (from .under)
   pub is : drop 1 (located file p) ≡ drop (from .left) (daysAt file (from .at) (from .under))
-
--- ---- a file that was checked
-
-abbrev pub IsAccepted : List ℕ → Type 0
-IsAccepted file = (xs : List ℕ) × (checkOf file ≡ accepted xs)

@@ -24,7 +24,7 @@ pub struct Marked {
     pub tag: Tag,
 }
 
-fn run_at(file: &[u8], a: usize, e: usize) -> Marked
+fn marked_at(file: &[u8], a: usize, e: usize) -> Marked
     requires { ⌜ (a ≤ e) × (e ≤ length (now file)) ⌝ }
     ensures to { λ r. ⌜ r .to ≡ lastIn (fields (part (now (file .entry)) a e)) ⌝ }
     ensures tag { λ r. ⌜ r .tag ≡ tagAt 400 (rowAt a (part (now (file .entry)) a e)) 3 ⌝ }
@@ -56,7 +56,7 @@ fn put_cover(
     let mut k: usize = 0;
     while k < n {
         let e = line_end(file, at);
-        let r = run_at(file, at, e);
+        let r = marked_at(file, at, e);
         let to = r.to;
         let t = r.tag;
         at = e + 2;

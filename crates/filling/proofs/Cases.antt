@@ -11,15 +11,16 @@ use Rattle.format.specs.Answers.{Answer, refusal}
 use Rattle.format.specs.Day.{DayRows, daysOf, Five, outcome, enoughFor, roomFor, readInto, readFirst, readOf}
 use Rattle.passing.specs.Sound.{isSound, areSound}
 use Rattle.passing.proofs.Days.{checked-days}
-use Rattle.day.specs.Places.{blockAt, Heads, dayAt, DayAhead, located, inside, Behind, IsAccepted}
+use Rattle.day.specs.Places.{blockAt, Heads, dayAt, DayAhead, located, inside, Behind}
+use Rattle.format.specs.File.{IsAccepted}
 use Rattle.day.specs.declared.Under.{Under}
 use Rattle.day.specs.declared.DayStart.{DayStart}
 use Rattle.day.specs.declared.Place.{Place}
 use Rattle.day.specs.declared.Place.the-variants.{At, Missing}
-use Rattle.filling.specs.Ready.{Here, Ready, dayInto}
+use Rattle.filling.specs.Fillable.{Here, Fillable, dayInto}
 
 module _ (file : List ℕ) (a e n : ℕ) (vs : List ℕ) (ms : Five) {b : Bool} (eb : b ≡ roomFor n vs ms) where
-  pub ready : Here file a e n → not b ≡ false → Ready file a e n vs ms
+  pub ready : Here file a e n → not b ≡ false → Fillable file a e n vs ms
   unfolding enoughFor
   ready h hb =
       let t = sym eb ∙ not-false b hb in

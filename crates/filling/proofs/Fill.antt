@@ -17,7 +17,7 @@ use Rattle.format.specs.Day.{rowAt, eachOf, tagAt, tagsOf, valuesOf, Five, over
 use Rattle.format.specs.declared.Tag.{Tag}
 use Rattle.lists.specs.Lists.{stored, Roomy}
 use Rattle.passing.specs.Sound.{isSound}
-use Rattle.filling.specs.Ready.{Ready}
+use Rattle.filling.specs.Fillable.{Fillable}
 use Rattle.passing.proofs.Sound.{sound-fields, sound-each, sound-values}
 use Rattle.day.specs.Places.{valuesFrom, runsAt, runTags, tagsFor, isCovered, blockAt}
 use Rattle.day.proofs.Values.{values-are}
@@ -44,7 +44,7 @@ over-five ts n ms h r =
 -- ---- a day at a place: t is the mark of its 300
 
 module _ (file : List ℕ) (a e n : ℕ) (t : Tag) (et : t ≡ tagAt 300 (rowAt a (part file a e)) (n + 2)) where
-  pub covered-is : (vs : List ℕ) (ms : Five) → Ready file a e n vs ms → isCovered t n (runsAt file (e + 2)) ≡ true
+  pub covered-is : (vs : List ℕ) (ms : Five) → Fillable file a e n vs ms → isCovered t n (runsAt file (e + 2)) ≡ true
   unfolding isSound isCovered isVaried tagAt
   covered-is vs ms r = rw et (and-true (eqb (length (fields (part file a e))) (n + 7)) _ (r .here .sound) .1)
 
@@ -55,7 +55,7 @@ module _ (file : List ℕ) (a e n : ℕ) (t : Tag) (et : t ≡ tagAt 300 (rowAt 
   pub fill-is : (d u l : ℕ) (vs vs₁ : List ℕ) (ms ms₁ : Five) → d ≡ dateIn (fields (part file a e))
       → u ≡ updateIn n (fields (part file a e)) → l ≡ loadIn n (fields (part file a e))
       → vs₁ ≡ sets vs 0 (valuesFrom n 2 (fields (part file a e))) → ms₁ ≡ stored ms 0 (tagsFor t n (runsAt file (e + 2)))
-      → Ready file a e n vs ms → outcome (accepted (d ∷ n ∷ u ∷ l ∷ [])) vs₁ ms₁ ≡ readInto (blockAt file a e n) vs ms
+      → Fillable file a e n vs ms → outcome (accepted (d ∷ n ∷ u ∷ l ∷ [])) vs₁ ms₁ ≡ readInto (blockAt file a e n) vs ms
   unfolding readInto valuesOf tagsOf
   fill-is d u l vs vs₁ ms ms₁ ed eu el ev em r =
       let w = blockAt file a e n in

@@ -11,23 +11,12 @@ use lists::enough;
 ghost use mathlib.Core.Path.{_≡_};
 ghost use mathlib.Core.Bool.{true};
 ghost use Prim.Native.Nat.{_+_};
-ghost use Rattle.format.specs.Answers.{refusal, dayReadAs};
+ghost use Rattle.format.specs.Answers.{dayReadAs};
 ghost use Rattle.format.specs.Day.{five, outcome, readInto, readFirst, readOf};
 ghost use Rattle.passing.specs.Sound.{areSound};
-ghost use Rattle.day.specs.Places.{blockAt, DayAhead, located, inside, IsAccepted};
-ghost use Rattle.filling.specs.Ready.{Here, Ready, dayInto};
-
-// A refusal without a place of its own.
-fn no_day(number: u64) -> DayRead
-    ensures { λ r. ⌜ dayReadAs r ≡ refusal number ⌝ }
-{
-    DayRead::Refused(Refusal {
-        number,
-        place: 0,
-        record: 0,
-        field: 0,
-    })
-}
+ghost use Rattle.day.specs.Places.{blockAt, DayAhead, located, inside};
+ghost use Rattle.format.specs.File.{IsAccepted};
+ghost use Rattle.filling.specs.Fillable.{Here, Fillable, dayInto};
 
 // Fills the lists with the day of n intervals whose 300 stands at a..e: nothing is left here that could fail.
 fn fill_day(
@@ -42,7 +31,7 @@ fn fill_day(
     starts: &mut [usize],
     lengths: &mut [usize],
 ) -> DayRead
-    requires { ⌜ Ready (now file) a e n (now values) (five (now flags) (now methods) (now reasons) (now starts) (now lengths)) ⌝ }
+    requires { ⌜ Fillable (now file) a e n (now values) (five (now flags) (now methods) (now reasons) (now starts) (now lengths)) ⌝ }
     ensures { λ r. ⌜ outcome (dayReadAs r) (now (values .exit)) (five (now (flags .exit)) (now (methods .exit)) (now (reasons .exit)) (now (starts .exit)) (now (lengths .exit))) ≡ readInto (blockAt (now (file .entry)) a e n) (now (values .entry)) (five (now (flags .entry)) (now (methods .entry)) (now (reasons .entry)) (now (starts .entry)) (now (lengths .entry))) ⌝ }
 {
     let t = fill_top(file, a, e, n, values);
@@ -82,7 +71,7 @@ fn read_at(
         starts.len(),
         lengths.len(),
     ) {
-        return no_day(15);
+        return DayRead::Refused(Refusal::bare(15));
     }
     fill_day(
         file,
@@ -113,7 +102,7 @@ fn read_place(
     ensures { λ r. ⌜ outcome (dayReadAs r) (now (values .exit)) (five (now (flags .exit)) (now (methods .exit)) (now (reasons .exit)) (now (starts .exit)) (now (lengths .exit))) ≡ readFirst (located (now (file .entry)) p) (now (values .entry)) (five (now (flags .entry)) (now (methods .entry)) (now (reasons .entry)) (now (starts .entry)) (now (lengths .entry))) ⌝ }
 {
     match p {
-        Place::Missing => no_day(14),
+        Place::Missing => DayRead::Refused(Refusal::bare(14)),
         Place::At(a, e, under) => read_at(
             file,
             a,

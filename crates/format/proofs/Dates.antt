@@ -6,7 +6,7 @@ use Prim.Native.Nat.{ℕ, _/_, _%_, _≤_, _<_}
 use lib.Dec.{leb}
 use borrow.Author.Tests.{leb-true, ltb-true, le-leb, lt-ltb}
 use Rattle.ground.proofs.Tests.{and-true, and-end}
-use Rattle.format.specs.Dates.{isLeap, daysIn, isDay, isDate, isTime}
+use Rattle.format.specs.Dates.{isLeap, daysInMonth, isDay, isDate, isTime}
 
 pub record Day (y m d : ℕ) : Type 0 where
   pub from : 1900 ≤ y
@@ -14,7 +14,7 @@ pub record Day (y m d : ℕ) : Type 0 where
   pub first : 1 ≤ m
   pub last : m ≤ 12
   pub one : 1 ≤ d
-  pub end : d ≤ daysIn y m
+  pub end : d ≤ daysInMonth y m
 
 pub day-is : (y m d : ℕ) → isDay y m d ≡ true → Day y m d
 unfolding isDay
@@ -33,7 +33,7 @@ day-is y m d t =
       end = leb-true _ _ (t5 .1);
     }
 
-pub day-end : (y m d : ℕ) {e : ℕ} → e ≡ daysIn y m → 1900 ≤ y → y ≤ 2199 → 1 ≤ m → m ≤ 12 → 1 ≤ d → leb d e ≡ isDay y m d
+pub day-end : (y m d : ℕ) {e : ℕ} → e ≡ daysInMonth y m → 1900 ≤ y → y ≤ 2199 → 1 ≤ m → m ≤ 12 → 1 ≤ d → leb d e ≡ isDay y m d
 unfolding isDay
 day-end y m d q a b f l o = rw (q, le-leb _ _ a, le-leb _ _ b, le-leb _ _ f, le-leb _ _ l, le-leb _ _ o)
 
@@ -55,10 +55,10 @@ unfolding isTime
 clock-end t q h m s = rw (lt-ltb _ _ h, lt-ltb _ _ m, lt-ltb _ _ s, ← q) (sym (and-end _))
 
 module _ (y m : ℕ) {b : Bool} (e : b ≡ isLeap y) (f : m ≡ 2) where
-  pub days-leap : b ≡ true → 29 ≡ daysIn y m
-  unfolding daysIn
+  pub days-leap : b ≡ true → 29 ≡ daysInMonth y m
+  unfolding daysInMonth
   days-leap t = rw (f, ← e, t)
 
-  pub days-short : b ≡ false → 28 ≡ daysIn y m
-  unfolding daysIn
+  pub days-short : b ≡ false → 28 ≡ daysInMonth y m
+  unfolding daysInMonth
   days-short t = rw (f, ← e, t)

@@ -12,11 +12,11 @@ unfoldable pub isLeap : ℕ → Bool
 isLeap y = (eqb (y % 4) 0 && not (eqb (y % 100) 0)) || eqb (y % 400) 0
 
 -- the days of month m of year y, for m from 1 to 12
-unfoldable pub daysIn : ℕ → ℕ → ℕ
-daysIn y m = cond (eqb m 2) (cond (isLeap y) 29 28) (cond (eqb m 4 || eqb m 6 || eqb m 9 || eqb m 11) 30 31)
+unfoldable pub daysInMonth : ℕ → ℕ → ℕ
+daysInMonth y m = cond (eqb m 2) (cond (isLeap y) 29 28) (cond (eqb m 4 || eqb m 6 || eqb m 9 || eqb m 11) 30 31)
 
 unfoldable pub isDay : ℕ → ℕ → ℕ → Bool
-isDay y m d = leb 1900 y && leb y 2199 && leb 1 m && leb m 12 && leb 1 d && leb d (daysIn y m)
+isDay y m d = leb 1900 y && leb y 2199 && leb 1 m && leb m 12 && leb 1 d && leb d (daysInMonth y m)
 
 -- yyyymmdd
 unfoldable pub isDate : ℕ → Bool

@@ -1,6 +1,7 @@
 -- 01, Refusal numbers, for the whole file: "1: file longer than 1,048,576 bytes", asked before all else; "2: no CR LF from here to the end, 900 not yet
 -- read", at the record's start; "13: bytes after the 900 record", at the first of them. "A record number counts the complete records before it."
 use Prim.Native.Nat.{ℕ, _+_}
+use mathlib.Core.Path.{_≡_}
 use mathlib.Core.List.{List, [], _∷_, _++_}
 use mathlib.Core.Bool.{Bool, cond, not, _&&_, _||_}
 use lib.ListN.{length}
@@ -38,6 +39,10 @@ most = 1048576
 -- what a check of the file answers: version, channels, days; or the first refusal
 unfoldable pub checkOf : List ℕ → Answer
 checkOf file = cond (ltb most (length file)) (refusal 1) (walkOf begun 0 0 (lines file))
+
+-- the file is accepted
+abbrev pub IsAccepted : List ℕ → Type 0
+IsAccepted file = (xs : List ℕ) × (checkOf file ≡ accepted xs)
 
 -- ---- a block on its own
 

@@ -1,4 +1,6 @@
 // The types that contracts name: what a call answers, and what is read of one field. What they mean is stated in specs/.
+ghost use mathlib.Core.Path.{_≡_};
+ghost use Rattle.format.specs.Answers.{refusal, refusedAs};
 
 // A refusal of document 01's table.
 pub struct Refusal {
@@ -6,6 +8,20 @@ pub struct Refusal {
     pub place: usize,
     pub record: usize,
     pub field: usize,
+}
+
+impl Refusal {
+    // A refusal without a place of its own.
+    pub fn bare(number: u64) -> Refusal
+        ensures { λ r. ⌜ refusedAs r ≡ refusal number ⌝ }
+    {
+        Refusal {
+            number,
+            place: 0,
+            record: 0,
+            field: 0,
+        }
+    }
 }
 
 // What a check of a file answers. The version is 12 or 13.

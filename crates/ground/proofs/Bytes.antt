@@ -1,23 +1,16 @@
--- Digits: their range, and that they are no commas; and a list of bytes by its elements. Assumes nothing.
-use Prim.Native.Nat.{ℕ, zero, suc, _+_, _≤_, _<_}
+-- Bytes that pass a test and those that are not among them; a list of bytes by its elements. Assumes nothing.
+use Prim.Native.Nat.{ℕ, zero, suc, _+_}
 use mathlib.Core.Path.{_≡_, refl, sym, _∙_, ap, subst}
 use mathlib.Core.Bool.{Bool, true, false, not, _&&_, false≢true}
 use mathlib.Core.List.{List, [], _∷_}
 use native.Mathlib.Omega.{arith}
 use lib.ListN.{length, getD, drop, drop-of-length-le}
 use lib.Seq.{drop-cons}
-use lib.Dec.{leb, eqb}
-use borrow.Author.Tests.{ne-eqb, eqb-true, leb-true}
+use lib.Dec.{eqb}
+use borrow.Author.Tests.{eqb-true}
 use Rattle.ground.specs.Lists.{all, other, from}
 use Rattle.ground.specs.Digits.{isDigit}
 use Rattle.ground.proofs.Tests.{and-true}
-
-pub digit-range : (b : ℕ) → isDigit b ≡ true → (48 ≤ b) × (b ≤ 57)
-unfolding isDigit
-digit-range b t = let e = and-true (leb 48 b) (leb b 57) t in (leb-true _ _ (e .0), leb-true _ _ (e .1))
-
-pub digit-not : (x b : ℕ) → x < 48 → isDigit b ≡ true → other x b ≡ true
-digit-not x b l t = let h = digit-range b t in rw (ne-eqb b x (λ e. let z : ⊥ = omega arith in z))
 
 -- a byte that does not pass the test is not among bytes that all do
 pub holds-none : (x : ℕ) (p : ℕ → Bool) → p x ≡ false → (s : List ℕ) → all p s ≡ true → all (other x) s ≡ true

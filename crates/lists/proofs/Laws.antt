@@ -1,11 +1,12 @@
 -- Laws of filling, and of the five lists taken together. Assumes nothing.
 use Prim.Native.Nat.{ℕ, zero, suc, _+_, _-_, _≤_, _<_}
 use mathlib.Core.Path.{_≡_, refl, sym, ap, _∙_}
-use mathlib.Core.List.{List, [], _∷_, _++_, map, map-append}
+use mathlib.Core.List.{List, _∷_, _++_, map, map-append}
 use native.Mathlib.Numerals.{add-one}
 use native.Mathlib.Omega.{arith}
 use lib.ListN.{length, set, replicate, length-map}
 use lib.Seq.{sets, length-sets}
+use Rattle.ground.proofs.Room.{sets-append}
 use Rattle.format.specs.declared.Tag.{Tag}
 use Rattle.format.specs.Day.{Five, five}
 use Rattle.lists.specs.Lists.{stored, Roomy}
@@ -47,11 +48,6 @@ five-filled t i n a b d e f a₁ b₁ d₁ e₁ f₁ p q r s u =
       s,
       u,
     )
-
--- two runs of stores, one behind the other
-pub sets-append : (l : List ℕ) (i : ℕ) (xs ys : List ℕ) → sets l i (xs ++ ys) ≡ sets (sets l i xs) (i + length xs) ys
-sets-append l i [] ys = ap (λ (k : ℕ). sets l k ys) (omega arith)
-sets-append l i (x ∷ xs) ys = sets-append (set l i x) (suc i) xs ys ∙ ap (λ (k : ℕ). sets (sets (set l i x) (suc i) xs) k ys) (omega arith)
 
 one-append : (f : Tag → ℕ) (l : List ℕ) (i : ℕ) (xs ys : List Tag)
     → sets l i (map f (xs ++ ys)) ≡ sets (sets l i (map f xs)) (i + length xs) (map f ys)

@@ -12,21 +12,21 @@ use Rattle.ground.specs.Digits.{isDigit, decimalFrom, decimal}
 use Rattle.ground.proofs.Tests.{and-true}
 use Rattle.ground.proofs.Cases.{by}
 use Rattle.ground.proofs.Decimal.{digit-is}
-use Rattle.ground.proofs.Digits.{all-append}
+use Rattle.ground.proofs.Digits.{all-append, digit-range}
 use Rattle.format.specs.Numbers.{isNumber, that, numberOf}
-use Rattle.format.specs.Dates.{isLeap, daysIn, isDate, isTime, dateOf, timeOf}
+use Rattle.format.specs.Dates.{isLeap, daysInMonth, isDate, isTime, dateOf, timeOf}
 use Rattle.format.specs.declared.Number.{Number}
 use Rattle.format.proofs.Numbers.{digits-of}
 use Rattle.format.proofs.NumberText.{digits-are}
 use Rattle.format.proofs.Dates.{day-end, clock-end}
 use Rattle.quick_dates.specs.Shapes.{isMonth, isEarlyDay, isHour, isSixtieth, startsDate, endsTime, isCommonDate, isCommonTime}
-use Rattle.ground.proofs.Bytes.{digit-range, digits-plain, spelled}
+use Rattle.ground.proofs.Bytes.{digits-plain, spelled}
 
 -- ---- numbers that are dates and times
 
 -- every month has 28 days
-days-least : (y m : ℕ) → 28 ≤ daysIn y m
-unfolding daysIn
+days-least : (y m : ℕ) → 28 ≤ daysInMonth y m
+unfolding daysInMonth
 days-least y m = one (eqb m 2) (isLeap y) (eqb m 4 || eqb m 6 || eqb m 9 || eqb m 11)
   where
     one : (a b c : Bool) → 28 ≤ cond a (cond b 29 28) (cond c 30 31)
@@ -43,7 +43,7 @@ date-is c y m d e a b f g h =
     let q : t / 100 % 100 ≡ m = omega arith in
     let r : t % 100 ≡ d = omega arith in
     rw (p, q, r)
-    (sym (day-end (c * 100 + y) m d refl (omega arith) (omega arith) b f g) ∙ le-leb d (daysIn (c * 100 + y) m) (omega (arith, days-least (c * 100 + y) m)))
+    (sym (day-end (c * 100 + y) m d refl (omega arith) (omega arith) b f g) ∙ le-leb d (daysInMonth (c * 100 + y) m) (omega (arith, days-least (c * 100 + y) m)))
 
 time-is : (t h m s : ℕ) → isDate t ≡ true → h ≤ 23 → m ≤ 59 → s ≤ 59 → isTime (((t * 100 + h) * 100 + m) * 100 + s) ≡ true
 time-is t h m s e a b f =

@@ -18,7 +18,7 @@ use Rattle.ground.proofs.Spans.{span-le}
 use Rattle.ground.proofs.Prefix.{prefix-all, prefix-end, prefix-most, prefix-past, prefix-wider}
 use Rattle.format.specs.Numbers.{point, before, areDigits, isRead}
 use Rattle.format.proofs.Numbers.{read-whole, read-split, read-bad}
-use Rattle.ground.proofs.Bytes.{digit-not}
+use Rattle.ground.proofs.Digits.{digit-not}
 
 module _ (s : List ℕ) (few : length s ≤ 15) {w : ℕ} (e : w ≡ spanOf isDigit s) where
   reach : w ≤ length s

@@ -14,7 +14,8 @@ use Rattle.format.specs.Bytes.{areAll}
 use Rattle.format.specs.Numbers.{isNumber, decimals, numberOf, fractionOf, valueOf}
 use Rattle.format.specs.declared.Number.the-variants.{Is}
 use Rattle.quick_values.specs.Shapes.{isThousandths}
-use Rattle.ground.proofs.Bytes.{digit-range, digit-not, spelled}
+use Rattle.ground.proofs.Bytes.{spelled}
+use Rattle.ground.proofs.Digits.{digit-range, digit-not}
 
 -- the four digits and the point
 record Five (s : List ℕ) : Type 0 where

@@ -2,18 +2,13 @@
 use Prim.Native.Nat.{ℕ}
 use mathlib.Core.Path.{_≡_, sym, ap, _∙_}
 use mathlib.Core.List.{List, [], _∷_}
-use mathlib.Core.Bool.{true}
-use lib.ListN.{drop}
-use Rattle.ground.specs.Lists.{all}
-use Rattle.format.specs.Cut.{lines}
-use Rattle.format.specs.Answers.{Answer, accepted, refusedAs, checkedAs}
-use Rattle.format.specs.File.{checkOf}
-use Rattle.format.specs.Day.{daysOf, Five, outcome, readFirst, readOf}
-use Rattle.format.specs.Total.{totalsFrom, totalFirst, totalOf}
+use Rattle.format.specs.Answers.{accepted, refusedAs, checkedAs}
+use Rattle.format.specs.File.{checkOf, IsAccepted}
+use Rattle.format.specs.Day.{Five, outcome, readOf}
+use Rattle.format.specs.Total.{totalOf}
 use Rattle.format.specs.declared.Refusal.{Refusal}
 use Rattle.format.specs.declared.Checked.{Checked}
 use Rattle.format.specs.declared.Checked.the-variants.{Accepted, Refused}
-use Rattle.day.specs.Places.{IsAccepted}
 
 -- c is what the check answers
 module _ (file : List ℕ) (c : Checked) (ec : checkedAs c ≡ checkOf file) where

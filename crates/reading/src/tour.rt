@@ -203,16 +203,7 @@ pub fn check_and_note(file: &[u8], day: usize, channel: usize) -> Noted
     ensures channel { λ r. ⌜ ChannelAhead (now (file .entry)) channel (r .channel) ⌝ }
 {
     if 1048576 < file.len() {
-        return refused(
-            Refusal {
-                number: 1,
-                place: 0,
-                record: 0,
-                field: 0,
-            },
-            day,
-            channel,
-        );
+        return refused(Refusal::bare(1), day, channel);
     }
     let mut t = Tour::new(day, channel);
     while t.state.expect != 9 {

@@ -15,7 +15,7 @@ use tables::totals::headings;
 use tables::totals::row;
 ghost use Prim.Native.Nat.{_≤_};
 ghost use lib.ListN.{length};
-ghost use Rattle.day.specs.Places.{IsAccepted};
+ghost use Rattle.format.specs.File.{IsAccepted};
 ghost use Rattle.channel.specs.Places.{ChannelAhead, inside};
 
 // The numbers of the fields that a channel is known by. The unit stands elsewhere in a 250.

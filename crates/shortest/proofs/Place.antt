@@ -13,7 +13,7 @@ use Rattle.ground.proofs.Cases.{by}
 use Rattle.format.specs.Bytes.{isCapital, isLetter, isAlnum, endSpace, isText, areAll}
 use Rattle.format.specs.Texts.{isNmi, isSuffix, isStream, isParty, isConfiguration, isRegister, isSerial, isUnit, versionOf}
 use Rattle.format.specs.Numbers.{numberOf, leadingZero, smallOf, isLength, lengthOf, intervalsOf}
-use Rattle.format.specs.Dates.{isLeap, daysIn, isDay, isDate, isTime, isMinute, dateOf, createdOf, nextReadOf}
+use Rattle.format.specs.Dates.{isLeap, daysInMonth, isDay, isDate, isTime, isMinute, dateOf, createdOf, nextReadOf}
 use Rattle.format.specs.Cut.{lines, fields}
 use Rattle.format.specs.Records.{isKind, indicatorOf, kindIn, rowOf, countOf, ruleOf, obeys, versionIn, intervalsIn, qualitiesOf}
 use Rattle.format.specs.Order.{first300, due, afterOf}
@@ -36,7 +36,7 @@ channel m z =
     λ e₃. absurd (z (rw (e₁, e₂, e₃)))
 
 pub place : (m : ℕ) → intervalsOf m ≢ 0 → (before : List ℕ) × Leads before (due first300 12 (intervalsOf m) 0 1 0)
-unfolding spanOf same isDigit isCapital isLetter isAlnum endSpace isText areAll isNmi isSuffix isStream isParty isConfiguration isRegister isSerial isUnit versionOf numberOf leadingZero smallOf isLength lengthOf intervalsOf isLeap daysIn isDay isDate isTime isMinute dateOf createdOf nextReadOf lines fields isKind indicatorOf kindIn rowOf countOf ruleOf obeys versionIn intervalsIn qualitiesOf afterOf isOpen faultIn brokenIn isNotLater isOff isAlike isElsewhere faultAt faultOf
+unfolding spanOf same isDigit isCapital isLetter isAlnum endSpace isText areAll isNmi isSuffix isStream isParty isConfiguration isRegister isSerial isUnit versionOf numberOf leadingZero smallOf isLength lengthOf intervalsOf isLeap daysInMonth isDay isDate isTime isMinute dateOf createdOf nextReadOf lines fields isKind indicatorOf kindIn rowOf countOf ruleOf obeys versionIn intervalsIn qualitiesOf afterOf isOpen faultIn brokenIn isNotLater isOff isAlike isElsewhere faultAt faultOf
 place m z =
     by (eqb m 5) (λ e. rw (eqb-true m 5 e) (opening "200,NEM1234567,E1,1,E1,N1,METER1,kWh,5,", (refl, (refl, (refl, refl)))))
     λ e₁. by (eqb m 15) (λ e. rw (eqb-true m 15 e) (opening "200,NEM1234567,E1,1,E1,N1,METER1,kWh,15,", (refl, (refl, (refl, refl)))))

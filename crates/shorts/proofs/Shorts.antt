@@ -11,7 +11,7 @@ use lib.Seq.{take-suc, take-add, drop-drop, getD-drop, take-append-seam, drop-ap
 use borrow.Author.Tests.{eq-eqb, ne-eqb, not-false}
 use Rattle.ground.specs.Lists.{all, spanOf, other, part}
 use Rattle.ground.specs.Digits.{isDigit, decimalFrom, decimal}
-use Rattle.ground.proofs.Digits.{all-append, decimal-append}
+use Rattle.ground.proofs.Digits.{all-append, decimal-append, digit-range}
 use Rattle.ground.proofs.Lists.{rest}
 use Rattle.ground.proofs.Spans.{span-block, part-length}
 use Rattle.format.specs.Numbers.{point, before, behind, decimals, fractionOf, valueOf}
@@ -20,7 +20,7 @@ use Rattle.format.specs.declared.Number.the-variants.{Is}
 use Rattle.format.proofs.Numbers.{value-below}
 use Rattle.format.proofs.NumberText.{digits-are}
 use Rattle.format.proofs.ValueText.{point-behind}
-use Rattle.ground.proofs.Bytes.{digit-range, digits-plain, holds-none}
+use Rattle.ground.proofs.Bytes.{digits-plain, holds-none}
 use Rattle.lines.proofs.Commas.{comma-field, comma-whole}
 use Rattle.shorts.specs.Shapes.{Whole, Pointed, Complete, ValueAt}
 

@@ -17,7 +17,7 @@ use Rattle.format.proofs.Cut.{bytesOf, bytes-lines}
 use Rattle.passing.proofs.Walk.{file-passes, of-walk}
 use Rattle.theorems.specs.Grammar.{InFormat}
 use Rattle.theorems.specs.Places.{placeIn, placeOf, past, stateIn, stateAt}
-use Rattle.theorems.specs.First.{Clear, Given, too-long, no-end, at-fault, behind-end}
+use Rattle.theorems.specs.First.{Clear, GivenTo, too-long, no-end, at-fault, behind-end}
 use Rattle.theorems.proofs.Cuts.{Has}
 use Rattle.theorems.proofs.Format.{format}
 use Rattle.theorems.proofs.Links.{fault-first, none-fine, first-fault}
@@ -42,15 +42,15 @@ module _ (k : ℕ) (file : List ℕ) (h : Has k (lines file)) where
 
 -- ---- a refusal is given
 
-given-walk : (file : List ℕ) (x q k i : ℕ) → length file ≤ 1048576 → Refusal file x q k i → Given file x q k i
+given-walk : (file : List ℕ) (x q k i : ℕ) → length file ≤ 1048576 → Refusal file x q k i → GivenTo file x q k i
 given-walk file x q k i l w = go (w .why)
   where
-    go : Why (stateAt k file) (placeOf k file) (past k (lines file)) x q i → Given file x q k i
+    go : Why (stateAt k file) (placeOf k file) (past k (lines file)) x q i → GivenTo file x q k i
     go (unfinished t a o b d f) = no-end l (w .clear) t a o b d f
     go (faulty r more o a n b d) = at-fault l (w .clear) r more a n o (fault-first (stateAt k file) r x o i b) d
     go (trailing a b d f g) = behind-end l (w .clear) (let z = left k file (w .has) in omega arith) a d f g
 
-refused-given : (file : List ℕ) (x q k i : ℕ) → checkOf file ≡ refused x q k i → Given file x q k i
+refused-given : (file : List ℕ) (x q k i : ℕ) → checkOf file ≡ refused x q k i → GivenTo file x q k i
 unfolding checkOf
 refused-given file x q k i e =
     by (ltb 1048576 (length file))
@@ -84,7 +84,7 @@ unfolding walkOf
 rest-behind (rest t) st p k e h = rw (e, ne-eqb (length t) 0 (λ z. omega arith))
 rest-behind (line r ls) st p k e h = rw e
 
-given-refused : (file : List ℕ) (x q k i : ℕ) → Given file x q k i → checkOf file ≡ refused x q k i
+given-refused : (file : List ℕ) (x q k i : ℕ) → GivenTo file x q k i → checkOf file ≡ refused x q k i
 unfolding checkOf walkOf
 given-refused file x q k i (too-long l a b c d) = rw (lt-ltb _ _ l, a, b, c, d)
 given-refused file x q k i (no-end l c t e o a b d) = from-there file x q k i l c (rw (e, o, a, b, d))
@@ -93,16 +93,16 @@ given-refused file x q k i (behind-end l c h e a b d) =
     from-there file x q k i l c
     (rw (a, b, d) (rest-behind (past k (lines file)) (stateAt k file) (placeOf k file) k e (let z = left k file (clear-has k begun (lines file) c) in omega arith)))
 
-pub first : (file : List ℕ) (x q k i : ℕ) → (checkOf file ≡ refused x q k i) ↔ Given file x q k i
+pub first : (file : List ℕ) (x q k i : ℕ) → (checkOf file ≡ refused x q k i) ↔ GivenTo file x q k i
 first file x q k i = (refused-given file x q k i, given-refused file x q k i)
 
 -- ---- every file is one or the other
 
 -- a file is in the format, or a refusal is given to it
-pub either : (file : List ℕ) → ((v c d : ℕ) × InFormat file v c d) ⊎ ((x q k i : ℕ) × Given file x q k i)
+pub either : (file : List ℕ) → ((v c d : ℕ) × InFormat file v c d) ⊎ ((x q k i : ℕ) × GivenTo file x q k i)
 either file = go (checkOf file) refl
   where
-    go : (a : Answer) → checkOf file ≡ a → ((v c d : ℕ) × InFormat file v c d) ⊎ ((x q k i : ℕ) × Given file x q k i)
+    go : (a : Answer) → checkOf file ≡ a → ((v c d : ℕ) × InFormat file v c d) ⊎ ((x q k i : ℕ) × GivenTo file x q k i)
     go (accepted xs) e =
         let w = file-passes file xs e in
         let u = w .end in
@@ -110,7 +110,7 @@ either file = go (checkOf file) refl
     go (refused x q k i) e = inr (x, q, k, i, refused-given file x q k i e)
 
 -- and not both
-pub not-both : (file : List ℕ) (v c d x q k i : ℕ) → InFormat file v c d → Given file x q k i → ⊥
+pub not-both : (file : List ℕ) (v c d x q k i : ℕ) → InFormat file v c d → GivenTo file x q k i → ⊥
 not-both file v c d x q k i h g =
     let e : accepted (v ∷ c ∷ d ∷ []) ≡ refused x q k i = sym (format file v c d .1 h) ∙ given-refused file x q k i g in
     let y : true ≡ false = cc in

@@ -117,15 +117,15 @@ Clear (suc k) st (line r ls) = (isEnd (st .expect) ≡ false) × None (inOrder s
 Clear (suc k) st (rest t) = ⊥
 
 -- the number x with place q, record k and field i is given to the file
-pub data Given (file : List ℕ) (x q k i : ℕ) : Type 0 where
+pub data GivenTo (file : List ℕ) (x q k i : ℕ) : Type 0 where
   -- "file longer than 1,048,576 bytes", "asked before all else"
-  too-long : 1048576 < length file → x ≡ 1 → q ≡ 0 → k ≡ 0 → i ≡ 0 → Given file x q k i
+  too-long : 1048576 < length file → x ≡ 1 → q ≡ 0 → k ≡ 0 → i ≡ 0 → GivenTo file x q k i
   -- "no CR LF from here to the end, 900 not yet read": record start
   no-end : length file ≤ 1048576 → Clear k begun (lines file) → (t : List ℕ) → past k (lines file) ≡ rest t → isEnd (stateAt k file .expect) ≡ false
-      → x ≡ 2 → q ≡ placeOf k file → i ≡ 0 → Given file x q k i
+      → x ≡ 2 → q ≡ placeOf k file → i ≡ 0 → GivenTo file x q k i
   -- record k, with the bytes r, is the first of which an entry is given
   at-fault : length file ≤ 1048576 → Clear k begun (lines file) → (r : List ℕ) (more : Lines) → past k (lines file) ≡ line r more → isEnd (stateAt k file .expect) ≡ false
-      → (o : ℕ) → First x o i (inOrder (stateAt k file) r) → q ≡ placeOf k file + o → Given file x q k i
+      → (o : ℕ) → First x o i (inOrder (stateAt k file) r) → q ≡ placeOf k file + o → GivenTo file x q k i
   -- "bytes after the 900 record": first of them
   behind-end : length file ≤ 1048576 → Clear k begun (lines file) → placeOf k file < length file → isEnd (stateAt k file .expect) ≡ true
-      → x ≡ 13 → q ≡ placeOf k file → i ≡ 0 → Given file x q k i
+      → x ≡ 13 → q ≡ placeOf k file → i ≡ 0 → GivenTo file x q k i

@@ -11,7 +11,7 @@ use Rattle.ground.specs.Runs.{glue, runs}
 use Rattle.format.specs.Bytes.{fieldByte, endSpace, isText}
 use Rattle.format.specs.Texts.{isDescription}
 use Rattle.format.specs.Numbers.{isLength, intervalsOf, noReason}
-use Rattle.format.specs.Dates.{isLeap, daysIn, isDay, isDate, isTime}
+use Rattle.format.specs.Dates.{isLeap, daysInMonth, isDay, isDate, isTime}
 use Rattle.format.specs.Quality.{standsAlone, takesMethod, noMethod, needsReason, across, sameMark}
 use Rattle.format.specs.Records.{agrees}
 use Rattle.format.specs.Day.{enoughFor}
@@ -39,5 +39,5 @@ pub record Settled : Type 0 where
   pub room-kept : roomOf day (replicate 160 7) ≡ replicate 160 7
 
 pub settled : Settled
-unfolding same from padded widthFrom width dec glue runs fieldByte endSpace isText isDescription isLength intervalsOf isLeap daysIn isDay isDate isTime standsAlone takesMethod needsReason across sameMark agrees enoughFor intervalsGiven markGiven dayGiven fitQuality fitReason fitMark fitValue fitDay isInside fitGiven fractionText valueText qualityText reasonText loadText markText valuesText runText coverText runsIn isUniform topText tailText blockOf recordsOf enough writeOf roomOf
+unfolding same from padded widthFrom width dec glue runs fieldByte endSpace isText isDescription isLength intervalsOf isLeap daysInMonth isDay isDate isTime standsAlone takesMethod needsReason across sameMark agrees enoughFor intervalsGiven markGiven dayGiven fitQuality fitReason fitMark fitValue fitDay isInside fitGiven fractionText valueText qualityText reasonText loadText markText valuesText runText coverText runsIn isUniform topText tailText blockOf recordsOf enough writeOf roomOf
 settled = record { written = refl; byte-for-byte = refl; tail-kept = refl; one-byte-short = refl; room-kept = refl }

@@ -9,25 +9,12 @@ use lists::enough;
 use number_rules::intervals;
 use value_texts::Measured;
 ghost use mathlib.Core.Path.{_≡_};
-ghost use mathlib.Core.Bool.{true};
-ghost use Prim.Native.Nat.{_≤_};
 ghost use lib.ListN.{length};
-ghost use Rattle.format.specs.Answers.{refusal, writtenAs};
+ghost use Rattle.format.specs.Answers.{writtenAs};
 ghost use Rattle.format.specs.Day.{five};
-ghost use Rattle.format.specs.Block.{given, valuesText, blockOf, writeOf, roomOf};
+ghost use Rattle.format.specs.Block.{given, valuesText, writeOf, roomOf};
 ghost use Rattle.block.specs.Pieces.{dayWith, fitWith, Ready, FitDay};
 ghost use Rattle.writing.specs.Layers.{placedOf, answeredOf, Writes};
-
-fn no_block(number: u64) -> Written
-    ensures { λ r. ⌜ writtenAs r ≡ refusal number ⌝ }
-{
-    Written::Refused(Refusal {
-        number,
-        place: 0,
-        record: 0,
-        field: 0,
-    })
-}
 
 // A fit day whose values have k bytes: written where the room is long enough.
 fn write_fit(
@@ -61,7 +48,7 @@ fn write_fit(
     let b = size.bytes;
     let r = size.records;
     if room.len() < b {
-        return no_block(15);
+        return Written::Refused(Refusal::bare(15));
     }
     put_block(
         room,
@@ -110,7 +97,7 @@ fn write_long(
         n,
     );
     match m {
-        Measured::Unfit => no_block(16),
+        Measured::Unfit => Written::Refused(Refusal::bare(16)),
         Measured::Bytes(k) => write_fit(
             day,
             values,
@@ -144,7 +131,7 @@ pub fn write_day(
 {
     let n = intervals(day.length as u64);
     if n == 0 {
-        return no_block(16);
+        return Written::Refused(Refusal::bare(16));
     }
     if !enough(
         n,
@@ -155,7 +142,7 @@ pub fn write_day(
         starts.len(),
         lengths.len(),
     ) {
-        return no_block(15);
+        return Written::Refused(Refusal::bare(15));
     }
     write_long(
         day,

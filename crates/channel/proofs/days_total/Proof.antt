@@ -13,8 +13,8 @@ enum-known-x c = search needs
 enum-told : tie.Need-enum-told
 enum-told c = search needs
 
-no-total-requires : tie.Need-no-total-requires
-no-total-requires c κs = search needs
+bare-requires : tie.Need-bare-requires
+bare-requires c κs = search needs
 
 returns : tie.Need-returns
 returns c = search (total-is, total-over)
@@ -25,4 +25,4 @@ returns-2 c = search (total-is, total-over)
 pub days-total-spec : {M : Type 1} → statement M
 days-total-spec =
     tie.close
-    (tie.spec add-days-requires enum-known-x enum-told no-total-requires returns returns-2)
+    (tie.spec add-days-requires enum-known-x enum-told bare-requires returns returns-2)

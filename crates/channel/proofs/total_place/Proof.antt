@@ -10,8 +10,8 @@ use Rattle.channel.proofs.total_place.Tie as tie
 enum-told : tie.Need-enum-told
 enum-told c = search needs
 
-no-total-requires : tie.Need-no-total-requires
-no-total-requires c κs = search needs
+bare-requires : tie.Need-bare-requires
+bare-requires c κs = search needs
 
 enum-known-c : tie.Need-enum-known-c
 enum-known-c c = search needs
@@ -45,7 +45,7 @@ total-place-spec =
     tie.close
     (tie.spec
     enum-told
-    no-total-requires
+    bare-requires
     enum-known-c
     quantity-of-requires
     enum-known-c-2

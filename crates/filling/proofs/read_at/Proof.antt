@@ -7,8 +7,8 @@ use Rattle.filling.proofs.read_at.Tie as tie
 enough-requires : tie.Need-enough-requires
 enough-requires c κs = search needs
 
-no-day-requires : tie.Need-no-day-requires
-no-day-requires c κs = search needs
+bare-requires : tie.Need-bare-requires
+bare-requires c κs = search needs
 
 returns : tie.Need-returns
 returns c = search at-15
@@ -42,7 +42,7 @@ read-at-spec =
     tie.close
     (tie.spec
     enough-requires
-    no-day-requires
+    bare-requires
     returns
     fill-day-requires
     same-length

@@ -7,8 +7,8 @@ use Rattle.filling.proofs.read_place.Tie as tie
 enum-told : tie.Need-enum-told
 enum-told c = search needs
 
-no-day-requires : tie.Need-no-day-requires
-no-day-requires c κs = search needs
+bare-requires : tie.Need-bare-requires
+bare-requires c κs = search needs
 
 enum-known-p : tie.Need-enum-known-p
 enum-known-p c = search needs
@@ -45,7 +45,7 @@ read-place-spec =
     tie.close
     (tie.spec
     enum-told
-    no-day-requires
+    bare-requires
     enum-known-p
     read-at-requires
     returns

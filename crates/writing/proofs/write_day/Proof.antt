@@ -10,8 +10,8 @@ cast-intervals c = search needs
 intervals-requires : tie.Need-intervals-requires
 intervals-requires c κs = search needs
 
-no-block-requires : tie.Need-no-block-requires
-no-block-requires c κs = search needs
+bare-requires : tie.Need-bare-requires
+bare-requires c κs = search needs
 
 returns : tie.Need-returns
 returns c = (search no-length, search no-length-left)
@@ -19,8 +19,8 @@ returns c = (search no-length, search no-length-left)
 enough-requires : tie.Need-enough-requires
 enough-requires c κs = search needs
 
-no-block-requires-2 : tie.Need-no-block-requires-2
-no-block-requires-2 c κs = search needs
+bare-requires-2 : tie.Need-bare-requires-2
+bare-requires-2 c κs = search needs
 
 returns-2 : tie.Need-returns-2
 returns-2 c = (search too-short, search too-short-left)
@@ -43,10 +43,10 @@ write-day-spec =
     (tie.spec
     cast-intervals
     intervals-requires
-    no-block-requires
+    bare-requires
     returns
     enough-requires
-    no-block-requires-2
+    bare-requires-2
     returns-2
     slice-aggregate-write-long
     write-long-requires

@@ -7,8 +7,8 @@ use Rattle.writing.proofs.write_fit.Tie as tie
 measure-block-requires : tie.Need-measure-block-requires
 measure-block-requires c κs = search needs
 
-no-block-requires : tie.Need-no-block-requires
-no-block-requires c κs = search needs
+bare-requires : tie.Need-bare-requires
+bare-requires c κs = search needs
 
 returns : tie.Need-returns
 returns c = search no-room
@@ -27,7 +27,7 @@ write-fit-spec =
     tie.close
     (tie.spec
     measure-block-requires
-    no-block-requires
+    bare-requires
     returns
     put-block-requires
     same-length

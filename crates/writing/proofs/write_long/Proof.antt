@@ -10,8 +10,8 @@ fit-day-requires c κs = search needs
 enum-told : tie.Need-enum-told
 enum-told c = search needs
 
-no-block-requires : tie.Need-no-block-requires
-no-block-requires c κs = search needs
+bare-requires : tie.Need-bare-requires
+bare-requires c κs = search needs
 
 enum-known-m : tie.Need-enum-known-m
 enum-known-m c = search needs
@@ -34,7 +34,7 @@ write-long-spec =
     (tie.spec
     fit-day-requires
     enum-told
-    no-block-requires
+    bare-requires
     enum-known-m
     write-fit-requires
     returns

@@ -26,8 +26,8 @@ loop-holds c = (omega arith, omega arith, even-self _, search needs, refl)
 line-end-requires : tie.Need-line-end-requires Inv-loop μ-loop
 line-end-requires c κs = search needs
 
-run-at-requires : tie.Need-run-at-requires Inv-loop μ-loop
-run-at-requires c κs = search needs
+marked-at-requires : tie.Need-marked-at-requires Inv-loop μ-loop
+marked-at-requires c κs = search needs
 
 add-at : tie.Need-add-at Inv-loop μ-loop
 add-at c = let r : c .before .before .line-end .result + 2 ≤ length (c .before .before .before .before .before .before .before .before .before .before .before .args .file .now) = search turn-room in omega arith
@@ -67,7 +67,7 @@ put-cover-spec =
     μ-loop
     loop-holds
     line-end-requires
-    run-at-requires
+    marked-at-requires
     add-at
     put-tag-requires
     loop-less

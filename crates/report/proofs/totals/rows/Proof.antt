@@ -3,7 +3,7 @@ use lib.ListN.{length}
 use mathlib.Core.Path.{_≡_}
 use borrow.Author.Needs.{needs}
 use Prim.Native.Nat.{_-_}
-use Rattle.day.specs.Places.{IsAccepted}
+use Rattle.format.specs.File.{IsAccepted}
 use Rattle.channel.specs.Places.{ChannelAhead}
 use native.Mathlib.Omega.{arith}
 use Rattle.report.proofs.totals.rows.Statement.{statement}

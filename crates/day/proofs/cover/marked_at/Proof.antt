@@ -1,8 +1,8 @@
--- `day::cover::run_at` meets its contract. Assumes nothing.
+-- `day::cover::marked_at` meets its contract. Assumes nothing.
 use Rattle.day.proofs.Marks.{run-last, run-tag}
 use borrow.Author.Needs.{needs}
-use Rattle.day.proofs.cover.run_at.Statement.{statement}
-use Rattle.day.proofs.cover.run_at.Tie as tie
+use Rattle.day.proofs.cover.marked_at.Statement.{statement}
+use Rattle.day.proofs.cover.marked_at.Tie as tie
 
 skip-requires : tie.Need-skip-requires
 skip-requires c κs = search needs
@@ -19,7 +19,7 @@ tag-at-requires c κs = search needs
 returns : tie.Need-returns
 returns c = (search run-last, search run-tag)
 
-pub run-at-spec : {M : Type 1} → statement M
-run-at-spec =
+pub marked-at-spec : {M : Type 1} → statement M
+marked-at-spec =
     tie.close
     (tie.spec skip-requires field-at-requires interval-at-requires tag-at-requires returns)

@@ -17,7 +17,7 @@ pub record Here (file : List ℕ) (a e n : ℕ) : Type 0 where
   pub sound : isSound (blockAt file a e n) ≡ true
 
 -- and the lists have room for it
-pub record Ready (file : List ℕ) (a e n : ℕ) (vs : List ℕ) (ms : Five) : Type 0 where
+pub record Fillable (file : List ℕ) (a e n : ℕ) (vs : List ℕ) (ms : Five) : Type 0 where
   pub here : Here file a e n
   pub values : n ≤ length vs
   pub marks : Roomy n ms
