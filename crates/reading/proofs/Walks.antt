@@ -47,9 +47,9 @@ use Rattle.reading.proofs.Ahead.{ahead-first, day-first, channel-first,
 
 -- ---- a file of at most 1,048,576 bytes
 
-pub too-long : (file : List ℕ) → 1048576 < length file → checkOf file ≡ refused 1 0 0 0
+pub too-long : (file : List ℕ) (x : Refusal) → refusedAs x ≡ refused 1 0 0 0 → 1048576 < length file → checkOf file ≡ refusedAs x
 unfolding checkOf
-too-long file h = rw (lt-ltb _ _ h)
+too-long file x e h = rw (lt-ltb _ _ h) (sym e)
 
 walk-begins : (file : List ℕ) → length file ≤ 1048576 → checkOf file ≡ walkOf (seen file (closed 0 0 0 0 0 0)) 0 0 (lines (drop 0 file))
 unfolding checkOf expectedAs

@@ -13,6 +13,9 @@ Inv-loop file day channel t₀ t = Touring file day channel t
 abbrev μ-loop : tie.MeasureT-loop
 μ-loop file day channel t₀ t = length file - t .at
 
+bare-requires : tie.Need-bare-requires Inv-loop μ-loop
+bare-requires c κs = search needs
+
 refused-requires : tie.Need-refused-requires Inv-loop μ-loop
 refused-requires c κs = search needs
 
@@ -58,6 +61,7 @@ check-and-note-spec =
     (tie.spec
     Inv-loop
     μ-loop
+    bare-requires
     refused-requires
     returns
     new-requires
