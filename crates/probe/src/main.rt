@@ -1,7 +1,10 @@
 // Answers the cases on standard input, one after the other, so that each public entry can be driven with any bytes.
-mod files;
 mod out;
 
+use cases::block_case;
+use cases::check_case;
+use cases::day_case;
+use cases::total_case;
 use input::Going;
 use input::bytes::Cursor;
 use input::bytes::Taken;
@@ -17,10 +20,10 @@ fn case(buf: &mut [u8], c: Cursor, file: &mut [u8], page: &mut [u8], at: usize) 
         return Going::Ended;
     };
     match b {
-        b'b' => files::block_case(buf, after, file, page, at),
-        b'c' => files::check_case(buf, after, file, page, at),
-        b'd' => files::day_case(buf, after, file, page, at),
-        b't' => files::total_case(buf, after, file, page, at),
+        b'b' => block_case(buf, after, file, page, at),
+        b'c' => check_case(buf, after, file, page, at),
+        b'd' => day_case(buf, after, file, page, at),
+        b't' => total_case(buf, after, file, page, at),
         b'w' => write_case(buf, after, page, at),
         _ => Going::Bad,
     }

@@ -40,9 +40,7 @@ use Rattle.channel.specs.Places.{ChannelAhead}
 use Rattle.channel.specs.declared.ChannelStart.{ChannelStart}
 use Rattle.reading.specs.declared.tour.Tour.{Tour}
 use Rattle.reading.specs.declared.tour.Noted.{Noted}
-use Rattle.reading.specs.declared.tour.Turn.{Turn}
-use Rattle.reading.specs.declared.tour.Turn.the-variants.{On, Stop}
-use Rattle.reading.specs.Tour.{noUnder, firstDay, firstChannel, firstTour, Touring, Turned}
+use Rattle.reading.specs.Tour.{noUnder, firstDay, firstChannel, firstTour, Touring, underTo, turnedTo}
 use Rattle.reading.proofs.Ahead.{ahead-first, day-first, channel-first, under-turn, ahead-turn, day-noted, channel-noted}
 
 -- ---- a file of at most 1,048,576 bytes
@@ -140,18 +138,24 @@ touring-first file day channel t e h =
 
 -- over the record f that it was handed, with the step's answer
 module _ (file : List ℕ) (day channel : ℕ) (t : Tour) (g : Touring file day channel t) (going : t .state .expect ≡ 9 → ⊥) (r : Record)
-    (is : r ≡ recordAt file (t .at)) (p : ℕ) (f : Found) (h : r ≡ At p f) (w : Step) (ew : stepAs file w ≡ nextOf (seen file (t .state)) (part file (t .at) (f .end)))
-    (hw : Holds file (t .at) (f .end) w) (s : State) (q : w ≡ step.On s) (u : Under)
-    (eu : u ≡ cond (eqb (s .expect) 2) (record { at = t .at; end = f .end; n = s .n }) (t .under)) (d : DayStart)
-    (ed : d ≡ cond (leb (s .days) day) (record { at = f .end + 2; left = day - s .days; under = u }) (t .day)) (c : ChannelStart)
-    (ec : c ≡ cond (leb (s .channels) channel) (record { at = f .end + 2; left = channel - s .channels }) (t .channel)) where
-  pub turned-on : Turned file day channel t (On (record { at = f .end + 2; records = t .records + 1; state = s; under = u; day = d; channel = c }))
-  turned-on =
-      let room = handed-room file (t .at) r is p f h in
-      let order = handed-order file (t .at) r is p f h in
-      let b = under-turn file day channel (t .at) (t .under) u (t .state) r is p f h w ew s q (g .ahead) (g .heads) eu in
-      let a = ahead-turn file day channel (t .at) (t .under) u (t .state) r is p f h w ew s q (g .ahead) eu in (
-        record {
+    (is : r ≡ recordAt file (t .at)) (p : ℕ) (f : Found) (h : r ≡ At p f) where
+  pub turn-few : t .records < f .end + 2
+  turn-few = omega (arith, g .few, handed-order file (t .at) r is p f h)
+
+  pub turn-less : (u : Tour) (s : State) → u ≡ turnedTo t (f .end) (f .end + 2) s day channel → length file - u .at < length file - t .at
+  turn-less u s e = rw e (omega (arith, handed-order file (t .at) r is p f h, handed-room file (t .at) r is p f h))
+
+  module _ (w : Step) (ew : stepAs file w ≡ nextOf (seen file (t .state)) (part file (t .at) (f .end))) (hw : Holds file (t .at) (f .end) w) (s : State)
+      (q : w ≡ step.On s) where
+    pub turn-touring : (u : Tour) → u ≡ turnedTo t (f .end) (f .end + 2) s day channel → Touring file day channel u
+    turn-touring u e =
+        let room = handed-room file (t .at) r is p f h in
+        let order = handed-order file (t .at) r is p f h in
+        let v = underTo t (f .end) s in
+        let b = under-turn file day channel (t .at) (t .under) v (t .state) r is p f h w ew s q (g .ahead) (g .heads) refl in
+        let a = ahead-turn file day channel (t .at) (t .under) v (t .state) r is p f h w ew s q (g .ahead) refl in
+        rw e
+        (record {
           short = g .short;
           within = room;
           few = omega (arith, g .few, order);
@@ -159,21 +163,25 @@ module _ (file : List ℕ) (day channel : ℕ) (t : Tour) (g : Touring file day 
           walked = walk-on file (t .at) (t .records) (t .state) r is (g .kept .known) going (g .walked) p f h w ew s q;
           heads = b;
           ahead = a;
-          to-day = day-noted file day channel (f .end + 2) u (seen file s) room b a (t .day) d (g .to-day) ed;
-          to-channel = channel-noted file day channel (f .end + 2) u (seen file s) room b a (t .channel) c (g .to-channel) ec;
-        },
-        omega (arith, order),
-      )
+          to-day = day-noted file day channel (f .end + 2) v (seen file s) room b a (t .day) _ (g .to-day) refl;
+          to-channel = channel-noted file day channel (f .end + 2) v (seen file s) room b a (t .channel) _ (g .to-channel) refl;
+        })
 
 -- over the record, in the terms of what the walk was handed
 module _ (file : List ℕ) (day channel : ℕ) (t : Tour) (g : Touring file day channel t) (going : t .state .expect ≡ 9 → ⊥) (r : Record)
     (is : r ≡ recordAt file (t .at)) where
-  pub turned-2 : r ≡ None → checkOf file ≡ refused 2 (t .at) (t .records) 0
-  turned-2 h = walk-2 file (t .at) (t .records) (t .state) r is (g .kept .known) going (g .walked) h
+  pub turned-2 : (x : Refusal) → refusedAs x ≡ refused 2 (t .at) (t .records) 0 → r ≡ None → checkOf file ≡ refusedAs x
+  turned-2 x e h = z ∙ sym e
+    where
+      z : checkOf file ≡ refused 2 (t .at) (t .records) 0
+      z = walk-2 file (t .at) (t .records) (t .state) r is (g .kept .known) going (g .walked) h
 
   pub turned-stop : (p : ℕ) (f : Found) → r ≡ At p f → (w : Step) → stepAs file w ≡ nextOf (seen file (t .state)) (part file (t .at) (f .end)) → (x o i : ℕ)
-      → w ≡ step.Stop x o i → checkOf file ≡ refused x (t .at + o) (t .records) i
-  turned-stop p f h w ew x o i q = walk-stop file (t .at) (t .records) (t .state) r is (g .kept .known) going (g .walked) p f h w ew x o i q
+      → w ≡ step.Stop x o i → (y : Refusal) → refusedAs y ≡ refused x (t .at + o) (t .records) i → checkOf file ≡ refusedAs y
+  turned-stop p f h w ew x o i q y e = z ∙ sym e
+    where
+      z : checkOf file ≡ refused x (t .at + o) (t .records) i
+      z = walk-stop file (t .at) (t .records) (t .state) r is (g .kept .known) going (g .walked) p f h w ew x o i q
 
 -- behind the 900
 module _ (file : List ℕ) (day channel : ℕ) (t : Tour) (g : Touring file day channel t) (done : t .state .expect ≡ 9) where
@@ -182,22 +190,6 @@ module _ (file : List ℕ) (day channel : ℕ) (t : Tour) (g : Touring file day 
 
   pub ended-13 : (t .at ≡ length file → ⊥) → refused 13 (t .at) (t .records) 0 ≡ checkOf file
   ended-13 h = walk-13 file (t .at) (t .records) (t .state) done (g .walked) (g .within) h refl
-
--- ---- turn after turn
-
-module _ (file : List ℕ) (day channel : ℕ) (t : Tour) (w : Turn) (g : Turned file day channel t w) where
-  module _ (u : Tour) (h : w ≡ On u) where
-    turned : Touring file day channel u × (t .at < u .at)
-    turned = rw h at g
-
-    pub turned-touring : Touring file day channel u
-    turned-touring = turned .0
-
-    pub turned-less : length file - u .at < length file - t .at
-    turned-less = omega (arith, turned .1, turned .0 .within)
-
-  pub turned-refused : (x : Refusal) → w ≡ Stop x → checkOf file ≡ refusedAs x
-  turned-refused x h = rw h at g
 
 -- a refusal, and what is noted beside it
 module _ (file : List ℕ) (day channel : ℕ) (x : Refusal) (r : Noted) (er : r ≡ record { answer = Refused x; day = firstDay day; channel = firstChannel channel }) where

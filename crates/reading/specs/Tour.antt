@@ -1,14 +1,16 @@
 -- The walk over the file as it stands before a record: what it has found so far, and from where the day and the channel that were asked for are found.
-use Prim.Native.Nat.{ℕ, _-_, _≤_, _<_}
+use Prim.Native.Nat.{ℕ, _+_, _-_, _≤_}
 use mathlib.Core.Path.{_≡_}
 use mathlib.Core.List.{List}
+use mathlib.Core.Bool.{cond}
 use lib.ListN.{length, drop}
+use lib.Dec.{leb, eqb}
 use Rattle.format.specs.Cut.{lines}
 use Rattle.format.specs.Order.{Due}
-use Rattle.format.specs.Answers.{refusedAs}
 use Rattle.format.specs.File.{walkOf, most, checkOf}
 use Rattle.format.specs.Day.{daysOf}
 use Rattle.passing.specs.Passes.{Counts}
+use Rattle.order.specs.declared.State.{State}
 use Rattle.order.specs.State.{seen, closed, Kept}
 use Rattle.day.specs.Places.{Heads, daysAt, DayAhead}
 use Rattle.day.specs.declared.Under.{Under}
@@ -16,8 +18,6 @@ use Rattle.day.specs.declared.DayStart.{DayStart}
 use Rattle.channel.specs.Places.{totalsIn, totalsAt, ChannelAhead}
 use Rattle.channel.specs.declared.ChannelStart.{ChannelStart}
 use Rattle.reading.specs.declared.tour.Tour.{Tour}
-use Rattle.reading.specs.declared.tour.Turn.{Turn}
-use Rattle.reading.specs.declared.tour.Turn.the-variants.{On, Stop}
 
 -- ---- before the first record
 
@@ -53,7 +53,17 @@ pub record Touring (file : List ℕ) (day channel : ℕ) (t : Tour) : Type 0 whe
   pub to-day : DayAhead file day (t .day)
   pub to-channel : ChannelAhead file channel (t .channel)
 
--- behind a record it is on its way, and further; or its refusal is the check's
-abbrev pub Turned : List ℕ → ℕ → ℕ → Tour → Turn → Type 0
-Turned file day channel t (On u) = Touring file day channel u × (t .at < u .at)
-Turned file day channel t (Stop x) = checkOf file ≡ refusedAs x
+-- behind the record that went from the walk's place to e and left the state s: the last 200, and the walk at p
+abbrev pub underTo : Tour → ℕ → State → Under
+underTo t e s = cond (eqb (s .expect) 2) (record { at = t .at; end = e; n = s .n }) (t .under)
+
+abbrev pub turnedTo : Tour → ℕ → ℕ → State → ℕ → ℕ → Tour
+turnedTo t e p s day channel =
+    record {
+      at = p;
+      records = t .records + 1;
+      state = s;
+      under = underTo t e s;
+      day = cond (leb (s .days) day) (record { at = p; left = day - s .days; under = underTo t e s }) (t .day);
+      channel = cond (leb (s .channels) channel) (record { at = p; left = channel - s .channels }) (t .channel);
+    }

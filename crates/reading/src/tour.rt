@@ -11,13 +11,14 @@ use walker::Record;
 use walker::record_at;
 ghost use mathlib.Core.Path.{_≡_};
 ghost use mathlib.Core.Bool.{cond};
-ghost use Prim.Native.Nat.{_-_};
+ghost use Prim.Native.Nat.{_-_, _<_};
 ghost use lib.Dec.{leb, eqb};
-ghost use Rattle.format.specs.Answers.{checkedAs};
+ghost use Rattle.format.specs.Answers.{refused as Answers·refused};
+ghost use Rattle.format.specs.Answers.{refusedAs, checkedAs};
 ghost use Rattle.format.specs.File.{checkOf};
 ghost use Rattle.day.specs.Places.{DayAhead};
 ghost use Rattle.channel.specs.Places.{ChannelAhead};
-ghost use Rattle.reading.specs.Tour.{noUnder, firstDay, firstChannel, firstTour, Touring, Turned};
+ghost use Rattle.reading.specs.Tour.{noUnder, firstDay, firstChannel, firstTour, Touring, turnedTo};
 ghost use Rattle.format.specs.declared.Checked.the-variants.{Refused};
 
 // The walk before a record: where that starts, how many records are behind, the state, the last 200, and from where the day and the channel that were asked
@@ -29,12 +30,6 @@ pub struct Tour {
     pub under: Under,
     pub day: DayStart,
     pub channel: ChannelStart,
-}
-
-// What comes of a record: the walk behind it, or the refusal that ends it.
-pub enum Turn {
-    On(Tour),
-    Stop(Refusal),
 }
 
 // What the check answers, and from where the day and the channel that were asked for are found.
@@ -124,43 +119,19 @@ impl Tour {
         }
     }
 
-    // Over the record at which the walk stands.
-    fn turn(self, file: &[u8], day: usize, channel: usize) -> Turn
-        requires { ⌜ Touring (now file) day channel self × (self .state .expect ≡ 9 → ⊥) ⌝ }
-        ensures { λ r. ⌜ Turned (now (file .entry)) day channel self r ⌝ }
+    // Behind the record that went from the walk's place to e and left the state s.
+    fn turn(self, e: usize, behind: usize, s: State, day: usize, channel: usize) -> Tour
+        requires { ⌜ self .records < behind ⌝ }
+        ensures { λ r. ⌜ r ≡ turnedTo self e behind s day channel ⌝ }
     {
-        let at = self.at;
-        let handed = record_at(file, at);
-        let Record::At(_, found) = handed else {
-            return Turn::Stop(Refusal {
-                number: 2,
-                place: at,
-                record: self.records,
-                field: 0,
-            });
-        };
-        let e = found.end;
-        let st = self.state;
-        let step = st.step(file, at, found);
-        match step {
-            Step::Stop(number, o, field) => Turn::Stop(Refusal {
-                number,
-                place: at + o,
-                record: self.records,
-                field,
-            }),
-            Step::On(s) => {
-                let behind = e + 2;
-                let under = under_from(self.under, at, e, s.expect, s.n);
-                Turn::On(Tour {
-                    at: behind,
-                    records: self.records + 1,
-                    state: s,
-                    under,
-                    day: day_from(self.day, day, s.days, behind, under),
-                    channel: channel_from(self.channel, channel, s.channels, behind),
-                })
-            }
+        let under = under_from(self.under, self.at, e, s.expect, s.n);
+        Tour {
+            at: behind,
+            records: self.records + 1,
+            state: s,
+            under,
+            day: day_from(self.day, day, s.days, behind, under),
+            channel: channel_from(self.channel, channel, s.channels, behind),
         }
     }
 
@@ -182,6 +153,17 @@ impl Tour {
             record: self.records,
             field: 0,
         })
+    }
+}
+
+fn place_of(number: u64, place: usize, record: usize, field: usize) -> Refusal
+    ensures { λ r. ⌜ refusedAs r ≡ Answers·refused number place «record» field ⌝ }
+{
+    Refusal {
+        number,
+        place,
+        record,
+        field,
     }
 }
 
@@ -207,12 +189,21 @@ pub fn check_and_note(file: &[u8], day: usize, channel: usize) -> Noted
     }
     let mut t = Tour::new(day, channel);
     while t.state.expect != 9 {
-        let turn = t.turn(file, day, channel);
-        match turn {
-            Turn::On(next) => {
-                t = next;
+        let at = t.at;
+        let handed = record_at(file, at);
+        let Record::At(_, found) = handed else {
+            return refused(place_of(2, at, t.records, 0), day, channel);
+        };
+        let e = found.end;
+        let st = t.state;
+        let step = st.step(file, at, found);
+        match step {
+            Step::Stop(number, o, field) => {
+                return refused(place_of(number, at + o, t.records, field), day, channel);
             }
-            Turn::Stop(x) => return refused(x, day, channel),
+            Step::On(s) => {
+                t = t.turn(e, e + 2, s, day, channel);
+            }
         }
     }
     let to_day = t.day;

@@ -1,4 +1,5 @@
-// The cases that hand in a file: check, day, total; or a block on its own.
+// The probe's cases that hand in a file, check, day and total, or a block on its own. No contract can say what is read, so these functions are proved safe, and
+// have none; what they answer is put together by `calls`.
 use calls::PLACES;
 use calls::files;
 use input::Going;
