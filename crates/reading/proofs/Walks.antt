@@ -121,9 +121,11 @@ kept-first file = record { known = omega arith; begun = λ z. absurd (let y : �
 
 -- ---- the walk on its way
 
-pub touring-first : (file : List ℕ) (day channel : ℕ) (t : Tour) → t ≡ firstTour day channel → length file ≤ 1048576 → Touring file day channel t
-touring-first file day channel t e h =
-    rw e
+pub touring-first : (file : List ℕ) (day channel : ℕ) (st : State) (t : Tour) → st ≡ closed 0 0 0 0 0 0 → t ≡ firstTour day channel → length file ≤ 1048576
+    → Touring file day channel st t
+unfolding expectedAs
+touring-first file day channel st t es et h =
+    rw (es, et)
     (record {
       short = h;
       within = omega arith;
@@ -137,7 +139,7 @@ touring-first file day channel t e h =
     })
 
 -- over the record f that it was handed, with the step's answer
-module _ (file : List ℕ) (day channel : ℕ) (t : Tour) (g : Touring file day channel t) (going : t .state .expect ≡ 9 → ⊥) (r : Record)
+module _ (file : List ℕ) (day channel : ℕ) (st : State) (t : Tour) (g : Touring file day channel st t) (going : st .expect ≡ 9 → ⊥) (r : Record)
     (is : r ≡ recordAt file (t .at)) (p : ℕ) (f : Found) (h : r ≡ At p f) where
   pub turn-few : t .records < f .end + 2
   turn-few = omega (arith, g .few, handed-order file (t .at) r is p f h)
@@ -145,22 +147,22 @@ module _ (file : List ℕ) (day channel : ℕ) (t : Tour) (g : Touring file day 
   pub turn-less : (u : Tour) (s : State) → u ≡ turnedTo t (f .end) (f .end + 2) s day channel → length file - u .at < length file - t .at
   turn-less u s e = rw e (omega (arith, handed-order file (t .at) r is p f h, handed-room file (t .at) r is p f h))
 
-  module _ (w : Step) (ew : stepAs file w ≡ nextOf (seen file (t .state)) (part file (t .at) (f .end))) (hw : Holds file (t .at) (f .end) w) (s : State)
+  module _ (w : Step) (ew : stepAs file w ≡ nextOf (seen file st) (part file (t .at) (f .end))) (hw : Holds file (t .at) (f .end) w) (s : State)
       (q : w ≡ step.On s) where
-    pub turn-touring : (u : Tour) → u ≡ turnedTo t (f .end) (f .end + 2) s day channel → Touring file day channel u
+    pub turn-touring : (u : Tour) → u ≡ turnedTo t (f .end) (f .end + 2) s day channel → Touring file day channel s u
     turn-touring u e =
         let room = handed-room file (t .at) r is p f h in
         let order = handed-order file (t .at) r is p f h in
         let v = underTo t (f .end) s in
-        let b = under-turn file day channel (t .at) (t .under) v (t .state) r is p f h w ew s q (g .ahead) (g .heads) refl in
-        let a = ahead-turn file day channel (t .at) (t .under) v (t .state) r is p f h w ew s q (g .ahead) refl in
+        let b = under-turn file day channel (t .at) (t .under) v st r is p f h w ew s q (g .ahead) (g .heads) refl in
+        let a = ahead-turn file day channel (t .at) (t .under) v st r is p f h w ew s q (g .ahead) refl in
         rw e
         (record {
           short = g .short;
           within = room;
           few = omega (arith, g .few, order);
           kept = kept-on file (t .at) (f .end) w hw s q;
-          walked = walk-on file (t .at) (t .records) (t .state) r is (g .kept .known) going (g .walked) p f h w ew s q;
+          walked = walk-on file (t .at) (t .records) st r is (g .kept .known) going (g .walked) p f h w ew s q;
           heads = b;
           ahead = a;
           to-day = day-noted file day channel (f .end + 2) v (seen file s) room b a (t .day) _ (g .to-day) refl;
@@ -168,28 +170,28 @@ module _ (file : List ℕ) (day channel : ℕ) (t : Tour) (g : Touring file day 
         })
 
 -- over the record, in the terms of what the walk was handed
-module _ (file : List ℕ) (day channel : ℕ) (t : Tour) (g : Touring file day channel t) (going : t .state .expect ≡ 9 → ⊥) (r : Record)
+module _ (file : List ℕ) (day channel : ℕ) (st : State) (t : Tour) (g : Touring file day channel st t) (going : st .expect ≡ 9 → ⊥) (r : Record)
     (is : r ≡ recordAt file (t .at)) where
   pub turned-2 : (x : Refusal) → refusedAs x ≡ refused 2 (t .at) (t .records) 0 → r ≡ None → checkOf file ≡ refusedAs x
   turned-2 x e h = z ∙ sym e
     where
       z : checkOf file ≡ refused 2 (t .at) (t .records) 0
-      z = walk-2 file (t .at) (t .records) (t .state) r is (g .kept .known) going (g .walked) h
+      z = walk-2 file (t .at) (t .records) st r is (g .kept .known) going (g .walked) h
 
-  pub turned-stop : (p : ℕ) (f : Found) → r ≡ At p f → (w : Step) → stepAs file w ≡ nextOf (seen file (t .state)) (part file (t .at) (f .end)) → (x o i : ℕ)
+  pub turned-stop : (p : ℕ) (f : Found) → r ≡ At p f → (w : Step) → stepAs file w ≡ nextOf (seen file st) (part file (t .at) (f .end)) → (x o i : ℕ)
       → w ≡ step.Stop x o i → (y : Refusal) → refusedAs y ≡ refused x (t .at + o) (t .records) i → checkOf file ≡ refusedAs y
   turned-stop p f h w ew x o i q y e = z ∙ sym e
     where
       z : checkOf file ≡ refused x (t .at + o) (t .records) i
-      z = walk-stop file (t .at) (t .records) (t .state) r is (g .kept .known) going (g .walked) p f h w ew x o i q
+      z = walk-stop file (t .at) (t .records) st r is (g .kept .known) going (g .walked) p f h w ew x o i q
 
 -- behind the 900
-module _ (file : List ℕ) (day channel : ℕ) (t : Tour) (g : Touring file day channel t) (done : t .state .expect ≡ 9) where
-  pub ended-all : t .at ≡ length file → accepted (t .state .version ∷ t .state .channels ∷ t .state .days ∷ []) ≡ checkOf file
-  ended-all h = walk-end file (t .at) (t .records) (t .state) done (g .walked) _ _ _ h refl refl refl
+module _ (file : List ℕ) (day channel : ℕ) (st : State) (t : Tour) (g : Touring file day channel st t) (done : st .expect ≡ 9) where
+  pub ended-all : t .at ≡ length file → accepted (st .version ∷ st .channels ∷ st .days ∷ []) ≡ checkOf file
+  ended-all h = walk-end file (t .at) (t .records) st done (g .walked) _ _ _ h refl refl refl
 
   pub ended-13 : (t .at ≡ length file → ⊥) → refused 13 (t .at) (t .records) 0 ≡ checkOf file
-  ended-13 h = walk-13 file (t .at) (t .records) (t .state) done (g .walked) (g .within) h refl
+  ended-13 h = walk-13 file (t .at) (t .records) st done (g .walked) (g .within) h refl
 
 -- a refusal, and what is noted beside it
 module _ (file : List ℕ) (day channel : ℕ) (x : Refusal) (r : Noted) (er : r ≡ record { answer = Refused x; day = firstDay day; channel = firstChannel channel }) where

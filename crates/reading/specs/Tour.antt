@@ -11,7 +11,7 @@ use Rattle.format.specs.File.{walkOf, most, checkOf}
 use Rattle.format.specs.Day.{daysOf}
 use Rattle.passing.specs.Passes.{Counts}
 use Rattle.order.specs.declared.State.{State}
-use Rattle.order.specs.State.{seen, closed, Kept}
+use Rattle.order.specs.State.{seen, Kept}
 use Rattle.day.specs.Places.{Heads, daysAt, DayAhead}
 use Rattle.day.specs.declared.Under.{Under}
 use Rattle.day.specs.declared.DayStart.{DayStart}
@@ -31,7 +31,7 @@ abbrev pub firstChannel : ℕ → ChannelStart
 firstChannel channel = record { at = 0; left = channel }
 
 abbrev pub firstTour : ℕ → ℕ → Tour
-firstTour day channel = record { at = 0; records = 0; state = closed 0 0 0 0 0 0; under = noUnder; day = firstDay day; channel = firstChannel channel }
+firstTour day channel = record { at = 0; records = 0; under = noUnder; day = firstDay day; channel = firstChannel channel }
 
 -- ---- before any record
 
@@ -42,14 +42,14 @@ pub record Ahead (file : List ℕ) (day channel at : ℕ) (u : Under) (st : Due)
   pub totals : st .channels ≤ channel → drop channel (totalsIn file) ≡ drop (channel - st .channels) (totalsAt file at)
 
 -- the walk is on its way: what is left of the check is a walk from here, and what was noted is right
-pub record Touring (file : List ℕ) (day channel : ℕ) (t : Tour) : Type 0 where
+pub record Touring (file : List ℕ) (day channel : ℕ) (st : State) (t : Tour) : Type 0 where
   pub short : length file ≤ most
   pub within : t .at ≤ length file
   pub few : t .records ≤ t .at
-  pub kept : Kept file (t .at) (t .state)
-  pub walked : checkOf file ≡ walkOf (seen file (t .state)) (t .at) (t .records) (lines (drop (t .at) file))
+  pub kept : Kept file (t .at) st
+  pub walked : checkOf file ≡ walkOf (seen file st) (t .at) (t .records) (lines (drop (t .at) file))
   pub heads : Heads file (t .under)
-  pub ahead : Ahead file day channel (t .at) (t .under) (seen file (t .state))
+  pub ahead : Ahead file day channel (t .at) (t .under) (seen file st)
   pub to-day : DayAhead file day (t .day)
   pub to-channel : ChannelAhead file channel (t .channel)
 
@@ -62,7 +62,6 @@ turnedTo t e p s day channel =
     record {
       at = p;
       records = t .records + 1;
-      state = s;
       under = underTo t e s;
       day = cond (leb (s .days) day) (record { at = p; left = day - s .days; under = underTo t e s }) (t .day);
       channel = cond (leb (s .channels) channel) (record { at = p; left = channel - s .channels }) (t .channel);

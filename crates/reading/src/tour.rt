@@ -21,12 +21,11 @@ ghost use Rattle.channel.specs.Places.{ChannelAhead};
 ghost use Rattle.reading.specs.Tour.{noUnder, firstDay, firstChannel, firstTour, Touring, turnedTo};
 ghost use Rattle.format.specs.declared.Checked.the-variants.{Refused};
 
-// The walk before a record: where that starts, how many records are behind, the state, the last 200, and from where the day and the channel that were asked
-// for are found.
+// The walk before a record, beside its state: where the record starts, how many are behind, the last 200, and from where the day and the channel that were
+// asked for are found.
 pub struct Tour {
     pub at: usize,
     pub records: usize,
-    pub state: State,
     pub under: Under,
     pub day: DayStart,
     pub channel: ChannelStart,
@@ -112,7 +111,6 @@ impl Tour {
         Tour {
             at: 0,
             records: 0,
-            state: State::new(),
             under: no_channel(),
             day: first_day(day),
             channel: first_channel(channel),
@@ -128,7 +126,6 @@ impl Tour {
         Tour {
             at: behind,
             records: self.records + 1,
-            state: s,
             under,
             day: day_from(self.day, day, s.days, behind, under),
             channel: channel_from(self.channel, channel, s.channels, behind),
@@ -136,15 +133,15 @@ impl Tour {
     }
 
     // The end of the file has to stand behind the 900.
-    fn end(self, file: &[u8], day: usize, channel: usize) -> Checked
-        requires { ⌜ Touring (now file) day channel self × (self .state .expect ≡ 9) ⌝ }
+    fn end(self, file: &[u8], st: State, day: usize, channel: usize) -> Checked
+        requires { ⌜ Touring (now file) day channel st self × (st .expect ≡ 9) ⌝ }
         ensures { λ r. ⌜ checkedAs r ≡ checkOf (now (file .entry)) ⌝ }
     {
         if self.at == file.len() {
             return Checked::Accepted {
-                version: self.state.version,
-                channels: self.state.channels,
-                days: self.state.days,
+                version: st.version,
+                channels: st.channels,
+                days: st.days,
             };
         }
         Checked::Refused(Refusal {
@@ -187,15 +184,15 @@ pub fn check_and_note(file: &[u8], day: usize, channel: usize) -> Noted
     if 1048576 < file.len() {
         return refused(Refusal::bare(1), day, channel);
     }
+    let mut st = State::new();
     let mut t = Tour::new(day, channel);
-    while t.state.expect != 9 {
+    while st.expect != 9 {
         let at = t.at;
         let handed = record_at(file, at);
         let Record::At(_, found) = handed else {
             return refused(place_of(2, at, t.records, 0), day, channel);
         };
         let e = found.end;
-        let st = t.state;
         let step = st.step(file, at, found);
         match step {
             Step::Stop(number, o, field) => {
@@ -203,13 +200,14 @@ pub fn check_and_note(file: &[u8], day: usize, channel: usize) -> Noted
             }
             Step::On(s) => {
                 t = t.turn(e, e + 2, s, day, channel);
+                st = s;
             }
         }
     }
     let to_day = t.day;
     let to_channel = t.channel;
     Noted {
-        answer: t.end(file, day, channel),
+        answer: t.end(file, st, day, channel),
         day: to_day,
         channel: to_channel,
     }

@@ -11,10 +11,10 @@ use Rattle.reading.proofs.tour.check_and_note.Statement.{statement}
 use Rattle.reading.proofs.tour.check_and_note.Tie as tie
 
 abbrev Inv-loop : tie.InvT-loop
-Inv-loop file day channel t₀ t = Touring file day channel t
+Inv-loop file day channel st₀ t₀ st t = Touring file day channel st t
 
 abbrev μ-loop : tie.MeasureT-loop
-μ-loop file day channel t₀ t = length file - t .at
+μ-loop file day channel st₀ t₀ st t = length file - t .at
 
 bare-requires : tie.Need-bare-requires Inv-loop μ-loop
 bare-requires c κs = search needs
@@ -27,6 +27,9 @@ returns c = (search (refused-answer, too-long), (search refused-day, search refu
 
 new-requires : tie.Need-new-requires Inv-loop μ-loop
 new-requires c κs = search needs
+
+new-requires-2 : tie.Need-new-requires-2 Inv-loop μ-loop
+new-requires-2 c κs = search needs
 
 loop-holds : tie.Need-loop-holds Inv-loop μ-loop
 loop-holds c = search touring-first
@@ -56,7 +59,7 @@ enum-known-step : tie.Need-enum-known-step Inv-loop μ-loop
 enum-known-step c = search needs
 
 add-place-of : tie.Need-add-place-of Inv-loop μ-loop
-add-place-of c = let h : c .before .before .before .before .before .before .before .before .before .before .before .loop .t .at + c .before .step2 .given .0 .1 .0 ≤ c .before .before .before .before .before .before .handed .given .0 .1 .0 .end = search stop-within in let r : c .before .before .before .before .before .before .handed .given .0 .1 .0 .end + 2 ≤ length (c .before .before .before .before .before .before .before .before .before .before .before .before .before .before .before .args .file .now) = search handed-room in omega (arith, h, r, c .before .before .before .before .before .before .before .before .before .before .before .loop .inv .short)
+add-place-of c = let h : c .before .before .before .before .before .before .before .before .before .before .loop .t .at + c .before .step2 .given .0 .1 .0 ≤ c .before .before .before .before .before .handed .given .0 .1 .0 .end = search stop-within in let r : c .before .before .before .before .before .handed .given .0 .1 .0 .end + 2 ≤ length (c .before .before .before .before .before .before .before .before .before .before .before .before .before .before .before .args .file .now) = search handed-room in omega (arith, h, r, c .before .before .before .before .before .before .before .before .before .before .loop .inv .short)
 
 place-of-requires-2 : tie.Need-place-of-requires-2 Inv-loop μ-loop
 place-of-requires-2 c κs = search needs
@@ -67,7 +70,7 @@ refused-requires-3 c κs = search needs
 returns-3 : tie.Need-returns-3 Inv-loop μ-loop
 returns-3 c = (
   refused-answer _ _ _ _ _ (c .refused3 .ensures)
-      (turned-stop _ _ _ (c .before .before .before .before .before .before .before .before .before .before .before .before .before .loop .t) (c .before .before .before .before .before .before .before .before .before .before .before .before .before .loop .inv) (c .before .before .before .before .before .before .before .before .before .before .before .if2 .taken) _ (c .before .before .before .before .before .before .before .before .before .before .record-at .ensures) _ _ (c .before .before .before .before .before .before .before .before .handed .given .1) _ (c .before .before .before .before .before .step .ensures .0) _ _ _ (c .before .before .before .step2 .given .1) _
+      (turned-stop _ _ _ (c .before .before .before .before .before .before .before .before .before .before .before .before .loop .st) (c .before .before .before .before .before .before .before .before .before .before .before .before .loop .t) (c .before .before .before .before .before .before .before .before .before .before .before .before .loop .inv) (c .before .before .before .before .before .before .before .before .before .before .if2 .taken) _ (c .before .before .before .before .before .before .before .before .before .record-at .ensures) _ _ (c .before .before .before .before .before .before .before .handed .given .1) _ (c .before .before .before .before .before .step .ensures .0) _ _ _ (c .before .before .before .step2 .given .1) _
       (c .before .place-of2 .ensures)),
   (search refused-day, search refused-channel),
 )
@@ -76,17 +79,17 @@ enum-known-step-2 : tie.Need-enum-known-step-2 Inv-loop μ-loop
 enum-known-step-2 c = search needs
 
 add-turn : tie.Need-add-turn Inv-loop μ-loop
-add-turn c = let r : c .before .before .before .before .before .before .handed .given .0 .1 .0 .end + 2 ≤ length (c .before .before .before .before .before .before .before .before .before .before .before .before .before .before .before .args .file .now) = search handed-room in omega (arith, r, c .before .before .before .before .before .before .before .before .before .before .before .loop .inv .short)
+add-turn c = let r : c .before .before .before .before .before .handed .given .0 .1 .0 .end + 2 ≤ length (c .before .before .before .before .before .before .before .before .before .before .before .before .before .before .before .args .file .now) = search handed-room in omega (arith, r, c .before .before .before .before .before .before .before .before .before .before .loop .inv .short)
 
 turn-requires : tie.Need-turn-requires Inv-loop μ-loop
 turn-requires c κs = search turn-few
 
 loop-less : tie.Need-loop-less Inv-loop μ-loop
-loop-less c = turn-less _ _ _ (c .before .before .before .before .before .before .before .before .before .before .before .before .loop .t) (c .before .before .before .before .before .before .before .before .before .before .before .before .loop .inv) (c .before .before .before .before .before .before .before .before .before .before .if2 .taken) _ (c .before .before .before .before .before .before .before .before .before .record-at .ensures) _ _ (c .before .before .before .before .before .before .before .handed .given .1) _ _ (c .turn .ensures)
+loop-less c = turn-less _ _ _ (c .before .before .before .before .before .before .before .before .before .before .before .loop .st) (c .before .before .before .before .before .before .before .before .before .before .before .loop .t) (c .before .before .before .before .before .before .before .before .before .before .before .loop .inv) (c .before .before .before .before .before .before .before .before .before .if2 .taken) _ (c .before .before .before .before .before .before .before .before .record-at .ensures) _ _ (c .before .before .before .before .before .before .handed .given .1) _ (c .before .before .step3 .given .0 .0) (c .turn .ensures)
 
 loop-again : tie.Need-loop-again Inv-loop μ-loop
 loop-again c =
-    turn-touring _ _ _ (c .before .before .before .before .before .before .before .before .before .before .before .before .loop .t) (c .before .before .before .before .before .before .before .before .before .before .before .before .loop .inv) (c .before .before .before .before .before .before .before .before .before .before .if2 .taken) _ (c .before .before .before .before .before .before .before .before .before .record-at .ensures) _ _ (c .before .before .before .before .before .before .before .handed .given .1) _ (c .before .before .before .before .step .ensures .0) (c .before .before .before .before .step .ensures .1) _ (c .before .before .step3 .given .1) _
+    turn-touring _ _ _ (c .before .before .before .before .before .before .before .before .before .before .before .loop .st) (c .before .before .before .before .before .before .before .before .before .before .before .loop .t) (c .before .before .before .before .before .before .before .before .before .before .before .loop .inv) (c .before .before .before .before .before .before .before .before .before .if2 .taken) _ (c .before .before .before .before .before .before .before .before .record-at .ensures) _ _ (c .before .before .before .before .before .before .handed .given .1) _ (c .before .before .before .before .step .ensures .0) (c .before .before .before .before .step .ensures .1) _ (c .before .before .step3 .given .1) _
     (c .turn .ensures)
 
 end-requires : tie.Need-end-requires Inv-loop μ-loop
@@ -105,6 +108,7 @@ check-and-note-spec =
     refused-requires
     returns
     new-requires
+    new-requires-2
     loop-holds
     record-at-requires
     enum-known-handed

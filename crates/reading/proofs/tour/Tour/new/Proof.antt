@@ -3,9 +3,6 @@ use borrow.Author.Needs.{needs}
 use Rattle.reading.proofs.tour.Tour.new.Statement.{statement}
 use Rattle.reading.proofs.tour.Tour.new.Tie as tie
 
-new-requires : tie.Need-new-requires
-new-requires c κs = search needs
-
 no-channel-requires : tie.Need-no-channel-requires
 no-channel-requires c κs = search needs
 
@@ -16,9 +13,8 @@ first-channel-requires : tie.Need-first-channel-requires
 first-channel-requires c κs = search needs
 
 returns : tie.Need-returns
-returns c = rw (c .before .before .before .new .ensures, c .before .before .no-channel .ensures, c .before .first-day .ensures, c .first-channel .ensures)
+returns c = rw (c .first-channel .ensures, c .before .first-day .ensures, c .before .before .no-channel .ensures)
 
 pub new-spec : {M : Type 1} → statement M
 new-spec =
-    tie.close
-    (tie.spec new-requires no-channel-requires first-day-requires first-channel-requires returns)
+    tie.close (tie.spec no-channel-requires first-day-requires first-channel-requires returns)
