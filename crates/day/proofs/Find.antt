@@ -7,8 +7,7 @@ use lib.ListN.{length, drop}
 use lib.Seq.{drop-nil, drop-length}
 use borrow.Author.Tests.{ne-eqb}
 use Rattle.ground.specs.Lists.{part}
-use Rattle.format.specs.Bytes.{areAll}
-use Rattle.format.specs.Numbers.{numberIn, numberOf, leadingZero, smallOf, isLength, lengthOf, intervalsOf}
+use Rattle.format.specs.Numbers.{numberIn, lengthOf, intervalsOf}
 use Rattle.format.specs.Cut.{lines, fields, field}
 use Rattle.format.specs.Records.{kindIn, intervalsIn}
 use Rattle.format.specs.Day.{DayRows, daysFrom}
@@ -71,9 +70,12 @@ pub ruleset finds = (find-none, find-here, find-next, find-channel, find-other)
 -- ---- behind a day
 
 -- before the first 200
-pub no-heads : (file : List ℕ) (u : Under) → u .at ≡ 0 → u .end ≡ 0 → u .n ≡ 0 → Heads file u
-unfolding intervalsIn fields lengthOf smallOf leadingZero numberOf areAll intervalsOf isLength
-no-heads file u a e n = record { order = omega arith; within = omega arith; size = rw (a, e, n) }
+pub no-heads : (file : List ℕ) (u : Under) → u .at ≡ 0 → u .end ≡ 0 → Heads file u
+no-heads file u a e = record { order = omega arith; within = omega arith }
+
+-- the 200 that was passed
+pub heads-here : (file : List ℕ) (at e : ℕ) → LineEnd file at e → (u : Under) → u .at ≡ at → u .end ≡ e → Heads file u
+heads-here file at e l u ua ue = record { order = omega (arith, l .order); within = omega (arith, l .within) }
 
 pub room-behind : (file : List ℕ) (p : Place) (a e : ℕ) (u : Under) → p ≡ At a e u → inside file p → e + 2 ≤ length file
 room-behind file p a e u h i = let w : (a ≤ e) × (e + 2 ≤ length file) × Heads file u = rw h at i in w .1
@@ -87,3 +89,14 @@ behind-day file p a e u h i r ra rl ru =
 pub behind-none : (file : List ℕ) (p : Place) → p ≡ Missing → (r : DayStart) → r .at ≡ length file → r .left ≡ 0 → Heads file (r .under) → Behind file p r
 unfolding daysFrom lines
 behind-none file p h r ra rl u = record { within = omega arith; heads = u; is = rw (h, ra, rl, drop-length file) }
+
+-- the 200 of a day that was found
+module _ (file : List ℕ) (p : Place) (a e : ℕ) (u : Under) (h : p ≡ At a e u) (i : inside file p) where
+  heads-found : Heads file u
+  heads-found = let w : (a ≤ e) × (e + 2 ≤ length file) × Heads file u = rw h at i in w .2
+
+  pub under-order : u .at ≤ u .end
+  under-order = heads-found .order
+
+  pub under-within : u .end ≤ length file
+  under-within = heads-found .within

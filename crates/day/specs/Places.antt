@@ -43,11 +43,10 @@ blockAt file a e n = record { n = n; top = rowAt a (part file a e); runs = runsA
 
 -- ---- where a day stands
 
--- the 200 lies in the file, and n is its own
+-- the 200 lies in the file
 pub record Heads (file : List ℕ) (u : Under) : Type 0 where
   pub order : u .at ≤ u .end
   pub within : u .end ≤ length file
-  pub size : u .n ≡ intervalsIn (fields (part file (u .at) (u .end)))
 
 abbrev pub channelAt : List ℕ → Under → Row
 channelAt file u = rowAt (u .at) (part file (u .at) (u .end))

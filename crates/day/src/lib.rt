@@ -4,11 +4,10 @@ pub mod fields;
 pub mod head;
 pub mod walk;
 
-// The 200 that days stand under, from its first byte to its CR LF, and how many intervals they have. Before the first 200 it is empty, and n is 0.
+// The 200 that days stand under, from its first byte to its CR LF. Before the first 200 it is empty.
 pub struct Under {
     pub at: usize,
     pub end: usize,
-    pub n: usize,
 }
 
 // From where a day is found: it stands behind `left` more days from the record at `at` on, and the 200 before that record is given.

@@ -13,7 +13,7 @@ ghost use Rattle.ground.specs.Lists.{part};
 ghost use Rattle.format.specs.Cut.{fields};
 ghost use Rattle.format.specs.Records.{intervalsIn};
 ghost use Rattle.format.specs.Day.{daysOf};
-ghost use Rattle.day.specs.Places.{Heads, DayAhead, located, inside, Behind};
+ghost use Rattle.day.specs.Places.{DayAhead, located, inside, Behind};
 
 // How many intervals the days of a 200 have.
 pub fn intervals_of(file: &[u8], a: usize, e: usize) -> usize
@@ -22,19 +22,6 @@ pub fn intervals_of(file: &[u8], a: usize, e: usize) -> usize
 {
     let x = skip(file, a, e, 8);
     intervals_at(file, x, e)
-}
-
-// The 200 that goes from a to e.
-fn under_at(file: &[u8], a: usize, e: usize) -> Under
-    requires { ⌜ (a ≤ e) × (e ≤ length (now file)) ⌝ }
-    ensures is { λ r. ⌜ (r .at ≡ a) × (r .end ≡ e) ⌝ }
-    ensures heads { λ r. ⌜ Heads (now (file .entry)) r ⌝ }
-{
-    Under {
-        at: a,
-        end: e,
-        n: intervals_of(file, a, e),
-    }
 }
 
 // The day of a number from 0, with the last 200 before it. A walk that came by has noted from where it is found.
@@ -61,7 +48,7 @@ pub fn find_day(file: &[u8], day: usize, from: DayStart) -> Place
             }
             left -= 1;
         } else if k == 200 {
-            under = under_at(file, a, e);
+            under = Under { at: a, end: e };
         }
     }
 }
@@ -80,11 +67,7 @@ pub fn behind(file: &[u8], p: Place) -> DayStart
         Place::Missing => DayStart {
             at: file.len(),
             left: 0,
-            under: Under {
-                at: 0,
-                end: 0,
-                n: 0,
-            },
+            under: Under { at: 0, end: 0 },
         },
     }
 }

@@ -7,6 +7,9 @@ use lib.ListN.{length, drop}
 use lib.Seq.{drop-drop}
 use borrow.Author.Tests.{leb-true, not-true, not-false}
 use Rattle.ground.proofs.Tests.{and-true}
+use Rattle.ground.specs.Lists.{part}
+use Rattle.format.specs.Cut.{fields}
+use Rattle.format.specs.Records.{intervalsIn}
 use Rattle.format.specs.Answers.{Answer, refusal}
 use Rattle.format.specs.Day.{DayRows, daysOf, Five, outcome, enoughFor, roomFor, readInto, readFirst, readOf}
 use Rattle.passing.specs.Sound.{isSound, areSound}
@@ -51,21 +54,20 @@ module _ (file : List ℕ) (a e n : ℕ) (vs : List ℕ) (ms : Five) {b : Bool} 
 
 -- what stands at the place p that the walk to a day answers
 module _ (file : List ℕ) (p : Place) where
-  pub day-here : (a e : ℕ) (u : Under) → p ≡ At a e u → inside file p → areSound (located file p) ≡ true → Here file a e (u .n)
-  day-here a e u h i s =
+  pub day-here : (a e n : ℕ) (u : Under) → p ≡ At a e u → n ≡ intervalsIn (fields (part file (u .at) (u .end))) → inside file p → areSound (located file p) ≡ true
+      → Here file a e n
+  day-here a e n u h en i s =
       let w : (a ≤ e) × (e + 2 ≤ length file) × Heads file u = rw h at i in
       let t : areSound (located file (At a e u)) ≡ true = rw h at s in
-      record { order = w .0; within = w .1; sound = rw (w .2 .size) (and-true (isSound (dayAt file a e u .block)) _ t .0) }
+      record { order = w .0; within = w .1; sound = rw en (and-true (isSound (dayAt file a e u .block)) _ t .0) }
 
   module _ (vs : List ℕ) (ms : Five) where
     pub day-missing : (r : Answer) → p ≡ Missing → r ≡ refusal 14 → outcome r vs ms ≡ readFirst (located file p) vs ms
     day-missing r h er = rw (h, er)
 
-    pub day-found : (a e : ℕ) (u : Under) (r : Answer) (vs₁ : List ℕ) (ms₁ : Five) → p ≡ At a e u → inside file p
-        → outcome r vs₁ ms₁ ≡ dayInto (blockAt file a e (u .n)) vs ms → outcome r vs₁ ms₁ ≡ readFirst (located file p) vs ms
-    day-found a e u r vs₁ ms₁ h i q =
-        let w : (a ≤ e) × (e + 2 ≤ length file) × Heads file u = rw h at i in
-        rw h (rw (w .2 .size) at q)
+    pub day-found : (a e n : ℕ) (u : Under) (r : Answer) (vs₁ : List ℕ) (ms₁ : Five) → p ≡ At a e u → n ≡ intervalsIn (fields (part file (u .at) (u .end)))
+        → outcome r vs₁ ms₁ ≡ dayInto (blockAt file a e n) vs ms → outcome r vs₁ ms₁ ≡ readFirst (located file p) vs ms
+    day-found a e n u r vs₁ ms₁ h en q = rw h (rw en at q)
 
 -- ---- a file that was accepted
 

@@ -5,6 +5,7 @@ use day::cover::put_marks;
 use day::head::fill_top;
 use day::walk::behind;
 use day::walk::find_day;
+use day::walk::intervals_of;
 use format::DayRead;
 use format::Refusal;
 use lists::enough;
@@ -107,7 +108,7 @@ fn read_place(
             file,
             a,
             e,
-            under.n,
+            intervals_of(file, under.at, under.end),
             values,
             flags,
             methods,

@@ -10,14 +10,13 @@ use lib.Dec.{eqb, leb}
 use borrow.Author.Tests.{eqb-true, eqb-false, leb-true}
 use Rattle.ground.specs.Lists.{part}
 use Rattle.format.specs.Cut.{fields}
-use Rattle.format.specs.Records.{kindIn, intervalsIn}
+use Rattle.format.specs.Records.{kindIn}
 use Rattle.format.specs.Order.{Due}
 use Rattle.format.specs.Faults.{faultOf}
 use Rattle.format.specs.File.{after}
 use Rattle.format.specs.Day.{daysOf}
 use Rattle.format.specs.declared.Fault.the-variants.{Fine}
 use Rattle.passing.proofs.Fit.{fine-fit, head}
-use Rattle.passing.proofs.Steps.{after-200}
 use Rattle.passing.proofs.Counts.{isFirst, Counted, counted}
 use Rattle.lines.specs.Places.{LineEnd}
 use Rattle.lines.specs.declared.Found.{Found}
@@ -46,7 +45,7 @@ use Rattle.channel.proofs.Find as totals
 
 -- the record from at to e is passed, and s is the state behind it, v the 200
 module _ (file : List ℕ) (day channel at e : ℕ) (u v : Under) (st s : Due) (l : LineEnd file at e) (go : e ≡ length file → ⊥) (a : Ahead file day channel at u st)
-    (next : goes s ≡ nextOf st (part file at e)) (ev : v ≡ cond (isFirst (s .expect)) (record { at = at; end = e; n = s .n }) u) where
+    (next : goes s ≡ nextOf st (part file at e)) (ev : v ≡ cond (isFirst (s .expect)) (record { at = at; end = e }) u) where
   abbrev k : ℕ
   k = kindIn (fields (part file at e))
 
@@ -63,9 +62,9 @@ module _ (file : List ℕ) (day channel at e : ℕ) (u v : Under) (st s : Due) (
   channels-now : s .channels ≡ cond (eqb k 200) (st .channels + 1) (cond (eqb k 250) (st .channels + 1) (st .channels))
   channels-now = rw (both .1) (counts-now .channels)
 
-  under-now : v ≡ cond (eqb k 200) (record { at = at; end = e; n = s .n }) u
+  under-now : v ≡ cond (eqb k 200) (record { at = at; end = e }) u
   under-now =
-      ev ∙ ap (λ (b : Bool). cond b (record { at = at; end = e; n = s .n }) u)
+      ev ∙ ap (λ (b : Bool). cond b (record { at = at; end = e }) u)
       (ap (λ (x : Due). isFirst (x .expect)) (both .1) ∙ counts-now .first)
 
   pub heads-on : Heads file u → Heads file v
@@ -73,10 +72,8 @@ module _ (file : List ℕ) (day channel at e : ℕ) (u v : Under) (st s : Due) (
     where
       by : (b : Bool) → eqb k 200 ≡ b → Heads file v
       by true i =
-          let z : k ≡ 200 = eqb-true k 200 i in
-          let w : v ≡ record { at = at; end = e; n = s .n } = rw i at under-now in
-          let n : s .n ≡ intervalsIn (fields (part file at e)) = ap (λ (x : Due). x .n) (both .1 ∙ after-200 st (part file at e) z) in
-          rw w (record { order = l .order; within = l .within; size = n })
+          let w : v ≡ record { at = at; end = e } = rw i at under-now in
+          rw w (record { order = l .order; within = l .within })
       by false i = let w : v ≡ u = rw i at under-now in rw w h
 
   days-on : s .days ≤ day → drop day (daysOf file) ≡ drop (day - s .days) (daysAt file (e + 2) v)
@@ -92,7 +89,7 @@ module _ (file : List ℕ) (day channel at e : ℕ) (u v : Under) (st s : Due) (
           rw (q, y) (days.find-next file at e (day - st .days) u l (drop day (daysOf file)) (a .days (omega arith)) go refl z (λ y. omega arith))
       by false i true j =
           let w : s .days ≡ st .days = rw i at days-now in
-          let y : v ≡ record { at = at; end = e; n = s .n } = rw j at under-now in
+          let y : v ≡ record { at = at; end = e } = rw j at under-now in
           rw w (days.find-channel file at e (day - st .days) u l (drop day (daysOf file)) (a .days (omega arith)) go refl (eqb-false k 300 i) (eqb-true k 200 j) v
           (ap (λ (x : Under). x .at) y) (ap (λ (x : Under). x .end) y))
       by false i false j =
@@ -147,7 +144,7 @@ module _ (file : List ℕ) (day channel at : ℕ) (u : Under) (st : Due) (within
 
 pub day-first : (file : List ℕ) (day : ℕ) → DayAhead file day (firstDay day)
 unfolding daysOf
-day-first file day = record { within = omega arith; heads = no-heads file noUnder refl refl refl; is = refl }
+day-first file day = record { within = omega arith; heads = no-heads file noUnder refl refl; is = refl }
 
 pub channel-first : (file : List ℕ) (channel : ℕ) → ChannelAhead file channel (firstChannel channel)
 channel-first file channel = record { within = omega arith; is = refl }
@@ -158,13 +155,13 @@ module _ (file : List ℕ) (day channel at : ℕ) (u v : Under) (st : State) (r 
   next-is : goes (seen file s) ≡ nextOf (seen file st) (part file at (f .end))
   next-is = rw q at et
 
-  first-is : v ≡ cond (eqb (s .expect) 2) (record { at = at; end = f .end; n = s .n }) u → v ≡ cond (isFirst (seen file s .expect)) (record { at = at; end = f .end; n = s .n }) u
-  first-is ev = ev ∙ ap (λ (b : Bool). cond b (record { at = at; end = f .end; n = s .n }) u) (is-first (s .expect))
+  first-is : v ≡ cond (eqb (s .expect) 2) (record { at = at; end = f .end }) u → v ≡ cond (isFirst (seen file s .expect)) (record { at = at; end = f .end }) u
+  first-is ev = ev ∙ ap (λ (b : Bool). cond b (record { at = at; end = f .end }) u) (is-first (s .expect))
 
-  pub under-turn : Heads file u → v ≡ cond (eqb (s .expect) 2) (record { at = at; end = f .end; n = s .n }) u → Heads file v
+  pub under-turn : Heads file u → v ≡ cond (eqb (s .expect) 2) (record { at = at; end = f .end }) u → Heads file v
   under-turn g ev =
       heads-on file day channel at (f .end) u v (seen file st) (seen file s) (handed-looked file at r is p f h .ends) (handed-inside file at r is p f h) a next-is (first-is ev) g
 
-  pub ahead-turn : v ≡ cond (eqb (s .expect) 2) (record { at = at; end = f .end; n = s .n }) u → Ahead file day channel (f .end + 2) v (seen file s)
+  pub ahead-turn : v ≡ cond (eqb (s .expect) 2) (record { at = at; end = f .end }) u → Ahead file day channel (f .end + 2) v (seen file s)
   ahead-turn ev =
       ahead-on file day channel at (f .end) u v (seen file st) (seen file s) (handed-looked file at r is p f h .ends) (handed-inside file at r is p f h) a next-is (first-is ev)

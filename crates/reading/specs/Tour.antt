@@ -22,7 +22,7 @@ use Rattle.reading.specs.declared.tour.Tour.{Tour}
 -- ---- before the first record
 
 abbrev pub noUnder : Under
-noUnder = record { at = 0; end = 0; n = 0 }
+noUnder = record { at = 0; end = 0 }
 
 abbrev pub firstDay : ℕ → DayStart
 firstDay day = record { at = 0; left = day; under = noUnder }
@@ -55,7 +55,7 @@ pub record Touring (file : List ℕ) (day channel : ℕ) (st : State) (t : Tour)
 
 -- behind the record that went from the walk's place to e and left the state s: the last 200, and the walk at p
 abbrev pub underTo : Tour → ℕ → State → Under
-underTo t e s = cond (eqb (s .expect) 2) (record { at = t .at; end = e; n = s .n }) (t .under)
+underTo t e s = cond (eqb (s .expect) 2) (record { at = t .at; end = e }) (t .under)
 
 abbrev pub turnedTo : Tour → ℕ → ℕ → State → ℕ → ℕ → Tour
 turnedTo t e p s day channel =

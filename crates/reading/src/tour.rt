@@ -41,11 +41,7 @@ pub struct Noted {
 fn no_channel() -> Under
     ensures { λ r. ⌜ r ≡ noUnder ⌝ }
 {
-    Under {
-        at: 0,
-        end: 0,
-        n: 0,
-    }
+    Under { at: 0, end: 0 }
 }
 
 fn first_day(day: usize) -> DayStart
@@ -94,11 +90,11 @@ fn channel_from(before: ChannelStart, channel: usize, channels: usize, at: usize
 }
 
 // The last 200 behind a record from at to e: where a 300 is expected at once, the record was a 200.
-fn under_from(before: Under, at: usize, e: usize, expect: u64, n: usize) -> Under
-    ensures { λ r. ⌜ r ≡ cond (eqb expect 2) (record { at = at; end = e; n = n }) before ⌝ }
+fn under_from(before: Under, at: usize, e: usize, expect: u64) -> Under
+    ensures { λ r. ⌜ r ≡ cond (eqb expect 2) (record { at = at; end = e }) before ⌝ }
 {
     if expect == 2 {
-        return Under { at, end: e, n };
+        return Under { at, end: e };
     }
     before
 }
@@ -122,7 +118,7 @@ impl Tour {
         requires { ⌜ self .records < behind ⌝ }
         ensures { λ r. ⌜ r ≡ turnedTo self e behind s day channel ⌝ }
     {
-        let under = under_from(self.under, self.at, e, s.expect, s.n);
+        let under = under_from(self.under, self.at, e, s.expect);
         Tour {
             at: behind,
             records: self.records + 1,

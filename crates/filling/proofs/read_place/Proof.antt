@@ -1,4 +1,5 @@
 -- `filling::read_place` meets its contract. Assumes nothing.
+use Rattle.day.proofs.Find.{under-order, under-within}
 use Rattle.filling.proofs.Cases.{day-here, day-missing, day-found}
 use borrow.Author.Needs.{needs}
 use Rattle.filling.proofs.read_place.Statement.{statement}
@@ -12,6 +13,9 @@ bare-requires c κs = search needs
 
 enum-known-p : tie.Need-enum-known-p
 enum-known-p c = search needs
+
+intervals-of-requires : tie.Need-intervals-of-requires
+intervals-of-requires c κs = (search under-order, search under-within)
 
 read-at-requires : tie.Need-read-at-requires
 read-at-requires c κs = search day-here
@@ -47,6 +51,7 @@ read-place-spec =
     enum-told
     bare-requires
     enum-known-p
+    intervals-of-requires
     read-at-requires
     returns
     same-length

@@ -1,6 +1,6 @@
 -- `day::walk::find_day` meets its contract. Assumes nothing.
 use Prim.Native.Nat.{_+_, _≤_, _-_}
-use Rattle.day.proofs.Find.{finds, line-less}
+use Rattle.day.proofs.Find.{finds, line-less, heads-here}
 use Rattle.day.specs.Places.{Heads, daysAt}
 use Rattle.format.specs.Day.{daysOf}
 use Rattle.lines.proofs.Ends.{line-room}
@@ -44,14 +44,11 @@ loop-less c = search line-less
 loop-again : tie.Need-loop-again Inv-loop μ-loop
 loop-again c = (search line-room, search needs, search finds)
 
-under-at-requires : tie.Need-under-at-requires Inv-loop μ-loop
-under-at-requires c κs = search needs
-
 loop-less-2 : tie.Need-loop-less-2 Inv-loop μ-loop
 loop-less-2 c = search line-less
 
 loop-again-2 : tie.Need-loop-again-2 Inv-loop μ-loop
-loop-again-2 c = (search line-room, search needs, search finds)
+loop-again-2 c = (search line-room, search heads-here, search finds)
 
 loop-less-3 : tie.Need-loop-less-3 Inv-loop μ-loop
 loop-less-3 c = search line-less
@@ -74,7 +71,6 @@ find-day-spec =
     sub-left
     loop-less
     loop-again
-    under-at-requires
     loop-less-2
     loop-again-2
     loop-less-3
