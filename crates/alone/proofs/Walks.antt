@@ -32,8 +32,9 @@ use Rattle.walker.proofs.Handed.{handed-none, handed-looked, handed-inside, han
 use Rattle.order.specs.declared.State.{State}
 use Rattle.order.specs.declared.Step.{Step}
 use Rattle.order.specs.declared.Step.the-variants as step
-use Rattle.order.specs.State.{expectedAs, seen, between, nextOf, stepAs, Holds}
-use Rattle.order.proofs.Expected.{is-400, is-500}
+use Rattle.follows.specs.Tests.{expectedAs, between}
+use Rattle.order.specs.State.{seen, nextOf, stepAs, Holds}
+use Rattle.follows.proofs.Expected.{is-400, is-500}
 use Rattle.order.proofs.Next.{gone, stopped, kept-on}
 use Rattle.alone.specs.declared.BlockWalk.{BlockWalk}
 use Rattle.alone.specs.declared.BlockTurn.{BlockTurn}

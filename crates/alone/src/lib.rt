@@ -3,6 +3,8 @@
 use day::fields::skip;
 use day::head::head_at;
 use day::head::times_at;
+use follows::in_day;
+use follows::is_open;
 use format::BlockChecked;
 use format::Refusal;
 use lines::Found;
@@ -10,8 +12,6 @@ use lines::line_end;
 use number_rules::intervals;
 use order::State;
 use order::Step;
-use order::tests::in_day;
-use order::tests::is_open;
 use says::kind_at;
 use walker::Record;
 use walker::record_at;
@@ -27,7 +27,8 @@ ghost use Rattle.format.specs.Order.{inDay};
 ghost use Rattle.format.specs.Answers.{blockCheckedAs};
 ghost use Rattle.format.specs.File.{blockCheckOf};
 ghost use Rattle.lines.specs.Places.{LineEnd, Looked};
-ghost use Rattle.order.specs.State.{expectedAs, seen};
+ghost use Rattle.follows.specs.Tests.{expectedAs};
+ghost use Rattle.order.specs.State.{seen};
 ghost use Rattle.alone.specs.Walk.{refusedAt, wholeOf, isForeignHere, firstWalk, Walking, Turned};
 ghost use Rattle.alone.specs.declared.BlockTurn.the-variants.{End};
 

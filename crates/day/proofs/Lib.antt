@@ -1,4 +1,3 @@
 pub mod Values
-pub mod Marks
 pub mod Top
 pub mod Find

@@ -2,15 +2,11 @@
 use Prim.Native.Nat.{ℕ, zero, suc, _+_, _≤_}
 use mathlib.Core.Path.{_≡_}
 use mathlib.Core.List.{List, [], _∷_}
-use mathlib.Core.Bool.{Bool, true, cond}
-use lib.ListN.{length, drop, replicate}
-use lib.Dec.{eqb}
+use lib.ListN.{length, drop}
 use Rattle.ground.specs.Lists.{part}
-use Rattle.format.specs.Cut.{lines, fields, field}
+use Rattle.format.specs.Cut.{lines, field}
 use Rattle.format.specs.Records.{intervalsIn, millionths}
-use Rattle.format.specs.Day.{Row, rowAt, BlockRows, DayRows, runsFrom, daysFrom, daysOf, coverOf, tagAt}
-use Rattle.format.specs.declared.Tag.{Tag}
-use Rattle.passing.specs.Sound.{coversFrom}
+use Rattle.format.specs.Day.{Row, rowAt, BlockRows, DayRows, runsFrom, daysFrom, daysOf}
 use Rattle.day.specs.declared.DayStart.{DayStart}
 use Rattle.day.specs.declared.Under.{Under}
 use Rattle.day.specs.declared.Place.{Place}
@@ -24,18 +20,6 @@ valuesFrom (suc n) i fs = millionths (field i fs) ∷ valuesFrom n (suc i) fs
 -- the 400s at place p
 abbrev pub runsAt : List ℕ → ℕ → List Row
 runsAt file p = runsFrom p (lines (drop p file))
-
--- the tags of the intervals, by the 400s
-unfoldable pub runTags : List Row → List Tag
-runTags xs = coverOf (λ x. tagAt 400 x 3) xs
-
--- the tags of a day whose 300 has the tag t: on a V day those of its 400s, else t itself
-unfoldable pub tagsFor : Tag → ℕ → List Row → List Tag
-tagsFor t n xs = cond (eqb (t .flag) 86) (runTags xs) (replicate n t)
-
--- the 400s of such a day cover it, where they have to
-unfoldable pub isCovered : Tag → ℕ → List Row → Bool
-isCovered t n xs = cond (eqb (t .flag) 86) (coversFrom 0 n xs) true
 
 -- the block of n intervals whose 300 stands from a to e
 abbrev pub blockAt : List ℕ → ℕ → ℕ → ℕ → BlockRows

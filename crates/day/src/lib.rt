@@ -1,5 +1,4 @@
 // A day of an accepted file: where it stands, and what its records say, stored into lent lists.
-pub mod cover;
 pub mod fields;
 pub mod head;
 pub mod walk;

@@ -19,7 +19,8 @@ use Rattle.lists.specs.Lists.{stored, Roomy}
 use Rattle.passing.specs.Sound.{isSound}
 use Rattle.filling.specs.Fillable.{Fillable}
 use Rattle.passing.proofs.Sound.{sound-fields, sound-each, sound-values}
-use Rattle.day.specs.Places.{valuesFrom, runsAt, runTags, tagsFor, isCovered, blockAt}
+use Rattle.day.specs.Places.{valuesFrom, runsAt, blockAt}
+use Rattle.day_marks.specs.Marks.{runTags, tagsFor, isCovered}
 use Rattle.day.proofs.Values.{values-are}
 
 -- ---- stores from place 0 on leave the tail

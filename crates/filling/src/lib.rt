@@ -1,11 +1,11 @@
 // Reads the day of a number into six lent lists, where the file was accepted; and day after day.
 use day::DayStart;
 use day::Place;
-use day::cover::put_marks;
 use day::head::fill_top;
 use day::walk::behind;
 use day::walk::find_day;
 use day::walk::intervals_of;
+use day_marks::put_marks;
 use format::DayRead;
 use format::Refusal;
 use lists::enough;

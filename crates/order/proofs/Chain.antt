@@ -26,9 +26,10 @@ use Rattle.record.specs.declared.Walked.the-variants as walked
 use Rattle.record.proofs.Turns.{second-field}
 use Rattle.rows.proofs.Rows.{count-300}
 use Rattle.order.specs.declared.State.{State}
-use Rattle.order.specs.State.{expectedAs, seen, closed, Kept, cells, Here, After, Ready, Next, goes, stops, orStop, nextOf, lateOf, furtherOf, lastOf}
+use Rattle.follows.specs.Tests.{expectedAs}
+use Rattle.order.specs.State.{seen, closed, Kept, cells, Here, After, Ready, Next, goes, stops, orStop, nextOf, lateOf, furtherOf, lastOf}
 use Rattle.format.proofs.States.{no-kind}
-use Rattle.order.proofs.Expected.{is-400}
+use Rattle.follows.proofs.Expected.{is-400}
 use Rattle.order.proofs.Late.{late-none}
 
 -- ---- the places that a record's method asks for

@@ -24,9 +24,10 @@ use Rattle.runs.specs.Ran.{Ran}
 use Rattle.format.proofs.Numbers.{intervals-most}
 use Rattle.says.proofs.Fields.{says-of, tag-moves}
 use Rattle.order.specs.declared.State.{State}
-use Rattle.order.specs.State.{markOf, expectedAs, sharedAs, seen, noTag, closed, Kept, cells, Here, After, goes, stops, lateOf, lastOf, goesOn, alikeTo}
+use Rattle.follows.specs.Tests.{markOf, expectedAs, goesOn}
+use Rattle.order.specs.State.{sharedAs, seen, noTag, closed, Kept, cells, Here, After, goes, stops, lateOf, lastOf, alikeTo}
 use Rattle.order.proofs.Cases.{shared-on}
-use Rattle.order.proofs.Expected.{under-as}
+use Rattle.follows.proofs.Expected.{under-as}
 use Rattle.order.proofs.Marks.{flag-of, mark-of, agrees-of, tag-within}
 
 -- ---- the chain from 7 on

@@ -17,7 +17,8 @@ use Rattle.format.specs.Day.{rowAt, tagAt}
 use Rattle.format.specs.declared.Tag.{Tag}
 use Rattle.lines.proofs.Cuts.{field-lies}
 use Rattle.says.proofs.Fields.{tag-moves}
-use Rattle.order.specs.State.{markOf, cells, Here}
+use Rattle.follows.specs.Tests.{markOf}
+use Rattle.order.specs.State.{cells, Here}
 
 no-bytes : (s : List ℕ) → length s ≡ 0 → s ≡ []
 no-bytes [] h = refl

@@ -2,42 +2,27 @@
 use Prim.Native.Nat.{ℕ, _+_, _≤_}
 use mathlib.Core.Path.{_≡_}
 use mathlib.Core.List.{List}
-use mathlib.Core.Bool.{Bool, false, cond, _&&_}
+use mathlib.Core.Bool.{Bool, false, cond}
 use lib.ListN.{length}
-use lib.Dec.{leb, eqb}
+use lib.Dec.{leb}
 use Rattle.ground.specs.Lists.{part}
 use Rattle.format.specs.Quality.{Mark, noMethod}
 use Rattle.format.specs.Numbers.{noReason}
 use Rattle.format.specs.Cut.{fields}
-use Rattle.format.specs.Order.{Expected, the100, first200, first300, underDay, underVaried, behind500, first250, behind250, behind550, theEnd, Shared, noneYet, allHave, theyDiffer, shareWith, areAlike, Due, afterOf}
+use Rattle.format.specs.Order.{Shared, noneYet, allHave, theyDiffer, shareWith, areAlike, Due, afterOf}
 use Rattle.format.specs.File.{after}
 use Rattle.format.specs.Faults.{_▹_, size, f7, f8, f9, f11, f12, faultIn, faultOf}
 use Rattle.format.specs.declared.Fault.{Fault}
 use Rattle.format.specs.declared.Fault.the-variants.{Fine, Stop}
 use Rattle.format.specs.declared.Tag.{Tag}
 use Rattle.lines.specs.Places.{Starts}
+use Rattle.follows.specs.Tests.{markOf, expectedAs}
 use Rattle.record.specs.Walk.{Typed, Sound}
 use Rattle.order.specs.declared.State.{State}
 use Rattle.order.specs.declared.Step.{Step}
 use Rattle.order.specs.declared.Step.the-variants as step
 
 -- ---- the state
-
-abbrev pub markOf : List ℕ → Tag → Mark
-markOf file t = record { flag = t .flag; method = t .method; reason = t .reason; text = part file (t .start) (t .start + t .length) }
-
--- what the number in the code's state stands for
-unfoldable pub expectedAs : ℕ → Expected
-expectedAs x =
-    cond (eqb x 0) the100
-    (cond (eqb x 1) first200
-    (cond (eqb x 2) first300
-    (cond (eqb x 3) underDay
-    (cond (eqb x 4) underVaried
-    (cond (eqb x 5) behind500
-    (cond (eqb x 6) first250
-    (cond (eqb x 7) behind250
-    (cond (eqb x 8) behind550 theEnd))))))))
 
 -- what the day's 400s so far have in common, where the next has to start at this interval: the mark of the first, if they are alike
 abbrev pub sharedAs : List ℕ → ℕ → Tag → Bool → Shared
@@ -120,16 +105,6 @@ stepAs file (step.Stop x o i) = stops x o i
 abbrev pub Holds : List ℕ → ℕ → ℕ → Step → Type 0
 Holds file at e (step.On st) = Kept file (e + 1) st
 Holds file at e (step.Stop x o i) = at + o ≤ e
-
--- ---- single tests
-
--- x is one of the numbers from a to b
-abbrev pub between : ℕ → ℕ → ℕ → Bool
-between a b x = leb a x && leb x b
-
--- intervals from a to b go on with a cover whose next interval is given, in a day of n
-unfoldable pub goesOn : ℕ → ℕ → ℕ → ℕ → Bool
-goesOn next n a b = eqb a next && (leb a b && leb b n)
 
 -- with this mark, all of the day's 400s have one
 unfoldable pub alikeTo : Due → Mark → Bool

@@ -1,7 +1,6 @@
 // What may come next travels as one state, by value: each record's method takes it and hands it back, or names the record's first fault.
 pub mod records;
 pub mod steps;
-pub mod tests;
 
 use format::Tag;
 

@@ -2,9 +2,9 @@
 // every field of it meets its rule.
 use super::State;
 use super::Step;
-use super::tests::goes_on;
-use super::tests::on_day;
-use super::tests::same_mark;
+use follows::goes_on;
+use follows::on_day;
+use follows::same_mark;
 use format::Tag;
 use quality_rules::across;
 use says::date_at;
@@ -19,7 +19,8 @@ ghost use lib.ListN.{length};
 ghost use lib.Dec.{eqb};
 ghost use Rattle.format.specs.Order.{on100, on200};
 ghost use Rattle.runs.specs.Ran.{Ran};
-ghost use Rattle.order.specs.State.{markOf, seen, noTag, closed, Kept, cells, Here, After, lastOf, stepAs, Holds, alikeTo};
+ghost use Rattle.follows.specs.Tests.{markOf};
+ghost use Rattle.order.specs.State.{seen, noTag, closed, Kept, cells, Here, After, lastOf, stepAs, Holds, alikeTo};
 
 fn no_tag() -> Tag
     ensures { λ r. ⌜ r ≡ noTag ⌝ }

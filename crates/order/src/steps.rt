@@ -1,8 +1,8 @@
 // The step over one record: 3, 10, 4, 5 and 6 in document 01's order, then the record's own method.
 use super::State;
 use super::Step;
-use super::tests::is_open;
-use super::tests::may_come;
+use follows::is_open;
+use follows::may_come;
 use lines::Found;
 use record::Walked;
 use record::check_fields;
@@ -13,7 +13,6 @@ use says::kind_at;
 ghost use mathlib.Core.Path.{_≡_};
 ghost use mathlib.Core.Bool.{cond};
 ghost use Prim.Native.Nat.{_≤_};
-ghost use lib.ListN.{length};
 ghost use lib.Dec.{eqb};
 ghost use Rattle.ground.specs.Lists.{part};
 ghost use Rattle.format.specs.Faults.{size};

@@ -30,7 +30,7 @@ use Rattle.order.specs.declared.Step.{Step}
 use Rattle.order.specs.declared.Step.the-variants as step
 use Rattle.order.specs.State.{seen, goes, nextOf, stepAs}
 use Rattle.order.proofs.Next.{gone}
-use Rattle.order.proofs.Expected.{is-first}
+use Rattle.follows.proofs.Expected.{is-first}
 use Rattle.day.specs.Places.{Heads, daysAt, DayAhead}
 use Rattle.day.specs.declared.Under.{Under}
 use Rattle.day.proofs.Find.{no-heads}

@@ -2,8 +2,6 @@
 use Prim.Native.Nat.{ℕ, _+_, _-_, _≤_, _<_}
 use mathlib.Core.Path.{_≡_, refl, sym, ap, _∙_}
 use mathlib.Core.List.{List, [], _∷_}
-use mathlib.Core.Bool.{cond}
-use lib.Dec.{eqb, leb}
 use native.Mathlib.Omega.{arith}
 use native.Mathlib.Decide.{decLt}
 use lib.ListN.{length, drop, length-drop}
@@ -29,15 +27,13 @@ use Rattle.walker.proofs.Handed.{handed-none, handed-looked, handed-inside, han
 use Rattle.order.specs.declared.State.{State}
 use Rattle.order.specs.declared.Step.{Step}
 use Rattle.order.specs.declared.Step.the-variants as step
-use Rattle.order.specs.State.{expectedAs, seen, closed, Kept, Next, goes, stops, orStop, nextOf, stepAs, Holds}
+use Rattle.follows.specs.Tests.{expectedAs}
+use Rattle.order.specs.State.{seen, closed, Kept, Next, goes, stops, orStop, nextOf, stepAs, Holds}
 use Rattle.order.proofs.Next.{kept-on}
-use Rattle.order.proofs.Expected.{is-end, not-end}
-use Rattle.day.specs.declared.Under.{Under}
-use Rattle.day.specs.declared.DayStart.{DayStart}
+use Rattle.follows.proofs.Expected.{is-end, not-end}
 use Rattle.day.specs.Places.{DayAhead}
 use Rattle.day.proofs.Find.{no-heads}
 use Rattle.channel.specs.Places.{ChannelAhead}
-use Rattle.channel.specs.declared.ChannelStart.{ChannelStart}
 use Rattle.reading.specs.declared.tour.Tour.{Tour}
 use Rattle.reading.specs.declared.tour.Noted.{Noted}
 use Rattle.reading.specs.Tour.{noUnder, firstDay, firstChannel, firstTour, Touring, underTo, turnedTo}

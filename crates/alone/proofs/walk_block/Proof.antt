@@ -1,6 +1,5 @@
 -- `alone::walk_block` meets its contract. Assumes nothing.
-use Prim.Native.Nat.{_-_, _≤_}
-use mathlib.Core.Path.{_≡_}
+use Prim.Native.Nat.{_-_}
 use lib.ListN.{length}
 use borrow.Author.Needs.{needs}
 use Rattle.alone.specs.Walk.{Walking}

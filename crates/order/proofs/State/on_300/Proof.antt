@@ -1,5 +1,5 @@
 -- `order::State::on_300` meets its contract. Assumes nothing.
-use Rattle.order.proofs.Expected.{under-known}
+use Rattle.follows.proofs.Expected.{under-known}
 use Rattle.order.proofs.Late.{no-tag-within}
 use Rattle.order.proofs.Late.{on300-7, on300-8, on300-on}
 use borrow.Author.Needs.{needs}
