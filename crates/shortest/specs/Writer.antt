@@ -37,7 +37,8 @@ pub record NoLonger (d : Day) (b : List ℕ) : Type 0 where
   pub records : recordsOf d ≤ length (kindsOf (lines b))
   pub bytes : length (blockOf d) ≤ length b
 
--- the most bytes of a block that is written for a day of n intervals: 48 for its 300 without the values, 15 for each value with its comma, and 262 for each 400
+-- the most bytes of a block that is written for a day of n intervals: 48 for its 300 without the values, 15 for each value with its comma, and 262 for each 400;
+-- 79,824 for 288 intervals
 abbrev pub mostBytes : ℕ → ℕ
 mostBytes n = 48 + 15 * n + 262 * n
 
