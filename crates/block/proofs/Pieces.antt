@@ -21,6 +21,7 @@ use Rattle.format.specs.Day.{Five, Day}
 use Rattle.format.specs.Block.{fitValue, loadText, comma, crlf, markText, valuesText, coverText, runsIn, isUniform, topText, tailText, blockOf, recordsOf}
 use Rattle.format.specs.declared.DayHead.{DayHead}
 use Rattle.format.specs.declared.Tag.{Tag}
+use Rattle.format.proofs.ValueText.{values-most}
 use Rattle.format.proofs.CoverText.{runs-spell}
 use Rattle.format.proofs.Forms.{uniform-top, uniform-tail, varied-top, varied-tail}
 use Rattle.fit.specs.Tags.{tagFrom, markOf, marksFrom, fitTag, fitMarks}
@@ -28,7 +29,6 @@ use Rattle.covers.specs.Cover.{coverFrom, countFrom, Marked, Sized}
 use Rattle.value_texts.specs.Measure.{measureOf}
 use Rattle.value_texts.specs.declared.Measured.{Measured}
 use Rattle.value_texts.specs.declared.Measured.the-variants.{Unfit}
-use Rattle.value_texts.proofs.ValueList.{values-most}
 use Rattle.covers.proofs.Covers.{marked-fit}
 use Rattle.heads.specs.Heads.{frontText, timesText, fitHead}
 use Rattle.heads.proofs.Heads.{length-front, length-times}

@@ -22,7 +22,8 @@ use Rattle.format.specs.Answers.{accepted, refused}
 use Rattle.format.specs.File.{walkOf, checkOf}
 use Rattle.format.specs.Settled.{records, varied}
 
-abbrev thirteen : List ℕ
+-- a 100, a 250 and a 900
+abbrev pub thirteen : List ℕ
 thirteen =
     records
     ("100,NEM13,200401011200,MDP1,RETAILER"

@@ -8,8 +8,8 @@ use native.Mathlib.Nat.{pow-zero, sub-zero, suc-sub-suc}
 use native.Mathlib.Omega.{arith}
 use lib.ListN.{length, take, drop, length-append, length-drop}
 use lib.Seq.{length-take-le, take-append-seam, drop-append-add}
-use lib.Dec.{eqb}
-use borrow.Author.Tests.{eq-eqb, ne-eqb, eqb-true, eqb-false}
+use lib.Dec.{eqb, ltb}
+use borrow.Author.Tests.{eq-eqb, ne-eqb, eqb-true, eqb-false, ltb-true}
 use Rattle.ground.specs.Lists.{all, spanOf, other}
 use Rattle.ground.specs.Digits.{isDigit, decimalFrom, decimal, padded, dec}
 use Rattle.ground.proofs.Tests.{and-true, and-false}
@@ -17,7 +17,7 @@ use Rattle.ground.proofs.Cases.{same-or, by, both}
 use Rattle.ground.proofs.Spans.{span-le}
 use Rattle.ground.proofs.Digits.{digit-not, ten, length-padded, all-padded, padded-step, decimal-padded, all-dec, decimal-dec, dec-some, dec-most}
 use Rattle.format.specs.Numbers.{numberOf, times, amount, point, before, behind, decimals, fractionOf, valueOf}
-use Rattle.format.specs.Block.{untrail, fractionText, valueText}
+use Rattle.format.specs.Block.{fitValue, untrail, fractionText, valueText, valuesText}
 use Rattle.format.proofs.Numbers.{under-is, Got, got, fraction-under}
 use Rattle.format.proofs.NumberText.{digits-are, got-least}
 use Rattle.format.specs.declared.Number.{Number}
@@ -216,3 +216,11 @@ length-most v = same-or (v % 10 ^ 6) 0 (λ e. omega (arith, length-plain v e)) (
 
 pub value-most : (v : ℕ) → v < 10 ^ 13 → length (valueText v) ≤ 14
 value-most v h = omega (arith, length-most v, dec-most (v / 10 ^ 6) 7 (omega arith) (omega arith))
+
+-- fit values have at most 15 bytes each, with the comma
+pub values-most : (vs : List ℕ) → all fitValue vs ≡ true → length (valuesText vs) ≤ 15 * length vs
+unfolding valuesText fitValue
+values-most [] e = omega arith
+values-most (v ∷ vs) e =
+    let g = and-true (ltb v (10 ^ 13)) (all fitValue vs) e in
+    simp length-append (omega (arith, value-most v (ltb-true v (10 ^ 13) (g .0)), values-most vs (g .1)))

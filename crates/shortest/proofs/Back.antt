@@ -44,14 +44,14 @@ pub record Whole (d : Day) : Type 0 where
   pub some : 1 ≤ d .n
   pub few : d .n < 10 ^ 4
 
-record Parts (d : Day) : Type 0 where
-  date : isDate (d .date) ≡ true
-  update : isTime (d .update) ≡ true
-  load : (eqb (d .load) 0 || isTime (d .load)) ≡ true
-  values : all fitValue (d .values) ≡ true
-  marks : all fitMark (d .marks) ≡ true
+pub record Parts (d : Day) : Type 0 where
+  pub date : isDate (d .date) ≡ true
+  pub update : isTime (d .update) ≡ true
+  pub load : (eqb (d .load) 0 || isTime (d .load)) ≡ true
+  pub values : all fitValue (d .values) ≡ true
+  pub marks : all fitMark (d .marks) ≡ true
 
-parts : (d : Day) → fitDay d ≡ true → Parts d
+pub parts : (d : Day) → fitDay d ≡ true → Parts d
 unfolding fitDay
 parts d h =
     let a = and-true (isDate (d .date) && isTime (d .update) && (eqb (d .load) 0 || isTime (d .load)) && all fitValue (d .values)) (all fitMark (d .marks)) h in
@@ -173,14 +173,21 @@ module _ (d : Day) (w : Whole d) where
         day = day-by d w q s x c [] (λ p. rw (no, says d w q s x c .mark, mark-said 300 m f) (ap (replicate (d .n)) k ∙ sym g));
       }
 
+  -- its longest runs are a cover that can be written
+  pub runs-fitting : Fitting 0 (runsIn (d .marks))
+  runs-fitting =
+      let c : List (Run Mark) = runsIn (d .marks) in
+      let s : spell c ≡ d .marks = runs-spell (d .marks) in
+      let l : length (spell c) ≡ d .n = ap length s ∙ w .marks in
+      fitting 0 c (runs-are-proper (d .marks)) (subst (λ (ms : List Mark). all fitMark ms ≡ true) (sym s) (parts d (w .fit) .marks)) (omega (arith, w .few))
+
   varied-rows : isUniform (d .marks) ≡ false → Written d
   unfolding qualityOf standsAlone
   varied-rows u =
       let c : List (Run Mark) = runsIn (d .marks) in
       let s : spell c ≡ d .marks = runs-spell (d .marks) in
       let l : length (spell c) ≡ d .n = ap length s ∙ w .marks in
-      let f : Fitting 0 c =
-      fitting 0 c (runs-are-proper (d .marks)) (subst (λ (ms : List Mark). all fitMark ms ≡ true) (sym s) (parts d (w .fit) .marks)) (omega (arith, w .few)) in
+      let f : Fitting 0 c = runs-fitting in
       let v : Carried 300 (86 ∷ []) [] [] = v-carried in
       let t : Record = top d w (86 ∷ []) [] [] v in
       let yes-v : isVaried (d .n) t ≡ true = says d w (86 ∷ []) [] [] v .varied in

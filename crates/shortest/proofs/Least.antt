@@ -44,7 +44,7 @@ use Rattle.shortest.proofs.Steps.{fit-record, read-day}
 
 -- ---- how long the written block is
 
-length-block : (d : Day) → length (blockOf d) ≡ 31 + length (valuesText (d .values)) + length (topText (d .marks)) + length (loadText (d .load)) + length (tailText (d .marks))
+pub length-block : (d : Day) → length (blockOf d) ≡ 31 + length (valuesText (d .values)) + length (topText (d .marks)) + length (loadText (d .load)) + length (tailText (d .marks))
 unfolding blockOf
 length-block d = simp length-append (omega (arith, length-padded 8 (d .date), length-padded 14 (d .update)))
 
@@ -152,7 +152,7 @@ one-run (run (suc k) m ∷ []) ms s p l =
 one-run (run (suc k) m ∷ x ∷ c) ms s p l = absurd (let z : ⊥ = omega arith in z)
 
 -- a V and the longest runs are no shorter than what is written, whatever the marks
-runs-least : (ms : List Mark) → length (topText ms) + length (tailText ms) ≤ 3 + length (coverText 0 (runsIn ms))
+pub runs-least : (ms : List Mark) → length (topText ms) + length (tailText ms) ≤ 3 + length (coverText 0 (runsIn ms))
 unfolding isUniform
 runs-least ms =
     by (isUniform ms)

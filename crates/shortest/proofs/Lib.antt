@@ -6,11 +6,12 @@ pub mod Pass
 pub mod Texts
 pub mod Written
 pub mod Back
+pub mod Bounds
 pub mod Handed
 pub mod Tags
 pub mod Inside
 pub mod Said
 pub mod Refuses
-pub mod Theorems
 pub mod Place
+pub mod Theorems
 pub mod Alone

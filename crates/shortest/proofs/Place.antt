@@ -1,9 +1,11 @@
--- For each interval length there is a file's beginning behind which a day of it may stand. Assumes nothing.
-use Prim.Native.Nat.{ℕ}
+-- For each interval length there is a file's beginning, a short one, behind which a day of it may stand. Assumes nothing.
+use Prim.Native.Nat.{ℕ, _≤_}
 use mathlib.Core.Path.{_≡_, refl}
 use mathlib.Core.Logic.{_≢_}
 use mathlib.Core.List.{List, [], _∷_}
 use Prim.Native.String.{String}
+use native.Mathlib.Omega.{arith}
+use lib.ListN.{length}
 use lib.Dec.{eqb}
 use borrow.Author.Tests.{eqb-true}
 use Rattle.ground.specs.Lists.{spanOf, same}
@@ -35,10 +37,10 @@ channel m z =
     λ e₂. by (eqb m 30) (λ e. rw (eqb-true m 30 e) (rowAt 0 (bytes ",,,,,,,,30,"), refl))
     λ e₃. absurd (z (rw (e₁, e₂, e₃)))
 
-pub place : (m : ℕ) → intervalsOf m ≢ 0 → (before : List ℕ) × Leads before (due first300 12 (intervalsOf m) 0 1 0)
+pub place : (m : ℕ) → intervalsOf m ≢ 0 → (before : List ℕ) × (Leads before (due first300 12 (intervalsOf m) 0 1 0) × (length before ≤ 100))
 unfolding spanOf same isDigit isCapital isLetter isAlnum endSpace isText areAll isNmi isSuffix isStream isParty isConfiguration isRegister isSerial isUnit versionOf numberOf leadingZero smallOf isLength lengthOf intervalsOf isLeap daysInMonth isDay isDate isTime isMinute dateOf createdOf nextReadOf lines fields isKind indicatorOf kindIn rowOf countOf ruleOf obeys versionIn intervalsIn qualitiesOf afterOf isOpen faultIn brokenIn isNotLater isOff isAlike isElsewhere faultAt faultOf
 place m z =
-    by (eqb m 5) (λ e. rw (eqb-true m 5 e) (opening "200,NEM1234567,E1,1,E1,N1,METER1,kWh,5,", (refl, (refl, (refl, refl)))))
-    λ e₁. by (eqb m 15) (λ e. rw (eqb-true m 15 e) (opening "200,NEM1234567,E1,1,E1,N1,METER1,kWh,15,", (refl, (refl, (refl, refl)))))
-    λ e₂. by (eqb m 30) (λ e. rw (eqb-true m 30 e) (opening "200,NEM1234567,E1,1,E1,N1,METER1,kWh,30,", (refl, (refl, (refl, refl)))))
+    by (eqb m 5) (λ e. rw (eqb-true m 5 e) (opening "200,NEM1234567,E1,1,E1,N1,METER1,kWh,5,", ((refl, (refl, (refl, refl))), omega arith)))
+    λ e₁. by (eqb m 15) (λ e. rw (eqb-true m 15 e) (opening "200,NEM1234567,E1,1,E1,N1,METER1,kWh,15,", ((refl, (refl, (refl, refl))), omega arith)))
+    λ e₂. by (eqb m 30) (λ e. rw (eqb-true m 30 e) (opening "200,NEM1234567,E1,1,E1,N1,METER1,kWh,30,", ((refl, (refl, (refl, refl))), omega arith)))
     λ e₃. absurd (z (rw (e₁, e₂, e₃)))

@@ -73,16 +73,22 @@ module _ (g : Given) (room : ℕ) where
       (λ i. unsayable n (λ b h. true≢false (sym (fit-said (dayGiven g) b h) ∙ (let z : fitDay (dayGiven g) ≡ false = (rw i at f) in z))))
       (λ i. outside n i)
 
-  pub refuses-only : (x p k i : ℕ) → writeOf g room ≡ refused x p k i → Because g room x
+  -- a refusal has one of these reasons, and its place, record and field are 0
+  pub refuses-only : (x p k i : ℕ) → writeOf g room ≡ refused x p k i → Because g room x × (p ≡ 0) × (k ≡ 0) × (i ≡ 0)
   unfolding dayGiven intervalsGiven
   refuses-only x p k i e = why outcome e
     where
-      number : (a : Answer) (n : ℕ) → a ≡ refusal n → a ≡ refused x p k i → x ≡ n
-      number a n q r = cc
+      bare : (a : Answer) (n : ℕ) → a ≡ refusal n → a ≡ refused x p k i → (x ≡ n → Because g room x) → Because g room x × (p ≡ 0) × (k ≡ 0) × (i ≡ 0)
+      bare a n q r f =
+          let y : x ≡ n = cc in
+          let b : p ≡ 0 = cc in
+          let c : k ≡ 0 = cc in
+          let d : i ≡ 0 = cc in
+          (f y, b, c, d)
 
-      why : Outcome (writeOf g room) → writeOf g room ≡ refused x p k i → Because g room x
-      why (unknown q z) e = length-unknown (number (writeOf g room) 16 q e) z
-      why (short q z) e = list-short (number (writeOf g room) 15 q e) z
-      why (unfit q z) e = why-unfit z x (number (writeOf g room) 16 q e)
-      why (small q z l) e = no-room (number (writeOf g room) 15 q e) (λ b h. omega (arith, no-longer (dayGiven g) (intervals-some _ z) b h .bytes))
+      why : Outcome (writeOf g room) → writeOf g room ≡ refused x p k i → Because g room x × (p ≡ 0) × (k ≡ 0) × (i ≡ 0)
+      why (unknown q z) e = bare (writeOf g room) 16 q e (λ y. length-unknown y z)
+      why (short q z) e = bare (writeOf g room) 15 q e (λ y. list-short y z)
+      why (unfit q z) e = bare (writeOf g room) 16 q e (λ y. why-unfit z x y)
+      why (small q z l) e = bare (writeOf g room) 15 q e (λ y. no-room y (λ b h. omega (arith, no-longer (dayGiven g) (intervals-some _ z) b h .bytes)))
       why (written q w l) e = absurd (let z : true ≡ false = cc in true≢false z)

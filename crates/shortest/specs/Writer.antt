@@ -1,18 +1,20 @@
 -- What the theorems say of the block that is written: "Reads back", "Shortest", "Refuses only".
-use Prim.Native.Nat.{ℕ, _≤_, _<_}
+use Prim.Native.Nat.{ℕ, _+_, _*_, _≤_, _<_}
 use mathlib.Core.Path.{_≡_}
 use mathlib.Core.Bool.{Bool, true, false}
-use mathlib.Core.List.{List}
+use mathlib.Core.List.{List, [], _∷_, _++_}
 use lib.ListN.{length}
 use Rattle.ground.specs.Lists.{all, from}
 use Rattle.format.specs.Numbers.{isLength}
 use Rattle.format.specs.Cut.{lines}
 use Rattle.format.specs.Records.{intervalsIn}
 use Rattle.format.specs.Order.{Due}
+use Rattle.format.specs.Answers.{accepted}
+use Rattle.format.specs.File.{most, checkOf}
 use Rattle.format.specs.Day.{Row, Day}
 use Rattle.format.specs.Block.{Given, intervalsGiven, dayGiven, isInside, fitGiven, blockOf, recordsOf, enough}
 use Rattle.passing.specs.Passes.{kindsOf, Accepted}
-use Rattle.shortest.specs.Blocks.{Reads, Says}
+use Rattle.shortest.specs.Blocks.{Reads, Says, Read}
 
 -- each description lies inside the lent text
 abbrev pub inside : Given → Bool
@@ -34,6 +36,22 @@ pub record ReadsBack (d : Day) (st : Due) : Type 0 where
 pub record NoLonger (d : Day) (b : List ℕ) : Type 0 where
   pub records : recordsOf d ≤ length (kindsOf (lines b))
   pub bytes : length (blockOf d) ≤ length b
+
+-- the most bytes of a block that is written for a day of n intervals: 48 for its 300 without the values, 15 for each value with its comma, and 262 for each 400;
+-- 79,824 for 288 intervals
+abbrev pub mostBytes : ℕ → ℕ
+mostBytes n = 48 + 15 * n + 262 * n
+
+-- a file has in it the block that is written for the day d, is not too long, is accepted as NEM12 with one channel and one day, and a reading of its day 0 gives
+-- d back
+pub record AcceptedWith (d : Day) : Type 0 where
+  pub file : List ℕ
+  pub before : List ℕ
+  pub after : List ℕ
+  pub bytes : file ≡ before ++ blockOf d ++ after
+  pub short : length file ≤ most
+  pub check : checkOf file ≡ accepted (12 ∷ 1 ∷ 1 ∷ [])
+  pub reads : Read file 0 d
 
 -- why a day is refused with the number x
 pub data Because (g : Given) (room x : ℕ) : Type 0 where

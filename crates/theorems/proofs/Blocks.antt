@@ -1,11 +1,12 @@
--- A file of a 100, a 200, some bytes and a 900 is accepted with one day exactly when the bytes are a day block behind that 200. Assumes nothing.
+-- A file of a 100, a 200, some bytes and a 900 is accepted with one day exactly when the bytes are a day block behind that 200, and that is the day that a
+-- reading finds. Assumes nothing.
 use Prim.Native.Nat.{ℕ, _≤_}
-use mathlib.Core.Path.{_≡_, refl, sym, ap, _∙_}
+use mathlib.Core.Path.{_≡_, refl, sym, ap, _∙_, subst}
 use mathlib.Core.Logic.{_↔_}
 use mathlib.Core.Bool.{true, false≢true, _&&_}
-use mathlib.Core.List.{List, [], _∷_, _++_, append-assoc}
+use mathlib.Core.List.{List, [], _∷_, _++_, map, append-assoc}
 use native.Mathlib.Omega.{arith}
-use lib.ListN.{length, take, length-append}
+use lib.ListN.{length, take, length-append, length-map}
 use lib.Seq.{take-append-seam}
 use lib.Dec.{leb}
 use borrow.Author.Tests.{leb-true}
@@ -20,14 +21,16 @@ use Rattle.format.specs.Cut.{line, lines, fields}
 use Rattle.format.specs.Records.{isKind, indicatorOf, kindIn, rowOf, versionIn, intervalsIn}
 use Rattle.format.specs.Answers.{accepted}
 use Rattle.format.specs.File.{checkOf}
-use Rattle.format.specs.Day.{Day}
+use Rattle.format.specs.Day.{daysOf, Day}
 use Rattle.format.proofs.Cut.{bytesOf, bytes-lines}
+use Rattle.passing.proofs.Walk.{file-passes}
 use Rattle.theorems.specs.Grammar.{Each, Record, join, text, IsRecord, Block, IsBlock, Channel, IsChannel, Content, nem12, nem13, IsContent, contentThen, channelsIn, daysIn, InFormat}
-use Rattle.theorems.specs.Days.{rowsOf, dayIn, ReadsAs, around}
+use Rattle.theorems.specs.Days.{rowsOf, dayIn, meant, meanings, ReadsAs, around}
 use Rattle.theorems.proofs.Bytes.{lines-row}
 use Rattle.theorems.proofs.Rows.{Fields, record-fields}
 use Rattle.theorems.proofs.Takes.{fields-of}
 use Rattle.theorems.proofs.Format.{format}
+use Rattle.theorems.proofs.Meaning.{meaning, day-count}
 use Rattle.theorems.proofs.OneDay.{text-append, block-text}
 
 -- ---- a 900 has one text
@@ -91,17 +94,42 @@ cancel x y z e =
     let l : length x ≡ length y = omega (arith, length-append x z, length-append y z) in
     sym (take-append-seam x z) ∙ ap (take (length x)) e ∙ rw l (take-append-seam y z)
 
+-- ---- a file with one day
+
+-- has one channel, and is a NEM12 file
+counted : (v : ℕ) (x : Content) → IsContent v x → daysIn x ≡ 1 → (v ≡ 12) × (channelsIn x ≡ 1)
+counted v (nem12 []) h e = absurd (let z : ⊥ = omega arith in z)
+counted v (nem12 (c ∷ [])) h e = (h .0, refl)
+counted v (nem12 (c ∷ k ∷ cs)) h e = absurd (let z : ⊥ = omega (arith, h .2 .0 .some, h .2 .1 .0 .some) in z)
+counted v (nem13 rs) h e = absurd (let z : ⊥ = omega arith in z)
+
+one-channel : (file xs : List ℕ) → checkOf file ≡ accepted xs → length (daysOf file) ≡ 1 → InFormat file 12 1 1
+one-channel file xs e n =
+    let p = file-passes file xs e in
+    let v : ℕ = p .end .version in
+    let c : ℕ = p .end .channels in
+    let d : ℕ = p .end .days in
+    let a : checkOf file ≡ accepted (v ∷ c ∷ d ∷ []) = e ∙ ap accepted (p .answer) in
+    let h = format file v c d .0 a in
+    let i : d ≡ 1 = sym (day-count file v c d h) ∙ n in
+    let w = counted v (h .content) (h .is-content) (sym (h .days) ∙ i) in
+    let j : c ≡ 1 = h .channels ∙ w .1 in
+    let b : accepted (v ∷ c ∷ d ∷ []) ≡ accepted (12 ∷ 1 ∷ 1 ∷ []) = rw (w .0, j, i) in
+    format file 12 1 1 .0 (a ∙ b)
+
 -- ---- the file around a block
 
-module _ (header head last : Record) (h₁ : IsRecord 100 0 header) (v : versionIn header ≡ 12) (h₂ : IsRecord 200 0 head) (h₉ : IsRecord 900 0 last) (s : List ℕ) where
-  block-in : InFormat (around header head s last) 12 1 1 → (day : Day) × ReadsAs head s day
-  block-in g = go (g .content) (g .is-content) (g .channels) (g .days) (g .bytes)
+module _ (header head last : Record) (h₁ : IsRecord 100 0 header) (h₂ : IsRecord 200 0 head) (h₉ : IsRecord 900 0 last) (s : List ℕ) where
+  -- the bytes are a block behind the 200, and the day that it is, is the one that a reading finds
+  block-in : InFormat (around header head s last) 12 1 1 → (day : Day) × (ReadsAs head s day × (map meant (daysOf (around header head s last)) ≡ day ∷ []))
+  block-in g = go (g .content) (g .is-content) (g .channels) (g .days) (g .bytes) (meaning (around header head s last) 12 1 1 g)
     where
       one : (c : Channel) (bs : List Block) → IsChannel c → c .blocks ≡ bs → length bs ≡ 1 → around header head s last ≡ text (g .header ∷ contentThen (nem12 (c ∷ [])) (g .last ∷ []))
-          → (day : Day) × ReadsAs head s day
-      one c [] h e l t = absurd (let z : ⊥ = omega arith in z)
-      one c (b ∷ b′ ∷ bs) h e l t = absurd (let z : ⊥ = omega arith in z)
-      one c (b ∷ []) h e l t =
+          → map meant (daysOf (around header head s last)) ≡ meanings (nem12 (c ∷ []))
+          → (day : Day) × (ReadsAs head s day × (map meant (daysOf (around header head s last)) ≡ day ∷ []))
+      one c [] h e l t m = absurd (let z : ⊥ = omega arith in z)
+      one c (b ∷ b′ ∷ bs) h e l t m = absurd (let z : ⊥ = omega arith in z)
+      one c (b ∷ []) h e l t m =
           let rows : List Record = b .top ∷ (b .runs ++ (b .extra ++ g .last ∷ [])) in
           let t₁ : around header head s last ≡ text (g .header ∷ c .head ∷ []) ++ text rows = (rw e at t) ∙ text-append (g .header ∷ c .head ∷ []) rows in
           let w = behind-two header head (g .header) (c .head) (s ++ text (last ∷ [])) (text rows)
@@ -109,36 +137,54 @@ module _ (header head last : Record) (h₁ : IsRecord 100 0 header) (v : version
           let same : g .last ≡ last = last-text (g .last) (g .is-last) ∙ sym (last-text last h₉) in
           let u : s ++ text (last ∷ []) ≡ text (rowsOf b) ++ text (last ∷ []) = w .1 ∙ block-text b (g .last ∷ []) ∙ rw same in
           let k : Each (IsBlock (intervalsIn (c .head))) (b ∷ []) = rw e at (h .blocks) in
-          (dayIn (intervalsIn head) b, record { is-head = h₂; block = b; good = rw (w .0) (k .0); bytes = cancel s (text (rowsOf b)) (text (last ∷ [])) u; is = refl })
+          let f : map meant (daysOf (around header head s last)) ≡ dayIn (intervalsIn (c .head)) b ∷ [] = rw e at m in (
+            dayIn (intervalsIn head) b,
+            (
+              record { is-head = h₂; block = b; good = rw (w .0) (k .0); bytes = cancel s (text (rowsOf b)) (text (last ∷ [])) u; is = refl },
+              f ∙ ap (λ (r : Record). dayIn (intervalsIn r) b ∷ []) (sym (w .0)),
+            ),
+          )
 
-      go : (x : Content) → IsContent 12 x → 1 ≡ channelsIn x → 1 ≡ daysIn x → around header head s last ≡ text (g .header ∷ contentThen x (g .last ∷ [])) → (day : Day) × ReadsAs head s day
-      go (nem12 []) h c d t = absurd (let z : ⊥ = omega arith in z)
-      go (nem12 (x ∷ [])) h c d t = one x (x .blocks) (h .2 .0) refl (omega arith) t
-      go (nem12 (x ∷ y ∷ cs)) h c d t = absurd (let z : ⊥ = omega arith in z)
-      go (nem13 rs) h c d t = absurd (let z : ⊥ = omega arith in z)
+      go : (x : Content) → IsContent 12 x → 1 ≡ channelsIn x → 1 ≡ daysIn x → around header head s last ≡ text (g .header ∷ contentThen x (g .last ∷ []))
+          → map meant (daysOf (around header head s last)) ≡ meanings x
+          → (day : Day) × (ReadsAs head s day × (map meant (daysOf (around header head s last)) ≡ day ∷ []))
+      go (nem12 []) h c d t m = absurd (let z : ⊥ = omega arith in z)
+      go (nem12 (x ∷ [])) h c d t m = one x (x .blocks) (h .2 .0) refl (omega arith) t m
+      go (nem12 (x ∷ y ∷ cs)) h c d t m = absurd (let z : ⊥ = omega arith in z)
+      go (nem13 rs) h c d t m = absurd (let z : ⊥ = omega arith in z)
 
-  block-out : length (around header head s last) ≤ 1048576 → (day : Day) → ReadsAs head s day → InFormat (around header head s last) 12 1 1
-  block-out l day r =
-      let b = r .block in
-      let rows : List Record = b .top ∷ (b .runs ++ (b .extra ++ last ∷ [])) in
-      record {
-        header = header;
-        content = nem12 (record { head = head; blocks = b ∷ [] } ∷ []);
-        last = last;
-        is-header = h₁;
-        is-content = (refl, omega arith, (record { head = h₂; some = omega arith; blocks = (r .good, tt); rising = tt }, tt));
-        is-last = h₉;
-        bytes = ap (λ (x : List ℕ). text (header ∷ head ∷ []) ++ (x ++ text (last ∷ []))) (r .bytes)
-            ∙ rw (← block-text b (last ∷ [])) (sym (text-append (header ∷ head ∷ []) rows));
-        short = l;
-        version = sym v;
-        channels = refl;
-        days = refl;
-      }
+  -- where it is accepted, and one day is found in it, the bytes are, by the grammar, that day
+  pub block-found : (xs : List ℕ) → checkOf (around header head s last) ≡ accepted xs → (day : Day) → map meant (daysOf (around header head s last)) ≡ day ∷ [] → ReadsAs head s day
+  block-found xs e day f =
+      let n : length (daysOf (around header head s last)) ≡ 1 = sym (length-map (daysOf (around header head s last)) meant) ∙ ap length f in
+      let w = block-in (one-channel (around header head s last) xs e n) in
+      let l : w .0 ∷ [] ≡ day ∷ [] = sym (w .1 .1) ∙ f in
+      let d : w .0 ≡ day = cc in
+      subst (ReadsAs head s) d (w .1 .0)
 
-  -- accepted as a block behind a 200 exactly when the bytes are, by the grammar, a day
-  pub block-accepted : (checkOf (around header head s last) ≡ accepted (12 ∷ 1 ∷ 1 ∷ [])) ↔ ((length (around header head s last) ≤ 1048576) × ((day : Day) × ReadsAs head s day))
-  block-accepted = (
-    λ e. (let g = format (around header head s last) 12 1 1 .0 e in (g .short, block-in g)),
-    λ w. format (around header head s last) 12 1 1 .1 (block-out (w .0) (w .1 .0) (w .1 .1)),
-  )
+  module _ (v : versionIn header ≡ 12) where
+    block-out : length (around header head s last) ≤ 1048576 → (day : Day) → ReadsAs head s day → InFormat (around header head s last) 12 1 1
+    block-out l day r =
+        let b = r .block in
+        let rows : List Record = b .top ∷ (b .runs ++ (b .extra ++ last ∷ [])) in
+        record {
+          header = header;
+          content = nem12 (record { head = head; blocks = b ∷ [] } ∷ []);
+          last = last;
+          is-header = h₁;
+          is-content = (refl, omega arith, (record { head = h₂; some = omega arith; blocks = (r .good, tt); rising = tt }, tt));
+          is-last = h₉;
+          bytes = ap (λ (x : List ℕ). text (header ∷ head ∷ []) ++ (x ++ text (last ∷ []))) (r .bytes)
+              ∙ rw (← block-text b (last ∷ [])) (sym (text-append (header ∷ head ∷ []) rows));
+          short = l;
+          version = sym v;
+          channels = refl;
+          days = refl;
+        }
+
+    -- accepted as a block behind a 200 exactly when the bytes are, by the grammar, a day
+    pub block-accepted : (checkOf (around header head s last) ≡ accepted (12 ∷ 1 ∷ 1 ∷ [])) ↔ ((length (around header head s last) ≤ 1048576) × ((day : Day) × ReadsAs head s day))
+    block-accepted = (
+      λ e. (let g = format (around header head s last) 12 1 1 .0 e in let w = block-in g in (g .short, (w .0, w .1 .0))),
+      λ w. format (around header head s last) 12 1 1 .1 (block-out (w .0) (w .1 .0) (w .1 .1)),
+    )

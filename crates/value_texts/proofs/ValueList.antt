@@ -5,13 +5,11 @@ use mathlib.Core.Bool.{true, false}
 use mathlib.Core.List.{List, [], _∷_, _++_}
 use native.Mathlib.Omega.{arith}
 use lib.ListN.{length, drop, getD, length-append, drop-of-length-le}
-use lib.Dec.{ltb}
 use mir.Val.{Fits}
 use mir.Syntax.{w64}
-use borrow.Author.Tests.{lt-ltb, le-ltb, ltb-true}
+use borrow.Author.Tests.{lt-ltb, le-ltb}
 use Rattle.ground.specs.Lists.{all}
 use Rattle.ground.specs.Room.{Put}
-use Rattle.ground.proofs.Tests.{and-true}
 use Rattle.ground.proofs.Lists.{rest}
 use Rattle.ground.proofs.Room.{put-then, put-kept, Left, left-start, left-step, left-end, left-kept}
 use Rattle.format.specs.Block.{fitValue, valueText, comma, valuesText}
@@ -72,14 +70,6 @@ module _ (vs : List ℕ) where
     counted-all h =
         let e : all fitValue vs ≡ true = sym (rw (drop-of-length-le vs h) at (r .fits)) in
         rw e (ap Bytes (omega (arith, r .sum, ap length (values-end vs i h))))
-
--- fit values have at most 15 bytes each
-pub values-most : (vs : List ℕ) → all fitValue vs ≡ true → length (valuesText vs) ≤ 15 * length vs
-unfolding valuesText fitValue
-values-most [] e = omega arith
-values-most (v ∷ vs) e =
-    let g = and-true (ltb v (10 ^ 13)) (all fitValue vs) e in
-    simp length-append (omega (arith, value-most v (ltb-true v (10 ^ 13) (g .0)), values-most vs (g .1)))
 
 -- ---- writing: what is left behind the first i values
 
