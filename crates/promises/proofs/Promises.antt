@@ -9,7 +9,7 @@ use borrow.Fn.Kinds.{Dens, resT, endedOf}
 use denote.Triple.Clauses.{AtExit}
 use denote.Ref.{now}
 use lib.ListN.{length}
-use Rattle.format.specs.Answers.{Answer, accepted, refused, refusal, checkedAs, dayReadAs, totalledAs, writtenAs}
+use Rattle.format.specs.Answers.{accepted, refused, refusal, checkedAs, dayReadAs, totalledAs, writtenAs}
 use Rattle.format.specs.Day.{Five, five, Outcome, outcome, readOf}
 use Rattle.format.specs.Block.{Given, given, writeOf, roomOf}
 use Rattle.theorems.specs.Grammar.{InFormat}
@@ -54,83 +54,76 @@ module _ (κs : Lfts 1) (a : Dens κs total-kinds.ps) (x : resT total-kinds.r κ
 
 -- ---- `read_day`
 
-module _ (κs : Lfts 7) (a : Dens κs read-kinds.ps) (x : resT read-kinds.r κs .Denot) (e : AtExit (endedOf 7 read-kinds.ps read-kinds.r) κs) (p : read-reads.Learnt κs a x e) where
-  -- the file, the day's number and the lists as they were lent
-  abbrev pub theFile : List ℕ
-  theFile = now (a .0)
+module _ (κs : Lfts 7) (a : Dens κs read-kinds.ps) where
+  -- what it was called with
+  abbrev pub fileLent : List ℕ
+  fileLent = now (a .0)
 
-  abbrev pub number : ℕ
-  number = a .1 .0
+  abbrev pub dayAsked : ℕ
+  dayAsked = a .1 .0
 
-  abbrev pub lent : Five
-  lent = five (now (a .1 .1 .1 .0)) (now (a .1 .1 .1 .1 .0)) (now (a .1 .1 .1 .1 .1 .0)) (now (a .1 .1 .1 .1 .1 .1 .0)) (now (a .1 .1 .1 .1 .1 .1 .1 .0))
+  abbrev pub valuesLent : List ℕ
+  valuesLent = now (a .1 .1 .0)
 
-  -- what was answered, and the lists as they were left
-  abbrev pub leftMarks : Five
-  leftMarks = five (now (e .1 .1 .1 .0)) (now (e .1 .1 .1 .1 .0)) (now (e .1 .1 .1 .1 .1 .0)) (now (e .1 .1 .1 .1 .1 .1 .0)) (now (e .1 .1 .1 .1 .1 .1 .1 .0))
+  abbrev pub marksLent : Five
+  marksLent = five (now (a .1 .1 .1 .0)) (now (a .1 .1 .1 .1 .0)) (now (a .1 .1 .1 .1 .1 .0)) (now (a .1 .1 .1 .1 .1 .1 .0)) (now (a .1 .1 .1 .1 .1 .1 .1 .0))
 
-  abbrev pub done : Outcome
-  done = outcome (dayReadAs x) (now (e .1 .1 .0)) leftMarks
+  module _ (x : resT read-kinds.r κs .Denot) (e : AtExit (endedOf 7 read-kinds.ps read-kinds.r) κs) where
+    -- what it answered and left
+    abbrev pub left : Outcome
+    left =
+        outcome (dayReadAs x) (now (e .1 .1 .0))
+        (five (now (e .1 .1 .1 .0)) (now (e .1 .1 .1 .1 .0)) (now (e .1 .1 .1 .1 .1 .0)) (now (e .1 .1 .1 .1 .1 .1 .0)) (now (e .1 .1 .1 .1 .1 .1 .1 .0)))
 
-  -- a refusal leaves each of the six lists as it was
-  pub read-untouched : (n q k i : ℕ) → dayReadAs x ≡ refused n q k i
-      → (now (e .1 .1 .0) ≡ now (a .1 .1 .0)) × (now (e .1 .1 .1 .0) ≡ now (a .1 .1 .1 .0)) × (now (e .1 .1 .1 .1 .0) ≡ now (a .1 .1 .1 .1 .0))
-      × (now (e .1 .1 .1 .1 .1 .0) ≡ now (a .1 .1 .1 .1 .1 .0)) × (now (e .1 .1 .1 .1 .1 .1 .0) ≡ now (a .1 .1 .1 .1 .1 .1 .0))
-      × (now (e .1 .1 .1 .1 .1 .1 .1 .0) ≡ now (a .1 .1 .1 .1 .1 .1 .1 .0))
-  read-untouched n q k i r =
-      let o : done ≡ outcome (refused n q k i) (now (a .1 .1 .0)) lent =
-      p ∙ read-keeps theFile number (now (a .1 .1 .0)) lent n q k i (ap (λ (u : Outcome). u .answer) (sym p) ∙ r) in (
-        ap (λ (u : Outcome). u .values) o,
-        ap (λ (u : Outcome). u .marks .flags) o,
-        ap (λ (u : Outcome). u .marks .methods) o,
-        ap (λ (u : Outcome). u .marks .reasons) o,
-        ap (λ (u : Outcome). u .marks .starts) o,
-        ap (λ (u : Outcome). u .marks .lengths) o,
-      )
+    module _ (p : read-reads.Learnt κs a x e) where
+      -- a refusal leaves each of the six lists as it was
+      pub read-untouched : (n q k i : ℕ) → left .answer ≡ refused n q k i → (left .values ≡ valuesLent) × (left .marks ≡ marksLent)
+      read-untouched n q k i r =
+          let o : left ≡ outcome (refused n q k i) valuesLent marksLent =
+          p ∙ read-keeps fileLent dayAsked valuesLent marksLent n q k i (ap (λ (u : Outcome). u .answer) (sym p) ∙ r) in
+          (ap (λ (u : Outcome). u .values) o, ap (λ (u : Outcome). u .marks) o)
 
-  module _ (v c d : ℕ) (h : InFormat theFile v c d) where
-    -- what it answers and leaves is the grammar's day
-    pub read-exact : number < d → ReadExactly theFile number (h .content) (now (a .1 .1 .0)) lent done
-    read-exact l = subst (ReadExactly theFile number (h .content) (now (a .1 .1 .0)) lent) (sym p) (day-exact theFile v c d h number l (now (a .1 .1 .0)) lent)
+      module _ (v c d : ℕ) (h : InFormat fileLent v c d) where
+        -- what it answers and leaves is the grammar's day
+        pub read-exact : dayAsked < d → ReadExactly fileLent dayAsked (h .content) valuesLent marksLent left
+        read-exact l = subst (ReadExactly fileLent dayAsked (h .content) valuesLent marksLent) (sym p) (day-exact fileLent v c d h dayAsked l valuesLent marksLent)
 
-    -- and there is no such day exactly from the number of days on
-    pub read-none : (dayReadAs x ≡ refusal 14) ↔ (d ≤ number)
-    read-none = (
-      λ q. day-none-only theFile v c d h number (now (a .1 .1 .0)) lent (ap (λ (u : Outcome). u .answer) (sym p) ∙ q),
-      λ l. ap (λ (u : Outcome). u .answer) (p ∙ day-none theFile v c d h number l (now (a .1 .1 .0)) lent),
-    )
+        -- and there is no such day exactly from the number of days on
+        pub read-none : (left .answer ≡ refusal 14) ↔ (d ≤ dayAsked)
+        read-none = (
+          λ q. day-none-only fileLent v c d h dayAsked valuesLent marksLent (ap (λ (u : Outcome). u .answer) (sym p) ∙ q),
+          λ l. ap (λ (u : Outcome). u .answer) (p ∙ day-none fileLent v c d h dayAsked l valuesLent marksLent),
+        )
 
 -- ---- `write_day`
 
 module _ (κs : Lfts 8) (b : Dens κs write-kinds.ps) (y : resT write-kinds.r κs .Denot) (f : AtExit (endedOf 8 write-kinds.ps write-kinds.r) κs) (w : write-reads.Learnt κs b y f) where
-  -- what was handed in, and the room as it was lent and as it was left
+  -- what it was called with, and what it left
   abbrev pub handedIn : Given
   handedIn =
       given (b .0) (now (b .1 .0)) (now (b .1 .1 .0)) (now (b .1 .1 .1 .0)) (now (b .1 .1 .1 .1 .0)) (now (b .1 .1 .1 .1 .1 .0)) (now (b .1 .1 .1 .1 .1 .1 .0))
       (now (b .1 .1 .1 .1 .1 .1 .1 .0))
 
-  abbrev pub room : List ℕ
-  room = now (b .1 .1 .1 .1 .1 .1 .1 .1 .0)
+  abbrev pub roomLent : List ℕ
+  roomLent = now (b .1 .1 .1 .1 .1 .1 .1 .1 .0)
 
   abbrev pub roomLeft : List ℕ
   roomLeft = now (f .1 .1 .1 .1 .1 .1 .1 .1 .0)
 
   -- a refusal leaves the room as it was
-  pub write-untouched : (n q k i : ℕ) → writtenAs y ≡ refused n q k i → roomLeft ≡ room
+  pub write-untouched : (n q k i : ℕ) → writtenAs y ≡ refused n q k i → roomLeft ≡ roomLent
   unfolding roomOf
   write-untouched n q k i r = w .1 ∙ rw (sym (w .0) ∙ r)
 
   -- what `read_day` answered and left of a day of a file, handed in with the file as its text, is written as that day
-  pub rewrite : (μs : Lfts 7) (a : Dens μs read-kinds.ps) (x : resT read-kinds.r μs .Denot) (e : AtExit (endedOf 7 read-kinds.ps read-kinds.r) μs) (p : read-reads.Learnt μs a x e)
-      (v c d : ℕ) (h : InFormat (now (a .0)) v c d) (date n update load : ℕ)
-      → dayReadAs x ≡ accepted (date ∷ n ∷ update ∷ load ∷ [])
-      → handedIn ≡ handedOn (now (a .0)) date n update load (now (e .1 .1 .0)) (leftMarks μs a x e p)
-      → WrittenAgain (a .1 .0) (h .content) room (writtenAs y) roomLeft
+  pub rewrite : (μs : Lfts 7) (a : Dens μs read-kinds.ps) (x : resT read-kinds.r μs .Denot) (e : AtExit (endedOf 7 read-kinds.ps read-kinds.r) μs) → read-reads.Learnt μs a x e
+      → (v c d : ℕ) (h : InFormat (fileLent μs a) v c d) (date n update load : ℕ) → left μs a x e .answer ≡ accepted (date ∷ n ∷ update ∷ load ∷ [])
+      → handedIn ≡ handedOn (fileLent μs a) date n update load (left μs a x e .values) (left μs a x e .marks)
+      → WrittenAgain (dayAsked μs a) (h .content) roomLent (writtenAs y) roomLeft
   rewrite μs a x e p v c d h date n update load r g =
-      let o : Outcome = readOf (now (a .0)) (a .1 .0) (now (a .1 .1 .0)) (lent μs a x e p) in
-      let t : handedIn ≡ handedOn (now (a .0)) date n update load (o .values) (o .marks) = g ∙ ap (λ (u : Outcome). handedOn (now (a .0)) date n update load (u .values) (u .marks)) p in
-      let z = again (now (a .0)) v c d h (a .1 .0) (now (a .1 .1 .0)) (lent μs a x e p) date n update load (ap (λ (u : Outcome). u .answer) (sym p) ∙ r) room in
-      let u : WrittenAgain (a .1 .0) (h .content) room (writeOf handedIn (length room)) (roomOf handedIn room) =
-      subst (λ (q : Given). WrittenAgain (a .1 .0) (h .content) room (writeOf q (length room)) (roomOf q room)) (sym t) z in
-      subst (λ (q : List ℕ). WrittenAgain (a .1 .0) (h .content) room (writtenAs y) q) (sym (w .1))
-      (subst (λ (q : Answer). WrittenAgain (a .1 .0) (h .content) room q (roomOf handedIn room)) (sym (w .0)) u)
+      let o : Outcome = readOf (fileLent μs a) (dayAsked μs a) (valuesLent μs a) (marksLent μs a) in
+      let t : handedIn ≡ handedOn (fileLent μs a) date n update load (o .values) (o .marks) =
+      g ∙ ap (λ (u : Outcome). handedOn (fileLent μs a) date n update load (u .values) (u .marks)) p in
+      let z = again (fileLent μs a) v c d h (dayAsked μs a) (valuesLent μs a) (marksLent μs a) date n update load (ap (λ (u : Outcome). u .answer) (sym p) ∙ r) roomLent in
+      let s = subst (λ (q : Given). WrittenAgain (dayAsked μs a) (h .content) roomLent (writeOf q (length roomLent)) (roomOf q roomLent)) (sym t) z in
+      rw (w .0, w .1) s
