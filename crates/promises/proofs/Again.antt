@@ -207,16 +207,16 @@ module _ (file : List ℕ) (v c d : ℕ) (h : InFormat file v c d) (k : ℕ) (vs
         (λ r. exact .reads r)
         (λ r. absurd (let o : left .answer ≡ refusal 15 = ap (λ (x : Outcome). x .answer) (exact .short r) in let z : true ≡ false = cc in true≢false z))
 
-    abbrev whole : Given
-    whole = handed file (exact .day) (stands .head) (stands .block) (stands .reads) (exact .tags) (exact .marks) (exact .points) vs ms
+    abbrev asRead : Given
+    asRead = handed file (exact .day) (stands .head) (stands .block) (stands .reads) (exact .tags) (exact .marks) (exact .points) vs ms
 
-    handed-whole : g ≡ whole
-    handed-whole = handed-alike file left t n u l (exact .day .date) (exact .day .n) (exact .day .update) (exact .day .load) (over (exact .day .values) vs) (overFive (exact .tags) ms) a filled
+    handed-read : g ≡ asRead
+    handed-read = handed-alike file left t n u l (exact .day .date) (exact .day .n) (exact .day .update) (exact .day .load) (over (exact .day .values) vs) (overFive (exact .tags) ms) a filled
 
     -- so what a reading answered and left is written as day k
     pub again : (room : List ℕ) → WrittenAgain k (h .content) room (writeOf g (length room)) (roomOf g room)
     again room =
         let y = handed-day file (exact .day) (stands .head) (stands .block) (stands .reads) (exact .tags) (exact .marks) (exact .points) vs ms in
         let w = handed-writable file (exact .day) (stands .head) (stands .block) (stands .reads) (exact .tags) (exact .marks) (exact .points) vs ms in
-        subst (λ (x : Given). WrittenAgain k (h .content) room (writeOf x (length room)) (roomOf x room)) (sym handed-whole)
-        (written-again whole w room k (h .content) (exact .more) (exact .is ∙ ap (λ (x : Day). x ∷ exact .more) (sym y)))
+        subst (λ (x : Given). WrittenAgain k (h .content) room (writeOf x (length room)) (roomOf x room)) (sym handed-read)
+        (written-again asRead w room k (h .content) (exact .more) (exact .is ∙ ap (λ (x : Day). x ∷ exact .more) (sym y)))

@@ -90,9 +90,9 @@ unfolding tagsOf
 tags-started d = each-each Started tagAt started d
 
 -- a length is that of the description
-tags-long : (d : BlockRows) → map (λ (t : Tag). t .length) (tagsOf d) ≡ map (λ (m : Mark). length (m .text)) (marksOf d)
+tags-lengths : (d : BlockRows) → map (λ (t : Tag). t .length) (tagsOf d) ≡ map (λ (m : Mark). length (m .text)) (marksOf d)
 unfolding tagsOf marksOf tagAt markAt
-tags-long d =
+tags-lengths d =
     map-each (λ (t : Tag). t .length) tagAt d ∙ sym (map-each (λ (m : Mark). length (m .text)) (λ k x i. markAt k i (x .cells)) d)
 
 -- ---- a day
@@ -149,6 +149,11 @@ module _ (file : List ℕ) where
     unfolding readOf
     reads-none e = rw (a, e)
 
+-- ---- by the grammar
+
+numbers : (x y : ℕ) → refusal x ≡ refusal y → x ≡ y
+numbers x y e = cc
+
 module _ (file : List ℕ) (v c d : ℕ) (h : InFormat file v c d) where
   passed : checkOf file ≡ accepted (v ∷ c ∷ d ∷ [])
   passed = format file v c d .1 h
@@ -165,7 +170,7 @@ module _ (file : List ℕ) (v c d : ℕ) (h : InFormat file v c d) where
         is = ap (drop k) (sym (meaning file v c d h) ∙ meaning file (w .means .v) (w .means .c) (w .means .d) (w .means .how)) ∙ w .means .is;
         tags = tagsOf (w .rows .block);
         marks = t;
-        points = pointing file (tagsOf (w .rows .block)) (marksOf (w .rows .block)) t (tags-long (w .rows .block)) (tags-started (w .rows .block));
+        points = pointing file (tagsOf (w .rows .block)) (marksOf (w .rows .block)) t (tags-lengths (w .rows .block)) (tags-started (w .rows .block));
         reads = λ r. reads-day file (v ∷ c ∷ d ∷ []) passed k vs ms (w .rows) (w .more) (w .found) r;
         short = λ r. too-short file (v ∷ c ∷ d ∷ []) passed k vs ms (w .rows) (w .more) (w .found) r;
       }
@@ -183,9 +188,6 @@ module _ (file : List ℕ) (v c d : ℕ) (h : InFormat file v c d) where
       (λ r. absurd (let g = w .short r in let z : true ≡ false = cc in true≢false z)))
 
   -- ---- a total
-
-  numbers : (x y : ℕ) → refusal x ≡ refusal y → x ≡ y
-  numbers x y e = cc
 
   total-is : (channel : ℕ) → totalOf file channel ≡ totalFirst (drop channel (totals (h .content)))
   unfolding totalOf
