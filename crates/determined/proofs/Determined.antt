@@ -1,17 +1,11 @@
 -- For each public entry: two results that its contract allows are equal, and so is what is left in everything lent. Said of what a caller learns of the
 -- function, which the tool makes of the clauses in its source, so that a loosened contract is refused here. Assumes nothing.
 use mathlib.Core.Path.{_≡_, sym, ap, _∙_}
-use mathlib.Core.Logic.{_↔_}
-use mathlib.Core.List.{[], _∷_}
-use Prim.Native.Nat.{ℕ}
 use contract.Lifetimes.{Lfts}
 use borrow.Fn.Kinds.{Dens, resT, endedOf}
 use denote.Triple.Clauses.{AtExit}
 use denote.Ref.{now}
-use Rattle.format.specs.Answers.{accepted, checkedAs}
 use Rattle.format.specs.Day.{Outcome}
-use Rattle.theorems.specs.Grammar.{InFormat}
-use Rattle.theorems.proofs.Format.{format}
 use Rattle.reading.proofs.check.check.Kinds as check-kinds
 use Rattle.reading.proofs.check.check.Reads as check-reads
 use Rattle.reading.proofs.read_day.read_day.Kinds as read-kinds
@@ -26,11 +20,6 @@ use Rattle.determined.proofs.Answers.{checked-one, day-read-one, totall
 pub one-check : (κs : Lfts 1) (a : Dens κs check-kinds.ps) (x y : resT check-kinds.r κs .Denot) (e f : AtExit (endedOf 1 check-kinds.ps check-kinds.r) κs)
     → check-reads.Learnt κs a x e → check-reads.Learnt κs a y f → x ≡ y
 one-check κs a x y e f p q = checked-one x y (p ∙ sym q)
-
--- and what it answers says whether the file is in the format
-pub check-format : (κs : Lfts 1) (a : Dens κs check-kinds.ps) (x : resT check-kinds.r κs .Denot) (e : AtExit (endedOf 1 check-kinds.ps check-kinds.r) κs)
-    → check-reads.Learnt κs a x e → (v c d : ℕ) → (checkedAs x ≡ accepted (v ∷ c ∷ d ∷ [])) ↔ InFormat (now (a .0)) v c d
-check-format κs a x e p v c d = (λ q. format (now (a .0)) v c d .0 (sym p ∙ q), λ h. p ∙ format (now (a .0)) v c d .1 h)
 
 -- `total` likewise
 pub one-total : (κs : Lfts 1) (a : Dens κs total-kinds.ps) (x y : resT total-kinds.r κs .Denot) (e f : AtExit (endedOf 1 total-kinds.ps total-kinds.r) κs)

@@ -75,7 +75,7 @@ module _ (file : List ℕ) where
   map-append (x ∷ xs) ys = ap (λ (l : List Mark). markOf file x ∷ l) (map-append xs ys)
 
   -- the next record starts behind this one's CR LF
-  next-at : (p : ℕ) (r : List ℕ) (ls : Lines) → drop p file ≡ bytesOf (line r ls) → drop (p + length r + 2) file ≡ bytesOf ls
+  pub next-at : (p : ℕ) (r : List ℕ) (ls : Lines) → drop p file ≡ bytesOf (line r ls) → drop (p + length r + 2) file ≡ bytesOf ls
   next-at p r ls h =
       let e : p + length r + 2 ≡ p + (length r + 2) = omega arith in
       ap (λ (i : ℕ). drop i file) e ∙ sym (drop-drop (length r + 2) p file) ∙ ap (drop (length r + 2)) h ∙ drop-append-add r (13 ∷ 10 ∷ bytesOf ls) 2
