@@ -1,0 +1,68 @@
+-- What stands before the record that is refused goes on to a file that is in the format, what stands up to its end does not; and which records may stand there. Assumes
+-- nothing.
+use Prim.Native.Nat.{ℕ, _+_, _≤_}
+use mathlib.Core.Path.{_≡_, sym, ap, _∙_, subst}
+use mathlib.Core.Bool.{false}
+use mathlib.Core.List.{List, [], _∷_, _++_, append-assoc}
+use native.Mathlib.Omega.{arith}
+use lib.ListN.{length}
+use Rattle.format.specs.Cut.{line, rest, lines}
+use Rattle.format.specs.Order.{isEnd, begun}
+use Rattle.format.specs.Answers.{accepted, refused}
+use Rattle.format.specs.File.{walkOf, checkOf}
+use Rattle.passing.proofs.Fit.{Fit}
+use Rattle.passing.proofs.Walk.{not-accepted, goes}
+use Rattle.theorems.specs.Grammar.{Record, text}
+use Rattle.theorems.specs.Places.{placeOf, past, stateAt}
+use Rattle.theorems.specs.Beginnings.{GoesOn, MayFollow, bytesBefore}
+use Rattle.theorems.proofs.Cuts.{AllUncut, all-uncut, lines-again, lines-cut}
+use Rattle.theorems.proofs.Takes.{Takes, takes-file}
+use Rattle.theorems.proofs.Told.{told-file}
+use Rattle.theorems.proofs.Reach.{Why, unfinished, faulty, trailing, Refusal, refusal-of, stays}
+use Rattle.theorems.proofs.Sane.{sane-at}
+use Rattle.theorems.proofs.Closing.{some-comes}
+
+-- ---- bytes behind those before record k
+
+-- records that are accepted from the state before record k on
+goes-on : (file : List ℕ) (x q k i : ℕ) → Refusal file x q k i → (rows : List Record) (v c d : ℕ) → Takes (stateAt k file) rows v c d → GoesOn (bytesBefore k file)
+goes-on file x q k i w rows v c d t =
+    let s : List ℕ = bytesBefore k file ++ text rows in
+    let a : walkOf begun 0 0 (lines s) ≡ accepted (v ∷ c ∷ d ∷ []) =
+    ap (walkOf begun 0 0) (lines-cut k file (text rows) (w .has)) ∙ w .same (lines (text rows)) ∙ t (placeOf k file) k in
+    (text rows, length s, v, c, d, told-file (length s) s v c d (omega arith) a)
+
+-- a record that may follow there is fit
+fit-there : (file : List ℕ) (x q k i : ℕ) → Refusal file x q k i → (r : List ℕ) → MayFollow (bytesBefore k file) r → Fit (stateAt k file) r
+fit-there file x q k i w r m =
+    let more : List ℕ = m .1 .0 in
+    let u : AllUncut (line r (rest [])) = subst AllUncut (m .0) (all-uncut (r ++ 13 ∷ 10 ∷ [])) in
+    let t = takes-file _ _ _ _ _ (m .1 .5) in
+    let a : (bytesBefore k file ++ (r ++ 13 ∷ 10 ∷ [])) ++ more ≡ bytesBefore k file ++ (r ++ 13 ∷ 10 ∷ more) =
+    append-assoc (bytesBefore k file) (r ++ 13 ∷ 10 ∷ []) more ∙ ap (λ (l : List ℕ). bytesBefore k file ++ l) (append-assoc r (13 ∷ 10 ∷ []) more) in
+    let e : walkOf begun 0 0 (lines ((bytesBefore k file ++ (r ++ 13 ∷ 10 ∷ [])) ++ more)) ≡ walkOf (stateAt k file) (placeOf k file) k (line r (lines more)) =
+    ap (λ (l : List ℕ). walkOf begun 0 0 (lines l)) a
+    ∙ ap (walkOf begun 0 0) (lines-cut k file (r ++ 13 ∷ 10 ∷ more) (w .has))
+    ∙ w .same (lines (r ++ 13 ∷ 10 ∷ more))
+    ∙ ap (walkOf (stateAt k file) (placeOf k file) k) (lines-again r more (u .0)) in
+    goes (stateAt k file) (placeOf k file) k r (lines more) _ (sym e ∙ t) .fit
+
+-- ---- the theorems
+
+module _ (file : List ℕ) (x q k i : ℕ) (e : checkOf file ≡ refused x q k i) where
+  -- where the check refuses record k, the bytes before it go on to a file that is in the format, the length limit aside
+  pub viable : 2 ≤ x → x ≤ 12 → GoesOn (bytesBefore k file)
+  viable lo hi =
+      let w = refusal-of file x q k i e (λ z. omega arith) .1 in
+      let c = some-comes (stateAt k file) (sane-at k file (w .clear)) (unended (w .why)) in
+      let n = c .1 in
+      goes-on file x q k i w (n .first ∷ n .rows) (n .version) (n .channels) (n .days) (n .takes)
+    where
+      unended : Why (stateAt k file) (placeOf k file) (past k (lines file)) x q i → isEnd (stateAt k file .expect) ≡ false
+      unended (unfinished t a o b d f) = o
+      unended (faulty r more o a n b d) = n
+      unended (trailing a b d f g) = absurd (let y : ⊥ = omega arith in y)
+
+  -- and with record k they do not
+  pub not-viable : 3 ≤ x → x ≤ 12 → GoesOn (bytesBefore (k + 1) file) → ⊥
+  not-viable lo hi g = not-accepted x q k i _ (sym (stays file x q k i e lo hi (g .0)) ∙ takes-file _ _ _ _ _ (g .5))
