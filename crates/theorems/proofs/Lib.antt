@@ -14,6 +14,7 @@ pub mod Samples
 pub mod Sane
 pub mod Closing
 pub mod Viable
+pub mod Follows
 pub mod First
 pub mod Days
 pub mod Once

@@ -1,21 +1,19 @@
--- What stands before the record that is refused goes on to a file that is in the format, what stands up to its end does not; and which records may stand there. Assumes
--- nothing.
+-- What stands before the record that is refused goes on to a file that is in the format, and what stands up to its end does not. Assumes nothing.
 use Prim.Native.Nat.{ℕ, _+_, _≤_}
-use mathlib.Core.Path.{_≡_, sym, ap, _∙_, subst}
+use mathlib.Core.Path.{_≡_, sym, ap, _∙_}
 use mathlib.Core.Bool.{false}
-use mathlib.Core.List.{List, [], _∷_, _++_, append-assoc}
+use mathlib.Core.List.{List, [], _∷_, _++_}
 use native.Mathlib.Omega.{arith}
 use lib.ListN.{length}
-use Rattle.format.specs.Cut.{line, rest, lines}
+use Rattle.format.specs.Cut.{lines}
 use Rattle.format.specs.Order.{isEnd, begun}
 use Rattle.format.specs.Answers.{accepted, refused}
 use Rattle.format.specs.File.{walkOf, checkOf}
-use Rattle.passing.proofs.Fit.{Fit}
-use Rattle.passing.proofs.Walk.{not-accepted, goes}
+use Rattle.passing.proofs.Walk.{not-accepted}
 use Rattle.theorems.specs.Grammar.{Record, text}
 use Rattle.theorems.specs.Places.{placeOf, past, stateAt}
-use Rattle.theorems.specs.Beginnings.{GoesOn, MayFollow, bytesBefore}
-use Rattle.theorems.proofs.Cuts.{AllUncut, all-uncut, lines-again, lines-cut}
+use Rattle.theorems.specs.Beginnings.{GoesOn, bytesBefore}
+use Rattle.theorems.proofs.Cuts.{lines-cut}
 use Rattle.theorems.proofs.Takes.{Takes, takes-file}
 use Rattle.theorems.proofs.Told.{told-file}
 use Rattle.theorems.proofs.Reach.{Why, unfinished, faulty, trailing, Refusal, refusal-of, stays}
@@ -31,21 +29,6 @@ goes-on file x q k i w rows v c d t =
     let a : walkOf begun 0 0 (lines s) ≡ accepted (v ∷ c ∷ d ∷ []) =
     ap (walkOf begun 0 0) (lines-cut k file (text rows) (w .has)) ∙ w .same (lines (text rows)) ∙ t (placeOf k file) k in
     (text rows, length s, v, c, d, told-file (length s) s v c d (omega arith) a)
-
--- a record that may follow there is fit
-fit-there : (file : List ℕ) (x q k i : ℕ) → Refusal file x q k i → (r : List ℕ) → MayFollow (bytesBefore k file) r → Fit (stateAt k file) r
-fit-there file x q k i w r m =
-    let more : List ℕ = m .1 .0 in
-    let u : AllUncut (line r (rest [])) = subst AllUncut (m .0) (all-uncut (r ++ 13 ∷ 10 ∷ [])) in
-    let t = takes-file _ _ _ _ _ (m .1 .5) in
-    let a : (bytesBefore k file ++ (r ++ 13 ∷ 10 ∷ [])) ++ more ≡ bytesBefore k file ++ (r ++ 13 ∷ 10 ∷ more) =
-    append-assoc (bytesBefore k file) (r ++ 13 ∷ 10 ∷ []) more ∙ ap (λ (l : List ℕ). bytesBefore k file ++ l) (append-assoc r (13 ∷ 10 ∷ []) more) in
-    let e : walkOf begun 0 0 (lines ((bytesBefore k file ++ (r ++ 13 ∷ 10 ∷ [])) ++ more)) ≡ walkOf (stateAt k file) (placeOf k file) k (line r (lines more)) =
-    ap (λ (l : List ℕ). walkOf begun 0 0 (lines l)) a
-    ∙ ap (walkOf begun 0 0) (lines-cut k file (r ++ 13 ∷ 10 ∷ more) (w .has))
-    ∙ w .same (lines (r ++ 13 ∷ 10 ∷ more))
-    ∙ ap (walkOf (stateAt k file) (placeOf k file) k) (lines-again r more (u .0)) in
-    goes (stateAt k file) (placeOf k file) k r (lines more) _ (sym e ∙ t) .fit
 
 -- ---- the theorems
 

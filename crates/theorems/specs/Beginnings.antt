@@ -3,7 +3,8 @@ use Prim.Native.Nat.{ℕ}
 use mathlib.Core.Path.{_≡_}
 use mathlib.Core.List.{List, [], _∷_, _++_}
 use lib.ListN.{take}
-use Rattle.format.specs.Cut.{Lines, line, rest, lines}
+use Rattle.format.specs.Cut.{Lines, line, rest, lines, fields}
+use Rattle.format.specs.Records.{kindIn}
 use Rattle.theorems.specs.Grammar.{InFormatUpTo}
 use Rattle.theorems.specs.Places.{placeOf, past}
 
@@ -20,6 +21,10 @@ IsOne r = lines (r ++ 13 ∷ 10 ∷ []) ≡ line r (rest [])
 -- in some file that is in the format, however long, the record r stands right behind the bytes s
 abbrev pub MayFollow : List ℕ → List ℕ → Type 0
 MayFollow s r = IsOne r × GoesOn (s ++ (r ++ 13 ∷ 10 ∷ []))
+
+-- a record of the kind n may follow there
+abbrev pub KindMayFollow : List ℕ → ℕ → Type 0
+KindMayFollow s n = (r : List ℕ) × (kindIn (fields r) ≡ n) × MayFollow s r
 
 -- ---- a file's records
 
