@@ -1,7 +1,8 @@
 -- In every such state a record of each kind that may come, and some records behind it, close the file; but for a 300 behind a day of the last date that there is, and a
 -- 400 behind a complete cover. Assumes nothing.
 use Prim.Native.Nat.{ℕ, _≤_, _<_}
-use mathlib.Core.Path.{_≡_, refl, sym}
+use mathlib.Core.Path.{_≡_, refl, sym, _∙_}
+use mathlib.Core.Logic.{_≢_}
 use mathlib.Core.Bool.{true, false, true≢false, false≢true}
 use mathlib.Core.List.{List, [], _∷_, _++_}
 use native.Mathlib.Omega.{arith}
@@ -30,7 +31,7 @@ pub record Comes (st : Due) (k : ℕ) : Type 0 where
   pub takes : Takes st (first ∷ rows) version channels days
 
 -- no V day is open
-abbrev Covered : Due → Type 0
+abbrev pub Covered : Due → Type 0
 Covered st = inVaried (st .expect) ≡ true → st .n < st .next
 
 -- a record before others
@@ -130,20 +131,27 @@ with-100 st m =
 
 -- ---- of some kind
 
-pub some-comes : (st : Due) → Sane st → isEnd (st .expect) ≡ false → (k : ℕ) × Comes st k
-some-comes st s n = go (st .expect) refl
+-- where no V day is open
+pub other-comes : (st : Due) → Sane st → isEnd (st .expect) ≡ false → Covered st → (k : ℕ) × (k ≢ 400) × Comes st k
+other-comes st s n f = go (st .expect) refl
   where
-    go : (x : Expected) → st .expect ≡ x → (k : ℕ) × Comes st k
-    go the100 e = (100, with-100 st (rw e))
-    go first200 e = (200, with-200 st (rw e) (λ z. absurd (false≢true (rw e at z))))
-    go first300 e = (300, with-300 st (rw e) (λ z. absurd (false≢true (rw e at z))) (let d : st .date ≡ 0 = s .dateless (rw e) in omega arith))
-    go underDay e = (900, with-900 st (rw e) (λ z. absurd (false≢true (rw e at z))))
-    go underVaried e =
-        by (leb (st .next) (st .n))
-        (λ t. (400, with-400 st s (rw e) (leb-true _ _ t)))
-        (λ t. (900, with-900 st (rw e) (λ z. leb-false _ _ t)))
-    go behind500 e = (900, with-900 st (rw e) (λ z. absurd (false≢true (rw e at z))))
-    go first250 e = (250, with-250 st (rw e))
-    go behind250 e = (900, with-900 st (rw e) (λ z. absurd (false≢true (rw e at z))))
-    go behind550 e = (900, with-900 st (rw e) (λ z. absurd (false≢true (rw e at z))))
+    go : (x : Expected) → st .expect ≡ x → (k : ℕ) × (k ≢ 400) × Comes st k
+    go the100 e = (100, λ z. omega arith, with-100 st (rw e))
+    go first200 e = (200, λ z. omega arith, with-200 st (rw e) f)
+    go first300 e = (300, λ z. omega arith, with-300 st (rw e) f (let d : st .date ≡ 0 = s .dateless (rw e) in omega arith))
+    go underDay e = (900, λ z. omega arith, with-900 st (rw e) f)
+    go underVaried e = (900, λ z. omega arith, with-900 st (rw e) f)
+    go behind500 e = (900, λ z. omega arith, with-900 st (rw e) f)
+    go first250 e = (250, λ z. omega arith, with-250 st (rw e))
+    go behind250 e = (900, λ z. omega arith, with-900 st (rw e) f)
+    go behind550 e = (900, λ z. omega arith, with-900 st (rw e) f)
     go theEnd e = absurd (true≢false (rw e at n))
+
+pub some-comes : (st : Due) → Sane st → isEnd (st .expect) ≡ false → (k : ℕ) × Comes st k
+some-comes st s n =
+    by (inVaried (st .expect))
+    (λ x. by (leb (st .next) (st .n)) (λ t. (400, with-400 st s x (leb-true _ _ t))) (λ t. other (λ z. leb-false _ _ t)))
+    (λ x. other (λ z. absurd (true≢false (sym z ∙ x))))
+  where
+    other : Covered st → (k : ℕ) × Comes st k
+    other f = let w = other-comes st s n f in (w .0, w .2)

@@ -12,6 +12,7 @@ pub mod Links
 pub mod Reach
 pub mod Samples
 pub mod Sane
+pub mod Traces
 pub mod Closing
 pub mod Viable
 pub mod Follows

@@ -48,7 +48,7 @@ fit-rec st r k f e z n =
     let o : Ok k (cond (eqb k 300) (st .n) 0) (fields r) = subst (λ (x : ℕ). Ok x (cond (eqb x 300) (st .n) 0) (fields r)) e (f .ok) in
     is-record k 0 (fields r) z (fit-fields st r f) e (subst (λ (b : Bool). Ok k (cond b (st .n) 0) (fields r)) (ne-eqb k 300 n) o)
 
-fit-300 : (st : Due) (r : List ℕ) → Fit st r → kindIn (fields r) ≡ 300 → IsRecord 300 (st .n) (fields r) × (st .date < dateIn (fields r))
+pub fit-300 : (st : Due) (r : List ℕ) → Fit st r → kindIn (fields r) ≡ 300 → IsRecord 300 (st .n) (fields r) × (st .date < dateIn (fields r))
 fit-300 st r f e = (
   is-record 300 (st .n) (fields r) (λ z. omega arith) (fit-fields st r f) e (subst (λ (x : ℕ). Ok x (cond (eqb x 300) (st .n) 0) (fields r)) e (f .ok)),
   fit-later st r f e,

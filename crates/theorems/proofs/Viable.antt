@@ -10,7 +10,7 @@ use Rattle.format.specs.Order.{isEnd, begun}
 use Rattle.format.specs.Answers.{accepted, refused}
 use Rattle.format.specs.File.{walkOf, checkOf}
 use Rattle.passing.proofs.Walk.{not-accepted}
-use Rattle.theorems.specs.Grammar.{Record, text}
+use Rattle.theorems.specs.Grammar.{Record, text, InFormatUpTo}
 use Rattle.theorems.specs.Places.{placeOf, past, stateAt}
 use Rattle.theorems.specs.Beginnings.{GoesOn, bytesBefore}
 use Rattle.theorems.proofs.Cuts.{lines-cut}
@@ -23,12 +23,13 @@ use Rattle.theorems.proofs.Closing.{some-comes}
 -- ---- bytes behind those before record k
 
 -- records that are accepted from the state before record k on
-goes-on : (file : List ℕ) (x q k i : ℕ) → Refusal file x q k i → (rows : List Record) (v c d : ℕ) → Takes (stateAt k file) rows v c d → GoesOn (bytesBefore k file)
-goes-on file x q k i w rows v c d t =
+pub format-there : (file : List ℕ) (x q k i : ℕ) → Refusal file x q k i → (rows : List Record) (v c d : ℕ) → Takes (stateAt k file) rows v c d
+    → InFormatUpTo (length (bytesBefore k file ++ text rows)) (bytesBefore k file ++ text rows) v c d
+format-there file x q k i w rows v c d t =
     let s : List ℕ = bytesBefore k file ++ text rows in
     let a : walkOf begun 0 0 (lines s) ≡ accepted (v ∷ c ∷ d ∷ []) =
     ap (walkOf begun 0 0) (lines-cut k file (text rows) (w .has)) ∙ w .same (lines (text rows)) ∙ t (placeOf k file) k in
-    (text rows, length s, v, c, d, told-file (length s) s v c d (omega arith) a)
+    told-file (length s) s v c d (omega arith) a
 
 -- ---- the theorems
 
@@ -39,7 +40,7 @@ module _ (file : List ℕ) (x q k i : ℕ) (e : checkOf file ≡ refused x q k i
       let w = refusal-of file x q k i e (λ z. omega arith) .1 in
       let c = some-comes (stateAt k file) (sane-at k file (w .clear)) (unended (w .why)) in
       let n = c .1 in
-      goes-on file x q k i w (n .first ∷ n .rows) (n .version) (n .channels) (n .days) (n .takes)
+      (text (n .first ∷ n .rows), _, n .version, n .channels, n .days, format-there file x q k i w (n .first ∷ n .rows) (n .version) (n .channels) (n .days) (n .takes))
     where
       unended : Why (stateAt k file) (placeOf k file) (past k (lines file)) x q i → isEnd (stateAt k file .expect) ≡ false
       unended (unfinished t a o b d f) = o

@@ -1,10 +1,11 @@
 -- The beginnings of files that are in the format, the length limit aside: which bytes go on to such a file, and which record may follow them there.
-use Prim.Native.Nat.{ℕ}
+use Prim.Native.Nat.{ℕ, _+_, _<_}
 use mathlib.Core.Path.{_≡_}
+use mathlib.Core.Logic.{_≢_}
 use mathlib.Core.List.{List, [], _∷_, _++_}
 use lib.ListN.{take}
 use Rattle.format.specs.Cut.{Lines, line, rest, lines, fields}
-use Rattle.format.specs.Records.{kindIn}
+use Rattle.format.specs.Records.{kindIn, dateIn}
 use Rattle.theorems.specs.Grammar.{InFormatUpTo}
 use Rattle.theorems.specs.Places.{placeOf, past}
 
@@ -35,3 +36,24 @@ bytesBefore k file = take (placeOf k file) file
 -- record k has the bytes r
 abbrev pub HasRecord : ℕ → List ℕ → List ℕ → Type 0
 HasRecord k file r = (more : Lines) × (past k (lines file) ≡ line r more)
+
+-- ---- where no record of a kind is left
+
+-- the day before record k in its 200 has the last date that there is: that of a 300 with no 200 between the two
+pub record LastDate (k : ℕ) (file : List ℕ) : Type 0 where
+  pub j : ℕ
+  pub earlier : j < k
+  pub top : List ℕ
+  pub is : HasRecord j file top
+  pub kind : kindIn (fields top) ≡ 300
+  pub date : dateIn (fields top) ≡ 21991231
+  pub no-200 : (l : ℕ) (r : List ℕ) → j < l → l < k → HasRecord l file r → kindIn (fields r) ≢ 200
+
+-- record k stands behind a complete cover: the record before it is a 400, and a 900 may follow
+pub record CoverDone (k : ℕ) (file : List ℕ) : Type 0 where
+  pub j : ℕ
+  pub before : k ≡ j + 1
+  pub run : List ℕ
+  pub is : HasRecord j file run
+  pub kind : kindIn (fields run) ≡ 400
+  pub ends : KindMayFollow (bytesBefore k file) 900
