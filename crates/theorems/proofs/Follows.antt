@@ -70,7 +70,7 @@ given-here : (x o i : ℕ) (c : Entry) (cs : List Entry) → lacks x cs ≡ true
 given-here x o i c cs l (inl w) = w .1
 given-here x o i c cs l (inr w) = absurd (lacks-none x o i cs l (w .1))
 
--- the table from 5 on, from 4 on, and from 10 on
+-- the entries 10 and 4 of a record, and those from 5 on
 module _ (st : Due) (r : List ℕ) where
   abbrev entries5 : List Entry
   entries5 =
@@ -250,12 +250,10 @@ not-only-a-400 file q k i e =
     let w = refusal-of file 4 q k i e (λ (z : 4 ≡ 1). omega arith) .1 in
     go w (w .why)
   where
-    st : Due
-    st = stateAt k file
-
-    go : Refusal file 4 q k i → Why st (placeOf k file) (past k (lines file)) 4 q i → (n : ℕ) × (n ≢ 400) × KindMayFollow (bytesBefore k file) n
+    go : Refusal file 4 q k i → Why (stateAt k file) (placeOf k file) (past k (lines file)) 4 q i → (n : ℕ) × (n ≢ 400) × KindMayFollow (bytesBefore k file) n
     go w (unfinished t a o b d f) = absurd (let y : ⊥ = omega arith in y)
     go w (faulty r more o a n b d) =
+        let st : Due = stateAt k file in
         let f = fault-first st r 4 o i b in
         let m : mayCome (st .expect) (kindIn (fields r)) ≡ false = first-4 st r o i f in
         let g = later-10 st r 4 o i (λ z. omega arith) (λ z. omega arith) f in

@@ -2,7 +2,7 @@
 use Prim.Native.Nat.{ℕ, zero, suc, _≤_, _<_}
 use mathlib.Core.Path.{_≡_, refl, sym, _∙_, subst}
 use mathlib.Core.Logic.{_⊎_, inl, inr}
-use mathlib.Core.Bool.{Bool, true, false, true≢false, false≢true, cond}
+use mathlib.Core.Bool.{true, false, true≢false, false≢true}
 use mathlib.Core.List.{List}
 use native.Mathlib.Omega.{arith}
 use lib.Dec.{eqb}
@@ -10,7 +10,7 @@ use Rattle.ground.proofs.Cases.{by}
 use Rattle.format.specs.Quality.{Mark, sameMark}
 use Rattle.format.specs.Cut.{Lines, line, rest, lines, fields}
 use Rattle.format.specs.Records.{kindIn, versionIn, intervalsIn, markIn}
-use Rattle.format.specs.Order.{first200, first250, underVaried, underDay, mayCome, inDay, inVaried, Shared, noneYet, allHave, theyDiffer, shareWith, Due, begun, isVaried, on100, on250, on550, on900}
+use Rattle.format.specs.Order.{mayCome, inDay, inVaried, Shared, noneYet, allHave, theyDiffer, shareWith, Due, begun, isVaried, on100, on250, on550, on900}
 use Rattle.format.specs.File.{after}
 use Rattle.format.proofs.States.{implied}
 use Rattle.passing.proofs.Fit.{Fit, fine-fit, Head, h100, h200, h300, h400, h500, h250, h550, h900, head}
@@ -42,14 +42,6 @@ nowhere st l =
       several = λ h. absurd (true≢false (sym (implied inVaried (λ y. mayCome y 300) refl (st .expect) h) ∙ l));
     }
 
-no-day : (b : Bool) → mayCome (cond b first200 first250) 300 ≡ false
-no-day true = refl
-no-day false = refl
-
-not-first : (b : Bool) → isFirst (cond b underVaried underDay) ≡ false
-not-first true = refl
-not-first false = refl
-
 -- with a 400 there is one
 share-some : (x : Shared) (m : Mark) → shareWith x m ≡ noneYet → ⊥
 share-some noneYet m e = let z : true ≡ false = cc in true≢false z
@@ -73,7 +65,7 @@ sane-on st r s f = go (head _ _ (f .may))
     fs = fields r
 
     go : Head (st .expect) (kindIn (fields r)) → Sane (after st r)
-    go (h100 q z) = subst Sane (sym (after-100 st r q)) (nowhere (on100 st fs) (no-day (eqb (versionIn fs) 12)))
+    go (h100 q z) = subst Sane (sym (after-100 st r q)) (nowhere (on100 st fs) (by (eqb (versionIn fs) 12) (λ t. rw t) (λ t. rw t)))
     go (h200 q z) =
         let g : IsRecord 200 0 fs = fit-rec st r 200 f q (λ y. omega arith) (λ y. omega arith) in
         subst Sane (sym (after-200 st r q))
@@ -87,7 +79,7 @@ sane-on st r s f = go (head _ _ (f .may))
         subst Sane (sym (after-300 st r q))
         (record {
           many = λ h. s .many z;
-          dateless = λ h. absurd (true≢false (sym h ∙ not-first (isVaried (st .n) fs)));
+          dateless = λ h. absurd (true≢false (sym h ∙ by (isVaried (st .n) fs) (λ t. rw t) (λ t. rw t)));
           counted = λ h. omega arith;
           several = λ h e. (let w = s .many z .0 in omega arith);
         })

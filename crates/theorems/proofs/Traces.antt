@@ -2,14 +2,14 @@
 use Prim.Native.Nat.{ℕ, zero, suc, _+_, _≤_, _<_}
 use mathlib.Core.Path.{_≡_, refl, sym, _∙_, subst}
 use mathlib.Core.Logic.{_≢_, _⊎_, inl, inr}
-use mathlib.Core.Bool.{Bool, true, false, true≢false, false≢true, cond}
+use mathlib.Core.Bool.{true, false, true≢false, false≢true}
 use mathlib.Core.List.{List}
 use native.Mathlib.Omega.{arith}
 use lib.Dec.{eqb}
-use Rattle.ground.proofs.Cases.{same-or}
+use Rattle.ground.proofs.Cases.{by, same-or}
 use Rattle.format.specs.Cut.{Lines, line, rest, fields}
 use Rattle.format.specs.Records.{kindIn, versionIn, dateIn}
-use Rattle.format.specs.Order.{first200, first250, inVaried, mayCome, Due, begun, on100, on200, on300, on400, on500, on250, on550, on900}
+use Rattle.format.specs.Order.{inVaried, mayCome, Due, begun, on100, on200, on300, on400, on500, on250, on550, on900}
 use Rattle.format.specs.File.{after}
 use Rattle.format.proofs.States.{implied}
 use Rattle.passing.proofs.Fit.{Fit, fine-fit, Head, h100, h200, h300, h400, h500, h250, h550, h900, head}
@@ -138,12 +138,8 @@ run-before (suc k) ls h s c = let w = last-of k begun ls h in go w (head (stateI
     both : (w : LastOf k begun ls) (b : Due) → after st (w .last) ≡ b → Whole b × Sane b
     both w b e = let f : stateIn (suc k) begun ls ≡ b = w .state ∙ e in (subst Whole f c, subst Sane f s)
 
-    no : (b : Bool) → inVaried (cond b first200 first250) ≡ false
-    no true = refl
-    no false = refl
-
     go : (w : LastOf k begun ls) → Head (st .expect) (kindIn (fields (w .last))) → RunBefore (suc k) ls
-    go w (h100 q z) = absurd (true≢false (sym (both w (on100 st (fields (w .last))) (after-100 st (w .last) q) .0 .0) ∙ no (eqb (versionIn (fields (w .last))) 12)))
+    go w (h100 q z) = absurd (true≢false (sym (both w (on100 st (fields (w .last))) (after-100 st (w .last) q) .0 .0) ∙ by (eqb (versionIn (fields (w .last))) 12) (λ t. rw t) (λ t. rw t)))
     go w (h200 q z) = absurd (false≢true (both w (on200 st (fields (w .last))) (after-200 st (w .last) q) .0 .0))
     go w (h300 q z) =
         let b : Due = on300 st (fields (w .last)) in
