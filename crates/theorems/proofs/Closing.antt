@@ -16,7 +16,7 @@ use Rattle.theorems.specs.Grammar.{Each, Record, IsRecord, Covers, Extra
 use Rattle.theorems.proofs.Rows.{Fields, record-fields}
 use Rattle.theorems.proofs.Apart.{Apart}
 use Rattle.theorems.proofs.Takes.{Takes, Tests, takes-row, pass, pass-300, pass-500, takes-runs, takes-end}
-use Rattle.theorems.proofs.Samples.{sample100, is-100, version-100, sample200, is-200, sample500, is-500, untimed-500, sample250, is-250, sample550, is-550, sample900, is-900, sample300, is-300, date-300, plain-300, completes}
+use Rattle.theorems.proofs.Samples.{sample100, is-100, version-100, sample200, is-200, sample500, is-500, untimed-500, sample250, is-250, sample550, is-550, sample900, is-900, sample300, is-300, date-300, plain-300, complete-cover}
 use Rattle.theorems.proofs.Sane.{Sane}
 
 -- a record of the kind k, and then others, are accepted from the state on, to the file's end
@@ -31,8 +31,8 @@ pub record Comes (st : Due) (k : ℕ) : Type 0 where
   pub takes : Takes st (first ∷ rows) version channels days
 
 -- no V day is open
-abbrev pub Covered : Due → Type 0
-Covered st = inVaried (st .expect) ≡ true → st .n < st .next
+abbrev pub NoneOpen : Due → Type 0
+NoneOpen st = inVaried (st .expect) ≡ true → st .n < st .next
 
 -- a record before others
 ahead : (st : Due) (fs : Record) (k n j : ℕ) → IsRecord k n fs → Tests st fs → Comes (afterOf st k fs) j → Comes st k
@@ -50,7 +50,7 @@ ahead st fs k n j h t c =
 
 -- ---- of each kind
 
-pub with-900 : (st : Due) → mayCome (st .expect) 900 ≡ true → Covered st → Comes st 900
+pub with-900 : (st : Due) → mayCome (st .expect) 900 ≡ true → NoneOpen st → Comes st 900
 with-900 st m f =
     record {
       first = sample900;
@@ -63,13 +63,13 @@ with-900 st m f =
       takes = takes-end sample900 (st .version) (st .channels) (st .days) st is-900 m f refl refl refl;
     }
 
-pub with-500 : (st : Due) → inDay (st .expect) ≡ true → Covered st → Comes st 500
+pub with-500 : (st : Due) → inDay (st .expect) ≡ true → NoneOpen st → Comes st 500
 unfolding afterOf
 with-500 st m f =
     let e : Extra (st .date) sample500 = (is-500, λ l. absurd (let z : ⊥ = omega (arith, untimed-500) in z)) in
     ahead st sample500 500 0 900 is-500 (pass-500 st sample500 e m f) (with-900 (on500 st sample500) refl (λ z. absurd (false≢true z)))
 
-pub with-300 : (st : Due) → mayCome (st .expect) 300 ≡ true → Covered st → st .date < 21991231 → Comes st 300
+pub with-300 : (st : Due) → mayCome (st .expect) 300 ≡ true → NoneOpen st → st .date < 21991231 → Comes st 300
 unfolding afterOf
 with-300 st m f l =
     let fs : Record = sample300 (st .n) in
@@ -81,7 +81,7 @@ with-300 st m f l =
 pub with-400 : (st : Due) → Sane st → inVaried (st .expect) ≡ true → st .next ≤ st .n → Comes st 400
 with-400 st s x l =
     let w = s .many (implied inVaried (λ y. mayCome y 300) refl (st .expect) x) in
-    let c = completes (st .n) (st .next) l (w .1) (st .shared) (s .several x) in
+    let c = complete-cover (st .n) (st .next) l (w .1) (st .shared) (s .several x) in
     go (c .runs) (c .each) (c .covers) (c .apart)
   where
     go : (rs : List Record) → Each (IsRecord 400 0) rs → Covers (st .n) (st .next) rs → Apart (st .shared) rs → Comes st 400
@@ -115,7 +115,7 @@ with-250 st m =
     (pass st sample250 250 is-250 (λ z. omega arith) (λ z. omega arith) (λ z. omega arith) m (λ z. excluded (λ y. mayCome y 250) inVaried refl (st .expect) m z))
     (with-900 (on250 st sample250) refl (λ z. absurd (false≢true z)))
 
-pub with-200 : (st : Due) → mayCome (st .expect) 200 ≡ true → Covered st → Comes st 200
+pub with-200 : (st : Due) → mayCome (st .expect) 200 ≡ true → NoneOpen st → Comes st 200
 unfolding afterOf
 with-200 st m f =
     ahead st sample200 200 0 300 is-200 (pass st sample200 200 is-200 (λ z. omega arith) (λ z. omega arith) (λ z. omega arith) m f)
@@ -132,7 +132,7 @@ with-100 st m =
 -- ---- of some kind
 
 -- where no V day is open
-pub other-comes : (st : Due) → Sane st → isEnd (st .expect) ≡ false → Covered st → (k : ℕ) × (k ≢ 400) × Comes st k
+pub other-comes : (st : Due) → Sane st → isEnd (st .expect) ≡ false → NoneOpen st → (k : ℕ) × (k ≢ 400) × Comes st k
 other-comes st s n f = go (st .expect) refl
   where
     go : (x : Expected) → st .expect ≡ x → (k : ℕ) × (k ≢ 400) × Comes st k
@@ -153,5 +153,5 @@ some-comes st s n =
     (λ x. by (leb (st .next) (st .n)) (λ t. (400, with-400 st s x (leb-true _ _ t))) (λ t. other (λ z. leb-false _ _ t)))
     (λ x. other (λ z. absurd (true≢false (sym z ∙ x))))
   where
-    other : Covered st → (k : ℕ) × Comes st k
+    other : NoneOpen st → (k : ℕ) × Comes st k
     other f = let w = other-comes st s n f in (w .0, w .2)

@@ -15,7 +15,7 @@ pub mod Sane
 pub mod Traces
 pub mod Closing
 pub mod Viable
-pub mod Follows
+pub mod Following
 pub mod First
 pub mod Days
 pub mod Once

@@ -225,12 +225,12 @@ module _ (n a : ℕ) (lo : a ≤ n) (hi : n ≤ 288) where
             omega arith);
       }
 
-  pub completes : (x : Shared) → (x ≡ noneYet → a < n) → Completes n a x
-  completes noneYet s = two-runs (s refl)
-  completes (allHave m) s =
+  pub complete-cover : (x : Shared) → (x ≡ noneYet → a < n) → Completes n a x
+  complete-cover noneYet s = two-runs (s refl)
+  complete-cover (allHave m) s =
       by (eqb (m .flag) 65)
       (λ t. one-run (allHave m) (bytes "E52") 69 bare-e
       (λ h. let u = flag-400 a n (bytes "E52") 69 bare-e (omega arith) (omega arith) m (h .0) in let w : m .flag ≡ 65 = eqb-true _ _ t in omega arith))
       (λ t. one-run (allHave m) (bytes "A") 65 bare-a
       (λ h. eqb-false _ _ t (flag-400 a n (bytes "A") 65 bare-a (omega arith) (omega arith) m (h .0))))
-  completes theyDiffer s = one-run theyDiffer (bytes "A") 65 bare-a tt
+  complete-cover theyDiffer s = one-run theyDiffer (bytes "A") 65 bare-a tt

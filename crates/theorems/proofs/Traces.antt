@@ -40,7 +40,7 @@ last-of (suc k) st (rest t) h = absurd h
 
 -- ---- a date is that of a 300, with no 200 behind it
 
-pub record DateOf (k : ℕ) (ls : Lines) (t : ℕ) : Type 0 where
+pub record TopBefore (k : ℕ) (ls : Lines) (t : ℕ) : Type 0 where
   pub j : ℕ
   pub earlier : j < k
   pub top : List ℕ
@@ -52,7 +52,7 @@ pub record DateOf (k : ℕ) (ls : Lines) (t : ℕ) : Type 0 where
   pub no-200 : (l : ℕ) (r : List ℕ) (m : Lines) → j < l → l < k → past l ls ≡ line r m → kindIn (fields r) ≢ 200
 
 -- one record more, which is no 200
-date-on : (k : ℕ) (ls : Lines) (t : ℕ) (r : List ℕ) (more : Lines) → past k ls ≡ line r more → kindIn (fields r) ≢ 200 → DateOf k ls t → DateOf (suc k) ls t
+date-on : (k : ℕ) (ls : Lines) (t : ℕ) (r : List ℕ) (more : Lines) → past k ls ≡ line r more → kindIn (fields r) ≢ 200 → TopBefore k ls t → TopBefore (suc k) ls t
 date-on k ls t r more e n d =
     let lt : d .j < k = d .earlier in
     record {
@@ -74,12 +74,12 @@ date-on k ls t r more e n d =
           (λ z. d .no-200 l s m a (omega arith) h);
     }
 
-pub date-of : (k : ℕ) (ls : Lines) → Clear k begun ls → (stateIn k begun ls .date ≡ 0) ⊎ DateOf k ls (stateIn k begun ls .date)
-date-of zero ls h = inl refl
-date-of (suc k) ls h = let w = last-of k begun ls h in go w (date-of k ls (w .clear)) (head (stateIn k begun ls .expect) (kindIn (fields (w .last))) (w .fit .may))
+pub top-before : (k : ℕ) (ls : Lines) → Clear k begun ls → (stateIn k begun ls .date ≡ 0) ⊎ TopBefore k ls (stateIn k begun ls .date)
+top-before zero ls h = inl refl
+top-before (suc k) ls h = let w = last-of k begun ls h in go w (top-before k ls (w .clear)) (head (stateIn k begun ls .expect) (kindIn (fields (w .last))) (w .fit .may))
   where
     Is : ℕ → Type 0
-    Is t = (t ≡ 0) ⊎ DateOf (suc k) ls t
+    Is t = (t ≡ 0) ⊎ TopBefore (suc k) ls t
 
     st : Due
     st = stateIn k begun ls
@@ -87,11 +87,11 @@ date-of (suc k) ls h = let w = last-of k begun ls h in go w (date-of k ls (w .cl
     to : (a b : Due) → stateIn (suc k) begun ls ≡ a → a ≡ b → Is (b .date) → Is (stateIn (suc k) begun ls .date)
     to a b e f g = subst (λ (x : Due). Is (x .date)) (sym (e ∙ f)) g
 
-    same : (w : LastOf k begun ls) → kindIn (fields (w .last)) ≢ 200 → (st .date ≡ 0) ⊎ DateOf k ls (st .date) → Is (st .date)
+    same : (w : LastOf k begun ls) → kindIn (fields (w .last)) ≢ 200 → (st .date ≡ 0) ⊎ TopBefore k ls (st .date) → Is (st .date)
     same w n (inl e) = inl e
     same w n (inr d) = inr (date-on k ls (st .date) (w .last) (w .more) (w .is) n d)
 
-    go : (w : LastOf k begun ls) → (st .date ≡ 0) ⊎ DateOf k ls (st .date) → Head (st .expect) (kindIn (fields (w .last))) → Is (stateIn (suc k) begun ls .date)
+    go : (w : LastOf k begun ls) → (st .date ≡ 0) ⊎ TopBefore k ls (st .date) → Head (st .expect) (kindIn (fields (w .last))) → Is (stateIn (suc k) begun ls .date)
     go w d (h100 q z) = to _ (on100 st (fields (w .last))) (w .state) (after-100 st (w .last) q) (inl refl)
     go w d (h200 q z) = to _ (on200 st (fields (w .last))) (w .state) (after-200 st (w .last) q) (inl refl)
     go w d (h300 q z) =
@@ -124,10 +124,10 @@ pub record RunBefore (k : ℕ) (ls : Lines) : Type 0 where
   pub kind : kindIn (fields run) ≡ 400
 
 -- under a V day whose cover is complete
-abbrev Whole : Due → Type 0
-Whole st = (inVaried (st .expect) ≡ true) × (st .n < st .next)
+abbrev FullCover : Due → Type 0
+FullCover st = (inVaried (st .expect) ≡ true) × (st .n < st .next)
 
-pub run-before : (k : ℕ) (ls : Lines) → Clear k begun ls → Sane (stateIn k begun ls) → Whole (stateIn k begun ls) → RunBefore k ls
+pub run-before : (k : ℕ) (ls : Lines) → Clear k begun ls → Sane (stateIn k begun ls) → FullCover (stateIn k begun ls) → RunBefore k ls
 run-before zero ls h s c = absurd (false≢true (c .0))
 run-before (suc k) ls h s c = let w = last-of k begun ls h in go w (head (stateIn k begun ls .expect) (kindIn (fields (w .last))) (w .fit .may))
   where
@@ -135,8 +135,8 @@ run-before (suc k) ls h s c = let w = last-of k begun ls h in go w (head (stateI
     st = stateIn k begun ls
 
     -- the state behind the record is whole and sane
-    both : (w : LastOf k begun ls) (b : Due) → after st (w .last) ≡ b → Whole b × Sane b
-    both w b e = let f : stateIn (suc k) begun ls ≡ b = w .state ∙ e in (subst Whole f c, subst Sane f s)
+    both : (w : LastOf k begun ls) (b : Due) → after st (w .last) ≡ b → FullCover b × Sane b
+    both w b e = let f : stateIn (suc k) begun ls ≡ b = w .state ∙ e in (subst FullCover f c, subst Sane f s)
 
     go : (w : LastOf k begun ls) → Head (st .expect) (kindIn (fields (w .last))) → RunBefore (suc k) ls
     go w (h100 q z) = absurd (true≢false (sym (both w (on100 st (fields (w .last))) (after-100 st (w .last) q) .0 .0) ∙ by (eqb (versionIn (fields (w .last))) 12) (λ t. rw t) (λ t. rw t)))

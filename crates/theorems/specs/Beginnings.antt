@@ -1,7 +1,7 @@
 -- The beginnings of files that are in the format, the length limit aside: which bytes go on to such a file, and which record may follow them there.
 use Prim.Native.Nat.{ℕ, _+_, _<_}
 use mathlib.Core.Path.{_≡_}
-use mathlib.Core.Logic.{_≢_}
+use mathlib.Core.Logic.{_≢_, _⊎_}
 use mathlib.Core.List.{List, [], _∷_, _++_}
 use lib.ListN.{take}
 use Rattle.format.specs.Cut.{Lines, line, rest, lines, fields}
@@ -57,3 +57,7 @@ pub record CoverDone (k : ℕ) (file : List ℕ) : Type 0 where
   pub is : HasRecord j file run
   pub kind : kindIn (fields run) ≡ 400
   pub ends : KindMayFollow (bytesBefore k file) 900
+
+-- no record of the kind n may follow there, and this is why
+abbrev pub NoneLeft : ℕ → ℕ → List ℕ → Type 0
+NoneLeft n k file = (KindMayFollow (bytesBefore k file) n → ⊥) × (((n ≡ 300) × LastDate k file) ⊎ ((n ≡ 400) × CoverDone k file))

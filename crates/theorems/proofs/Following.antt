@@ -18,20 +18,22 @@ use Rattle.format.specs.Answers.{refused}
 use Rattle.format.specs.File.{walkOf, checkOf}
 use Rattle.format.specs.declared.Fault.the-variants.{Stop}
 use Rattle.format.proofs.States.{implied}
-use Rattle.passing.proofs.Fit.{Fit, free-of, Head, h100, h200, h300, h400, h500, h250, h550, h900, head}
+use Rattle.passing.proofs.Fit.{Fit, fit-cover, free-of, Head, h100, h200, h300, h400, h500, h250, h550, h900, head}
 use Rattle.passing.proofs.Walk.{goes}
 use Rattle.theorems.specs.Grammar.{join, text, InFormatUpTo}
 use Rattle.theorems.specs.Places.{placeOf, past, stateIn, stateAt}
 use Rattle.theorems.specs.First.{Entry, entry3, entry10, entry4, entry5, entry6, entry7, entry8, entry9, entry11, entry12, inOrder, Never, First}
-use Rattle.theorems.specs.Beginnings.{MayFollow, KindMayFollow, bytesBefore, HasRecord, LastDate, CoverDone}
+use Rattle.theorems.specs.Beginnings.{MayFollow, KindMayFollow, bytesBefore, HasRecord, LastDate, CoverDone, NoneLeft}
 use Rattle.theorems.proofs.Cuts.{AllUncut, all-uncut, lines-again, lines-cut}
 use Rattle.theorems.proofs.Bytes.{lines-row}
+use Rattle.theorems.proofs.Says.{date-most}
 use Rattle.theorems.proofs.Takes.{fields-of, takes-file}
+use Rattle.theorems.proofs.Told.{fit-300}
 use Rattle.theorems.proofs.Links.{fault-first}
 use Rattle.theorems.proofs.Reach.{Why, unfinished, faulty, trailing, Refusal, refusal-of}
 use Rattle.theorems.proofs.Sane.{sane-at}
-use Rattle.theorems.proofs.Traces.{DateOf, date-of, run-before}
-use Rattle.theorems.proofs.Closing.{Comes, Covered, with-900, with-500, with-300, with-400, with-550, with-250, with-200, with-100, other-comes}
+use Rattle.theorems.proofs.Traces.{TopBefore, top-before, run-before}
+use Rattle.theorems.proofs.Closing.{Comes, NoneOpen, with-900, with-500, with-300, with-400, with-550, with-250, with-200, with-100, other-comes}
 use Rattle.theorems.proofs.Viable.{format-there}
 
 -- a record that may follow there is fit
@@ -102,7 +104,7 @@ module _ (st : Due) (r : List ℕ) where
   never-4 : Never asks4 → mayCome (st .expect) (kindIn (fields r)) ≡ true
   never-4 g = by (mayCome (st .expect) (kindIn (fields r))) (λ t. t) (λ t. absurd (g 0 0 (t, refl, refl)))
 
-  never-10 : Never asks10 → kindIn (fields r) ≢ 400 → Covered st
+  never-10 : Never asks10 → kindIn (fields r) ≢ 400 → NoneOpen st
   never-10 g n x = by (leb (st .next) (st .n)) (λ t. absurd (g 0 0 (x, leb-true _ _ t, n, refl, refl))) (λ t. leb-false _ _ t)
 
 -- the record that is refused, with the entry that is given first
@@ -173,11 +175,23 @@ module _ (file : List ℕ) (q k i : ℕ) where
 
 -- where no record of the kind is left
 module _ (file : List ℕ) (x q k i : ℕ) (w : Refusal file x q k i) where
+  none-later : 21991231 ≤ stateAt k file .date → KindMayFollow (bytesBefore k file) 300 → ⊥
+  none-later l m =
+      let st : Due = stateAt k file in
+      let f = fit-there file x q k i w (m .0) (m .2) in
+      let a = fit-300 st (m .0) f (m .1) in
+      omega (arith, a .1, date-most (st .n) (fields (m .0)) (a .0))
+
+  none-covers : stateAt k file .n < stateAt k file .next → KindMayFollow (bytesBefore k file) 400 → ⊥
+  none-covers l m =
+      let c = fit-cover (stateAt k file) (m .0) (fit-there file x q k i w (m .0) (m .2)) (m .1) in
+      omega (arith, c .0, c .1, c .2)
+
   last-date : (stateAt k file .date < 21991231 → ⊥) → LastDate k file
   unfolding stateAt
-  last-date n = go (date-of k (lines file) (w .clear))
+  last-date n = go (top-before k (lines file) (w .clear))
     where
-      go : (stateIn k begun (lines file) .date ≡ 0) ⊎ DateOf k (lines file) (stateIn k begun (lines file) .date) → LastDate k file
+      go : (stateIn k begun (lines file) .date ≡ 0) ⊎ TopBefore k (lines file) (stateIn k begun (lines file) .date) → LastDate k file
       go (inl e) = absurd (n (omega arith))
       go (inr d) =
           record {
@@ -211,7 +225,7 @@ module _ (file : List ℕ) (x q k i : ℕ) (e : checkOf file ≡ refused x q k i
   -- where record k is refused with another number from 5 on, some record of its kind may follow; but for a 300 behind a day of the last date that there is, and for a
   -- 400 behind a complete cover
   pub some-of-that-kind : 5 ≤ x → x ≤ 12 → x ≢ 10 → (r : List ℕ) → HasRecord k file r
-      → KindMayFollow (bytesBefore k file) (kindIn (fields r)) ⊎ (((kindIn (fields r) ≡ 300) × LastDate k file) ⊎ ((kindIn (fields r) ≡ 400) × CoverDone k file))
+      → KindMayFollow (bytesBefore k file) (kindIn (fields r)) ⊎ NoneLeft (kindIn (fields r)) k file
   some-of-that-kind lo hi ne r h =
       let w = refusal-of file x q k i e (λ z. omega arith) .1 in
       let f = first-there file x q k i (omega arith) hi w r h in
@@ -223,26 +237,30 @@ module _ (file : List ℕ) (x q k i : ℕ) (e : checkOf file ≡ refused x q k i
       st = stateAt k file
 
       Found : ℕ → Type 0
-      Found n = KindMayFollow (bytesBefore k file) n ⊎ (((n ≡ 300) × LastDate k file) ⊎ ((n ≡ 400) × CoverDone k file))
+      Found n = KindMayFollow (bytesBefore k file) n ⊎ NoneLeft n k file
 
-      found : Refusal file x q k i → (n : ℕ) → kindIn (fields r) ≡ n → Comes st n → Found (kindIn (fields r))
-      found w n u c = subst Found (sym u) (inl (kind-there file x q k i w n c))
+      shown : Refusal file x q k i → (n : ℕ) → kindIn (fields r) ≡ n → Comes st n → Found (kindIn (fields r))
+      shown w n u c = subst Found (sym u) (inl (kind-there file x q k i w n c))
 
-      go : Refusal file x q k i → (kindIn (fields r) ≢ 400 → Covered st) → Head (st .expect) (kindIn (fields r)) → Found (kindIn (fields r))
-      go w c (h100 u z) = found w 100 u (with-100 st z)
-      go w c (h200 u z) = found w 200 u (with-200 st z (c (λ y. omega arith)))
+      go : Refusal file x q k i → (kindIn (fields r) ≢ 400 → NoneOpen st) → Head (st .expect) (kindIn (fields r)) → Found (kindIn (fields r))
+      go w c (h100 u z) = shown w 100 u (with-100 st z)
+      go w c (h200 u z) = shown w 200 u (with-200 st z (c (λ y. omega arith)))
       go w c (h300 u z) =
           by (ltb (st .date) 21991231)
-          (λ t. found w 300 u (with-300 st z (c (λ y. omega arith)) (ltb-true _ _ t)))
-          (λ t. inr (inl (u, last-date file x q k i w (λ y. (let v : 21991231 ≤ st .date = ltb-false _ _ t in omega arith)))))
+          (λ t. shown w 300 u (with-300 st z (c (λ y. omega arith)) (ltb-true _ _ t)))
+          (λ t.
+          let v : 21991231 ≤ st .date = ltb-false _ _ t in
+          subst Found (sym u) (inr (none-later file x q k i w v, inl (refl, last-date file x q k i w (λ y. omega arith)))))
       go w c (h400 u z) =
           by (leb (st .next) (st .n))
-          (λ t. found w 400 u (with-400 st (sane-at k file (w .clear)) z (leb-true _ _ t)))
-          (λ t. inr (inr (u, cover-done file x q k i w z (leb-false _ _ t))))
-      go w c (h500 u z) = found w 500 u (with-500 st z (c (λ y. omega arith)))
-      go w c (h250 u z) = found w 250 u (with-250 st z)
-      go w c (h550 u z) = found w 550 u (with-550 st z)
-      go w c (h900 u z) = found w 900 u (with-900 st z (c (λ y. omega arith)))
+          (λ t. shown w 400 u (with-400 st (sane-at k file (w .clear)) z (leb-true _ _ t)))
+          (λ t.
+          let v : st .n < st .next = leb-false _ _ t in
+          subst Found (sym u) (inr (none-covers file x q k i w v, inr (refl, cover-done file x q k i w z v))))
+      go w c (h500 u z) = shown w 500 u (with-500 st z (c (λ y. omega arith)))
+      go w c (h250 u z) = shown w 250 u (with-250 st z)
+      go w c (h550 u z) = shown w 550 u (with-550 st z)
+      go w c (h900 u z) = shown w 900 u (with-900 st z (c (λ y. omega arith)))
 
 -- and where it is refused with 4, some other record than a 400 may follow
 pub not-only-a-400 : (file : List ℕ) (q k i : ℕ) → checkOf file ≡ refused 4 q k i → (n : ℕ) × (n ≢ 400) × KindMayFollow (bytesBefore k file) n
@@ -257,7 +275,7 @@ not-only-a-400 file q k i e =
         let f = fault-first st r 4 o i b in
         let m : mayCome (st .expect) (kindIn (fields r)) ≡ false = first-4 st r o i f in
         let g = later-10 st r 4 o i (λ z. omega arith) (λ z. omega arith) f in
-        let c : Covered st = λ v. never-10 st r (g .0) (λ z. true≢false (let y : mayCome (st .expect) 400 ≡ false = (rw z at m) in sym v ∙ y)) v in
+        let c : NoneOpen st = λ v. never-10 st r (g .0) (λ z. true≢false (let y : mayCome (st .expect) 400 ≡ false = (rw z at m) in sym v ∙ y)) v in
         let u = other-comes st (sane-at k file (w .clear)) n c in
         (u .0, u .1, kind-there file 4 q k i w (u .0) (u .2))
     go w (trailing a b d f g) = absurd (let y : ⊥ = omega arith in y)
