@@ -1,16 +1,15 @@
 -- The texts that are written hold bytes that a field may hold, and meet the rules of their fields. Assumes nothing.
-use Prim.Native.Nat.{ℕ, _/_, _%_, _^_, _≤_}
+use Prim.Native.Nat.{ℕ, _/_, _%_, _^_}
 use mathlib.Core.Path.{_≡_, refl}
 use mathlib.Core.Bool.{true, _&&_, false≢true}
 use mathlib.Core.List.{List, [], _∷_}
-use native.Mathlib.Omega.{arith}
-use lib.Dec.{eqb, leb, ltb}
-use borrow.Author.Tests.{ne-eqb, le-leb, leb-true}
+use lib.Dec.{eqb, ltb}
+use borrow.Author.Tests.{ne-eqb}
 use Rattle.ground.specs.Lists.{all}
-use Rattle.ground.specs.Digits.{isDigit, padded, dec}
+use Rattle.ground.specs.Digits.{padded, dec}
 use Rattle.ground.proofs.Tests.{and-true}
 use Rattle.ground.proofs.Cases.{by, same-or}
-use Rattle.ground.proofs.Digits.{all-append, all-padded, all-dec, all-map}
+use Rattle.ground.proofs.Digits.{all-append, all-padded, all-dec}
 use Rattle.format.specs.Bytes.{fieldByte, endSpace, isText}
 use Rattle.format.specs.Texts.{isDescription}
 use Rattle.format.specs.Numbers.{reasonOf, noReason}
@@ -20,23 +19,13 @@ use Rattle.format.specs.Block.{fitQuality, fitReason, fitMark, fractionText, va
 use Rattle.format.proofs.NumberText.{reason-back}
 use Rattle.format.proofs.ValueText.{all-untrail, fraction-none, fraction-some}
 use Rattle.format.proofs.MarkText.{alone-is, quality-alone, quality-graded, quality-back}
+use Rattle.theorems.proofs.Bytes.{digits-bytes}
 use Rattle.shortest.proofs.Shapes.{Marking, said}
 
 -- ---- bytes
 
 abbrev pub Bytes : List ℕ → Type 0
 Bytes s = all fieldByte s ≡ true
-
-digit-byte : (b : ℕ) → isDigit b ≡ true → fieldByte b ≡ true
-unfolding isDigit fieldByte
-digit-byte b h =
-    let w = and-true (leb 48 b) (leb b 57) h in
-    let l : 48 ≤ b = leb-true 48 b (w .0) in
-    let k : b ≤ 57 = leb-true b 57 (w .1) in
-    rw (le-leb 32 b (omega arith), le-leb b 126 (omega arith), ne-eqb b 44 (λ e. omega arith))
-
-digits-bytes : (s : List ℕ) → all isDigit s ≡ true → Bytes s
-digits-bytes s h = all-map isDigit fieldByte digit-byte s h
 
 pub padded-bytes : (k n : ℕ) → Bytes (padded k n)
 padded-bytes k n = digits-bytes (padded k n) (all-padded k n)

@@ -5,11 +5,12 @@ use mathlib.Core.Bool.{true, false, true≢false, _&&_}
 use mathlib.Core.List.{List, [], _∷_, _++_}
 use native.Mathlib.Omega.{arith}
 use lib.Dec.{eqb, leb}
-use borrow.Author.Tests.{eqb-true, ne-eqb, leb-true}
+use borrow.Author.Tests.{eqb-true, ne-eqb, le-leb, leb-true}
 use Rattle.ground.specs.Lists.{all, other}
+use Rattle.ground.specs.Digits.{isDigit}
 use Rattle.ground.proofs.Tests.{and-true}
 use Rattle.ground.proofs.Cases.{by, both}
-use Rattle.ground.proofs.Digits.{all-append, all-map}
+use Rattle.ground.proofs.Digits.{all-append, all-map, digit-range}
 use Rattle.format.specs.Bytes.{plain, fieldByte}
 use Rattle.format.specs.Cut.{isCrlf, line, lines, fields}
 use Rattle.theorems.specs.Grammar.{Each, join}
@@ -70,6 +71,12 @@ byte-plain : (b : ℕ) → fieldByte b ≡ true → plain b ≡ true
 unfolding fieldByte
 byte-plain b h = and-true (plain b) (other 44 b) h .0
 
+digit-field : (b : ℕ) → isDigit b ≡ true → fieldByte b ≡ true
+unfolding fieldByte
+digit-field b h =
+    let w = digit-range b h in
+    rw (le-leb 32 b (omega (arith, w .0)), le-leb b 126 (omega (arith, w .1)), ne-eqb b 44 (λ e. omega (arith, w .0)))
+
 pub fields-join : (f : List ℕ) (fs : List (List ℕ)) → Bytes (f ∷ fs) → fields (join (f ∷ fs)) ≡ f ∷ fs
 unfolding join
 fields-join f [] h = fields-last f (all-map fieldByte (other 44) byte-comma f (h .0))
@@ -82,6 +89,10 @@ unfolding join
 plain-join f [] h = all-map fieldByte plain byte-plain f (h .0)
 plain-join f (g ∷ fs) h =
     all-append plain f (44 ∷ join (g ∷ fs)) (all-map fieldByte plain byte-plain f (h .0)) (plain-join g fs (h .1))
+
+-- digits are bytes that a field may have
+pub digits-bytes : (s : List ℕ) → all isDigit s ≡ true → all fieldByte s ≡ true
+digits-bytes s h = all-map isDigit fieldByte digit-field s h
 
 -- the fields of a record of plain bytes are clean
 pub fields-bytes : (l : List ℕ) → all plain l ≡ true → Bytes (fields l)

@@ -15,8 +15,8 @@ use Rattle.theorems.proofs.Told.{told-file}
 
 pub format : (file : List ℕ) (v c d : ℕ) → (checkOf file ≡ accepted (v ∷ c ∷ d ∷ [])) ↔ InFormat file v c d
 format file v c d = (
-  λ e. (let w = walk-of file (accepted (v ∷ c ∷ d ∷ [])) e (not-accepted 1 0 0 0 _) in told-file file v c d (w .0) (w .1)),
-  λ h. of-walk file (accepted (v ∷ c ∷ d ∷ [])) (h .short) (takes-file file v c d h),
+  λ e. (let w = walk-of file (accepted (v ∷ c ∷ d ∷ [])) e (not-accepted 1 0 0 0 _) in told-file 1048576 file v c d (w .0) (w .1)),
+  λ h. of-walk file (accepted (v ∷ c ∷ d ∷ [])) (h .short) (takes-file 1048576 file v c d h),
 )
 
 -- a file of the settled cases is one: a half-hour V day whose 400s are 1 to 31 of A and 32 to 48 of E52

@@ -10,6 +10,12 @@ pub mod Format
 pub mod Cuts
 pub mod Links
 pub mod Reach
+pub mod Samples
+pub mod Sane
+pub mod Traces
+pub mod Closing
+pub mod Viable
+pub mod Following
 pub mod First
 pub mod Days
 pub mod Once

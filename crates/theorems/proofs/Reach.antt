@@ -127,7 +127,7 @@ refusal-in file x q k i e =
     of-number file x q k i (w .j) (let z : w .j ≡ k = omega (arith, w .number) in z) (w .has) (w .clear) (w .same) (w .why)
 
 -- what a refusal of the check other than 1 says
-refusal-of : (file : List ℕ) (x q k i : ℕ) → checkOf file ≡ refused x q k i → (x ≡ 1 → ⊥) → (length file ≤ 1048576) × Refusal file x q k i
+pub refusal-of : (file : List ℕ) (x q k i : ℕ) → checkOf file ≡ refused x q k i → (x ≡ 1 → ⊥) → (length file ≤ 1048576) × Refusal file x q k i
 refusal-of file x q k i e n =
     let c = walk-of file (refused x q k i) e (λ z. n (let y : x ≡ 1 = cc in y)) in
     (c .0, refusal-in file x q k i (c .1))
@@ -177,10 +177,10 @@ module _ (file : List ℕ) (x q k i : ℕ) (e : checkOf file ≡ refused x q k i
 
   -- ---- locality
 
-  -- what stands behind record k's CR LF plays no part
-  pub locality : 3 ≤ x → x ≤ 12 → (t : List ℕ) → length (take (placeOf (k + 1) file) file ++ t) ≤ 1048576 → checkOf (take (placeOf (k + 1) file) file ++ t) ≡ refused x q k i
+  -- what stands behind record k's CR LF plays no part, however long it is
+  pub stays : 3 ≤ x → x ≤ 12 → (t : List ℕ) → walkOf begun 0 0 (lines (take (placeOf (k + 1) file) file ++ t)) ≡ refused x q k i
   unfolding walkOf
-  locality lo hi t l = let w = there (λ z. omega arith) .1 in of-walk (take (placeOf (k + 1) file) file ++ t) (refused x q k i) l (go w (w .why))
+  stays lo hi t = let w = there (λ z. omega arith) .1 in go w (w .why)
     where
       go : Refusal file x q k i → Why (stateAt k file) (placeOf k file) (past k (lines file)) x q i
           → walkOf begun 0 0 (lines (take (placeOf (k + 1) file) file ++ t)) ≡ refused x q k i
@@ -196,6 +196,9 @@ module _ (file : List ℕ) (x q k i : ℕ) (e : checkOf file ≡ refused x q k i
             d,
           )
       go w (trailing a b d f g) = absurd (let y : ⊥ = omega arith in y)
+
+  pub locality : 3 ≤ x → x ≤ 12 → (t : List ℕ) → length (take (placeOf (k + 1) file) file ++ t) ≤ 1048576 → checkOf (take (placeOf (k + 1) file) file ++ t) ≡ refused x q k i
+  locality lo hi t l = of-walk (take (placeOf (k + 1) file) file ++ t) (refused x q k i) l (stays lo hi t)
 
   -- and so every file that agrees with this one up to there is refused alike
   pub locality-of : 3 ≤ x → x ≤ 12 → (other : List ℕ) → length other ≤ 1048576 → take (placeOf (k + 1) file) other ≡ take (placeOf (k + 1) file) file → checkOf other ≡ refused x q k i

@@ -1,8 +1,8 @@
 -- What the rules of single fields bring with them: a date and a time are not 0, a version is 12 or 13, a 200 has intervals. Assumes nothing.
-use Prim.Native.Nat.{ℕ, _/_, _≤_}
+use Prim.Native.Nat.{ℕ, _/_, _%_, _≤_}
 use mathlib.Core.Path.{_≡_, refl, sym, _∙_}
 use mathlib.Core.Logic.{_⊎_, inl, inr}
-use mathlib.Core.Bool.{Bool, true, false, true≢false, false≢true}
+use mathlib.Core.Bool.{Bool, true, false, true≢false, false≢true, _||_}
 use mathlib.Core.List.{List}
 use native.Mathlib.Omega.{arith}
 use lib.ListN.{length}
@@ -14,12 +14,13 @@ use Rattle.ground.proofs.Tests.{or-other, or-right}
 use Rattle.ground.proofs.Cases.{by}
 use Rattle.format.specs.Texts.{versionOf}
 use Rattle.format.specs.Numbers.{isNumber, numberIn, that, numberOf, smallOf, isLength, lengthOf, intervalsOf}
-use Rattle.format.specs.Dates.{isDay, isDate, isTime, dateOf, timeOf, readTimeOf}
+use Rattle.format.specs.Dates.{isLeap, daysInMonth, isDay, isDate, isTime, dateOf, timeOf, readTimeOf}
 use Rattle.format.specs.Cut.{field}
 use Rattle.format.specs.Records.{rowOf, obeys, versionIn, intervalsIn, dateIn, readTimeIn}
 use Rattle.format.specs.Faults.{onDay}
 use Rattle.format.specs.declared.Number.{Number}
 use Rattle.format.proofs.Numbers.{that-holds}
+use Rattle.format.proofs.Dates.{day-is}
 use Rattle.theorems.specs.Grammar.{Record, IsRecord, Extra}
 use Rattle.theorems.proofs.Rows.{meets-at}
 
@@ -37,6 +38,21 @@ that-some p x z h =
 pub date-some : (n : ℕ) (fs : Record) → IsRecord 300 n fs → 1 ≤ dateIn fs
 unfolding rowOf obeys dateIn dateOf isDate isDay
 date-some n fs h = that-some isDate (numberOf 8 8 (field 1 fs)) refl (meets-at 300 (rowOf 300 n) fs 1 (h .meets) (omega arith))
+
+month-most : (y m : ℕ) → daysInMonth y m ≤ 31
+unfolding daysInMonth
+month-most y m =
+    by (eqb m 2)
+    (λ e. rw e (by (isLeap y) (λ f. rw f (omega arith)) (λ f. rw f (omega arith))))
+    (λ e. rw e (by (eqb m 4 || eqb m 6 || eqb m 9 || eqb m 11) (λ f. rw f (omega arith)) (λ f. rw f (omega arith))))
+
+-- there is a last one
+pub date-most : (n : ℕ) (fs : Record) → IsRecord 300 n fs → dateIn fs ≤ 21991231
+unfolding rowOf obeys dateIn dateOf isDate
+date-most n fs h =
+    let t : ℕ = dateIn fs in
+    let w = day-is (t / 10000) (t / 100 % 100) (t % 100) (that-holds isDate (numberOf 8 8 (field 1 fs)) (meets-at 300 (rowOf 300 n) fs 1 (h .meets) (omega arith))) in
+    omega (arith, w .to, w .last, w .end, month-most (t / 10000) (t / 100 % 100))
 
 -- ---- a 200's intervals
 

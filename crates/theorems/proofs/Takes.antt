@@ -18,7 +18,7 @@ use Rattle.format.specs.Answers.{accepted}
 use Rattle.format.specs.File.{walkOf}
 use Rattle.format.proofs.States.{implied, excluded, not-ended}
 use Rattle.passing.proofs.Fit.{Ok, Fit, fit-fine, free-if, free-400}
-use Rattle.theorems.specs.Grammar.{Each, Rising, Record, join, text, IsRecord, Block, Covers, Extra, IsBlock, datesOf, Channel, IsChannel, Reading, IsReading, Content, nem12, nem13, IsContent, blocksThen, channelsThen, readingsThen, contentThen, channelsIn, blocksIn, daysIn, InFormat}
+use Rattle.theorems.specs.Grammar.{Each, Rising, Record, join, text, IsRecord, Block, Covers, Extra, IsBlock, datesOf, Channel, IsChannel, Reading, IsReading, Content, nem12, nem13, IsContent, blocksThen, channelsThen, readingsThen, contentThen, channelsIn, blocksIn, daysIn, InFormatUpTo}
 use Rattle.theorems.proofs.Bytes.{fields-join, plain-join, lines-row}
 use Rattle.theorems.proofs.Rows.{Fields, record-fields, record-ok}
 use Rattle.theorems.proofs.Says.{date-some, day-on}
@@ -30,21 +30,22 @@ pub fields-of : (fs : Record) → Fields fs → (fields (join fs) ≡ fs) × (al
 fields-of [] h = absurd (let x : 1 ≤ 0 = h .0 in let y : ⊥ = omega arith in y)
 fields-of (f ∷ fs) h = (fields-join f fs (h .1), plain-join f fs (h .1))
 
-abbrev Takes : Due → List Record → ℕ → ℕ → ℕ → Type 0
+-- from the state st on, these records are accepted with v, c and d
+abbrev pub Takes : Due → List Record → ℕ → ℕ → ℕ → Type 0
 Takes st rows v c d = (p k : ℕ) → walkOf st p k (lines (text rows)) ≡ accepted (v ∷ c ∷ d ∷ [])
 
 -- the tests, on the fields
-record Tests (st : Due) (fs : Record) : Type 0 where
-  free : isOpen st (kindIn fs) ≡ false
-  may : mayCome (st .expect) (kindIn fs) ≡ true
-  ok : Ok (kindIn fs) (size st (kindIn fs)) fs
-  rises : isNotLater st (kindIn fs) fs ≡ false
-  cover : isOff st (kindIn fs) fs ≡ false
-  apart : isAlike st (kindIn fs) fs ≡ false
-  day : isElsewhere st (kindIn fs) fs ≡ false
+pub record Tests (st : Due) (fs : Record) : Type 0 where
+  pub free : isOpen st (kindIn fs) ≡ false
+  pub may : mayCome (st .expect) (kindIn fs) ≡ true
+  pub ok : Ok (kindIn fs) (size st (kindIn fs)) fs
+  pub rises : isNotLater st (kindIn fs) fs ≡ false
+  pub cover : isOff st (kindIn fs) fs ≡ false
+  pub apart : isAlike st (kindIn fs) fs ≡ false
+  pub day : isElsewhere st (kindIn fs) fs ≡ false
 
 module _ (st : Due) (fs : Record) (rows : List Record) (v c d : ℕ) where
-  takes-row : Fields fs → Tests st fs → Takes (afterOf st (kindIn fs) fs) rows v c d → Takes st (fs ∷ rows) v c d
+  pub takes-row : Fields fs → Tests st fs → Takes (afterOf st (kindIn fs) fs) rows v c d → Takes st (fs ∷ rows) v c d
   unfolding text walkOf
   takes-row h ps t p k =
       let w = fields-of fs h in
@@ -58,7 +59,7 @@ module _ (st : Due) (fs : Record) (rows : List Record) (v c d : ℕ) where
 ok-of : (st : Due) (fs : Record) (k : ℕ) → kindIn fs ≡ k → Ok k (cond (eqb k 300) (st .n) 0) fs → Ok (kindIn fs) (size st (kindIn fs)) fs
 ok-of st fs k e h = subst (λ (x : ℕ). Ok x (cond (eqb x 300) (st .n) 0) fs) (sym e) h
 
-pass : (st : Due) (fs : Record) (k : ℕ) → IsRecord k 0 fs → (k ≡ 300 → ⊥) → (k ≡ 400 → ⊥) → (k ≡ 500 → ⊥)
+pub pass : (st : Due) (fs : Record) (k : ℕ) → IsRecord k 0 fs → (k ≡ 300 → ⊥) → (k ≡ 400 → ⊥) → (k ≡ 500 → ⊥)
     → mayCome (st .expect) k ≡ true → (inVaried (st .expect) ≡ true → st .n < st .next) → Tests st fs
 unfolding isNotLater isOff isAlike isElsewhere
 pass st fs k h n₃ n₄ n₅ m f =
@@ -73,7 +74,7 @@ pass st fs k h n₃ n₄ n₅ m f =
     }
 
 module _ (st : Due) (fs : Record) where
-  pass-300 : IsRecord 300 (st .n) fs → st .date < dateIn fs → mayCome (st .expect) 300 ≡ true → (inVaried (st .expect) ≡ true → st .n < st .next) → Tests st fs
+  pub pass-300 : IsRecord 300 (st .n) fs → st .date < dateIn fs → mayCome (st .expect) 300 ≡ true → (inVaried (st .expect) ≡ true → st .n < st .next) → Tests st fs
   unfolding isNotLater isOff isAlike isElsewhere
   pass-300 h r m f =
       record {
@@ -86,7 +87,7 @@ module _ (st : Due) (fs : Record) where
         day = rw (h .indicator);
       }
 
-  pass-500 : Extra (st .date) fs → inDay (st .expect) ≡ true → (inVaried (st .expect) ≡ true → st .n < st .next) → Tests st fs
+  pub pass-500 : Extra (st .date) fs → inDay (st .expect) ≡ true → (inVaried (st .expect) ≡ true → st .n < st .next) → Tests st fs
   unfolding isNotLater isOff isAlike isElsewhere
   pass-500 h m f =
       record {
@@ -115,20 +116,21 @@ module _ (st : Due) (fs : Record) where
 
 -- ---- the lists
 
-record Kin (st after : Due) : Type 0 where
-  n : after .n ≡ st .n
-  date : after .date ≡ st .date
-  version : after .version ≡ st .version
-  channels : after .channels ≡ st .channels
-  days : after .days ≡ st .days
+pub record Kin (st after : Due) : Type 0 where
+  pub n : after .n ≡ st .n
+  pub date : after .date ≡ st .date
+  pub version : after .version ≡ st .version
+  pub channels : after .channels ≡ st .channels
+  pub days : after .days ≡ st .days
 
 kin-on : (a b c : Due) → Kin a b → Kin b c → Kin a c
 kin-on a b c x y =
     record { n = y .n ∙ x .n; date = y .date ∙ x .date; version = y .version ∙ x .version; channels = y .channels ∙ x .channels; days = y .days ∙ x .days }
 
-record Full (st : Due) : Type 0 where
-  inside : inDay (st .expect) ≡ true
-  full : inVaried (st .expect) ≡ true → st .n < st .next
+-- where a day may end
+pub record Full (st : Due) : Type 0 where
+  pub inside : inDay (st .expect) ≡ true
+  pub full : inVaried (st .expect) ≡ true → st .n < st .next
 
 takes-extras : (xs rows : List Record) (v c d : ℕ) (st : Due) → Full st → Each (Extra (st .date)) xs
     → ((after : Due) → Kin st after → Full after → Takes after rows v c d) → Takes st (xs ++ rows) v c d
@@ -141,7 +143,7 @@ takes-extras (x ∷ xs) rows v c d st f h g =
     (takes-extras xs rows v c d (on500 st x) (record { inside = refl; full = λ z. absurd (false≢true z) }) (h .1)
     (λ after q. g after (kin-on st (on500 st x) after kin q))))
 
-takes-runs : (rs rows : List Record) (v c d : ℕ) (st : Due) → inVaried (st .expect) ≡ true → 1 ≤ st .next → Each (IsRecord 400 0) rs → Covers (st .n) (st .next) rs
+pub takes-runs : (rs rows : List Record) (v c d : ℕ) (st : Due) → inVaried (st .expect) ≡ true → 1 ≤ st .next → Each (IsRecord 400 0) rs → Covers (st .n) (st .next) rs
     → Apart (st .shared) rs → ((after : Due) → Kin st after → Full after → Takes after rows v c d) → Takes st (rs ++ rows) v c d
 unfolding afterOf alikeWith
 takes-runs [] rows v c d st x o h cv a g =
@@ -240,7 +242,7 @@ takes-readings (r ∷ rs) rows v c d st m s h g =
     (λ after a b o u. takes-readings rs rows v c d after (implied isRead (λ y. mayCome y 250) refl (after .expect) u) (λ z. u) (h .1)
     (λ last e q n. g last (e ∙ a) (omega arith) (omega arith)))))
 
-takes-end : (l : Record) (v c d : ℕ) (st : Due) → IsRecord 900 0 l → mayCome (st .expect) 900 ≡ true → (inVaried (st .expect) ≡ true → st .n < st .next)
+pub takes-end : (l : Record) (v c d : ℕ) (st : Due) → IsRecord 900 0 l → mayCome (st .expect) 900 ≡ true → (inVaried (st .expect) ≡ true → st .n < st .next)
     → v ≡ st .version → c ≡ st .channels → d ≡ st .days → Takes st (l ∷ []) v c d
 unfolding afterOf walkOf lines text
 takes-end l v c d st h m f ev ec ed =
@@ -261,9 +263,10 @@ takes-content (nem13 rs) hd l v c d ev g h ec ed =
     takes-readings rs (l ∷ []) v c d (on100 begun hd) (rw e) (λ z. absurd (let y : 1 ≤ length rs = g .1 in let u : ⊥ = omega arith in u)) (g .2)
     (λ after a b o u. takes-end l v c d after h (implied isRead (λ y. mayCome y 900) refl (after .expect) u) (λ z. excluded isRead inVaried refl (after .expect) u z) (ev ∙ sym a) (omega arith) (omega arith))
 
-pub takes-file : (file : List ℕ) (v c d : ℕ) → InFormat file v c d → walkOf begun 0 0 (lines file) ≡ accepted (v ∷ c ∷ d ∷ [])
+-- whatever the limit of its length
+pub takes-file : (most : ℕ) (file : List ℕ) (v c d : ℕ) → InFormatUpTo most file v c d → walkOf begun 0 0 (lines file) ≡ accepted (v ∷ c ∷ d ∷ [])
 unfolding afterOf
-takes-file file v c d h =
+takes-file most file v c d h =
     let t : Takes begun (h .header ∷ contentThen (h .content) (h .last ∷ [])) v c d =
     takes-row begun (h .header) (contentThen (h .content) (h .last ∷ [])) v c d (record-fields 100 0 (h .header) (h .is-header))
     (pass begun (h .header) 100 (h .is-header) (λ z. omega arith) (λ z. omega arith) (λ z. omega arith) refl (λ z. absurd (false≢true z)))

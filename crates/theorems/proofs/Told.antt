@@ -19,7 +19,7 @@ use Rattle.format.proofs.States.{implied, excluded, only, not-ended}
 use Rattle.passing.proofs.Fit.{Ok, Fit, fit-later, fit-cover, Head, h100, h200, h300, h400, h500, h250, h550, h900, head, free-of}
 use Rattle.passing.proofs.Steps.{after-100, after-200, after-300, after-400, after-500, after-250, after-550, after-900}
 use Rattle.passing.proofs.Walk.{goes, ends}
-use Rattle.theorems.specs.Grammar.{Each, Rising, Record, text, IsRecord, Block, Covers, Extra, IsBlock, datesOf, Channel, IsChannel, Reading, IsReading, nem12, nem13, blocksThen, channelsThen, readingsThen, blocksIn, InFormat}
+use Rattle.theorems.specs.Grammar.{Each, Rising, Record, text, IsRecord, Block, Covers, Extra, IsBlock, datesOf, Channel, IsChannel, Reading, IsReading, nem12, nem13, blocksThen, channelsThen, readingsThen, blocksIn, InFormatUpTo}
 use Rattle.theorems.proofs.Bytes.{join-fields, fields-bytes}
 use Rattle.theorems.proofs.Rows.{Fields, is-record}
 use Rattle.theorems.proofs.Says.{intervals-some, version-13, on-day}
@@ -43,12 +43,12 @@ module _ (st : Due) (p k v c d : ℕ) where
 fit-fields : (st : Due) (r : List ℕ) → Fit st r → Fields (fields r)
 fit-fields st r f = (fields-some r, fields-bytes r (f .bytes))
 
-fit-rec : (st : Due) (r : List ℕ) (k : ℕ) → Fit st r → kindIn (fields r) ≡ k → (k ≡ 0 → ⊥) → (k ≡ 300 → ⊥) → IsRecord k 0 (fields r)
+pub fit-rec : (st : Due) (r : List ℕ) (k : ℕ) → Fit st r → kindIn (fields r) ≡ k → (k ≡ 0 → ⊥) → (k ≡ 300 → ⊥) → IsRecord k 0 (fields r)
 fit-rec st r k f e z n =
     let o : Ok k (cond (eqb k 300) (st .n) 0) (fields r) = subst (λ (x : ℕ). Ok x (cond (eqb x 300) (st .n) 0) (fields r)) e (f .ok) in
     is-record k 0 (fields r) z (fit-fields st r f) e (subst (λ (b : Bool). Ok k (cond b (st .n) 0) (fields r)) (ne-eqb k 300 n) o)
 
-fit-300 : (st : Due) (r : List ℕ) → Fit st r → kindIn (fields r) ≡ 300 → IsRecord 300 (st .n) (fields r) × (st .date < dateIn (fields r))
+pub fit-300 : (st : Due) (r : List ℕ) → Fit st r → kindIn (fields r) ≡ 300 → IsRecord 300 (st .n) (fields r) × (st .date < dateIn (fields r))
 fit-300 st r f e = (
   is-record 300 (st .n) (fields r) (λ z. omega arith) (fit-fields st r f) e (subst (λ (x : ℕ). Ok x (cond (eqb x 300) (st .n) 0) (fields r)) e (f .ok)),
   fit-later st r f e,
@@ -436,9 +436,9 @@ readings-on st p k v c d (line r ls) x e =
     let w = goes st p k r ls (v ∷ c ∷ d ∷ []) e in
     by-250 st (p + length r + 2) (k + 1) v c d r ls (all-told ls v c d) (w .fit) (w .on) (only (st .expect) 250 _ (ap kindsAt x) (w .fit .may))
 
-whole : (v c d : ℕ) (ls : Lines) → length (bytesOf ls) ≤ 1048576 → walkOf begun 0 0 ls ≡ accepted (v ∷ c ∷ d ∷ []) → InFormat (bytesOf ls) v c d
-whole v c d (rest t) m e = absurd (told-open begun 0 0 v c d t refl e)
-whole v c d (line r ls) m e =
+whole : (most v c d : ℕ) (ls : Lines) → length (bytesOf ls) ≤ most → walkOf begun 0 0 ls ≡ accepted (v ∷ c ∷ d ∷ []) → InFormatUpTo most (bytesOf ls) v c d
+whole most v c d (rest t) m e = absurd (told-open begun 0 0 v c d t refl e)
+whole most v c d (line r ls) m e =
     let t = goes begun 0 0 r ls (v ∷ c ∷ d ∷ []) e in
     let q : kindIn (fields r) ≡ 100 = only the100 100 _ refl (t .fit .may) in
     let h : walkOf (on100 begun (fields r)) (0 + length r + 2) (0 + 1) ls ≡ accepted (v ∷ c ∷ d ∷ []) = rw (after-100 begun r q) at (t .on) in
@@ -476,6 +476,7 @@ whole v c d (line r ls) m e =
       days = u .no-days;
     })
 
-pub told-file : (file : List ℕ) (v c d : ℕ) → length file ≤ 1048576 → walkOf begun 0 0 (lines file) ≡ accepted (v ∷ c ∷ d ∷ []) → InFormat file v c d
-told-file file v c d m e =
-    subst (λ (x : List ℕ). InFormat x v c d) (bytes-lines file) (whole v c d (lines file) (rw (bytes-lines file) m) e)
+-- within any limit of its length
+pub told-file : (most : ℕ) (file : List ℕ) (v c d : ℕ) → length file ≤ most → walkOf begun 0 0 (lines file) ≡ accepted (v ∷ c ∷ d ∷ []) → InFormatUpTo most file v c d
+told-file most file v c d m e =
+    subst (λ (x : List ℕ). InFormatUpTo most x v c d) (bytes-lines file) (whole most v c d (lines file) (rw (bytes-lines file) m) e)

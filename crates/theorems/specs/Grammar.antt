@@ -182,8 +182,8 @@ daysIn (nem12 cs) = blocksIn cs
 daysIn (nem13 rs) = 0
 
 -- the file is a NEM12 or NEM13 file of the version v with c channels and d days: "a 100; then [its content]; then a 900 and the end of the file", of at most
--- 1,048,576 bytes
-pub record InFormat (file : List ℕ) (v c d : ℕ) : Type 0 where
+-- so many bytes
+pub record InFormatUpTo (most : ℕ) (file : List ℕ) (v c d : ℕ) : Type 0 where
   pub header : Record
   pub content : Content
   pub last : Record
@@ -191,7 +191,11 @@ pub record InFormat (file : List ℕ) (v c d : ℕ) : Type 0 where
   pub is-content : IsContent v content
   pub is-last : IsRecord 900 0 last
   pub bytes : file ≡ text (header ∷ contentThen content (last ∷ []))
-  pub short : length file ≤ 1048576
+  pub short : length file ≤ most
   pub version : v ≡ versionIn header
   pub channels : c ≡ channelsIn content
   pub days : d ≡ daysIn content
+
+-- of at most 1,048,576 bytes
+abbrev pub InFormat : List ℕ → ℕ → ℕ → ℕ → Type 0
+InFormat file v c d = InFormatUpTo 1048576 file v c d
