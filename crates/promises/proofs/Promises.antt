@@ -1,21 +1,28 @@
 -- What the contract of each public entry promises of a file that is in the format, and where it refuses. Said of what a caller learns of the function, which
 -- the tool makes of the clauses in its source. Assumes nothing.
-use mathlib.Core.Path.{_≡_, sym, ap, _∙_, subst}
+use mathlib.Core.Path.{_≡_, sym, ap, ap₂, _∙_, subst}
 use mathlib.Core.Logic.{_↔_}
-use mathlib.Core.List.{List, [], _∷_}
+use mathlib.Core.Bool.{true}
+use mathlib.Core.List.{List, [], _∷_, _++_, map}
 use Prim.Native.Nat.{ℕ, _≤_, _<_}
 use contract.Lifetimes.{Lfts}
 use borrow.Fn.Kinds.{Dens, resT, endedOf}
 use denote.Triple.Clauses.{AtExit}
 use denote.Ref.{now}
-use lib.ListN.{length}
+use lib.ListN.{length, take, drop}
+use lib.Seq.{take-append-seam}
 use Rattle.format.specs.Answers.{accepted, refused, refusal, checkedAs, dayReadAs, totalledAs, writtenAs}
-use Rattle.format.specs.Day.{Five, five, Outcome, outcome, readOf}
-use Rattle.format.specs.Block.{Given, given, writeOf, roomOf}
+use Rattle.format.specs.File.{most, checkOf}
+use Rattle.format.specs.Day.{Day, Five, five, Outcome, outcome, over, overFive, roomFor, readOf}
+use Rattle.format.specs.Block.{Given, given, dayGiven, blockOf, writeOf, roomOf}
+use Rattle.format.specs.declared.Tag.{Tag}
 use Rattle.theorems.specs.Grammar.{InFormat}
 use Rattle.theorems.specs.First.{GivenTo}
 use Rattle.theorems.proofs.Format.{format}
 use Rattle.theorems.proofs.First.{first}
+use Rattle.shortest.specs.Blocks.{markOf}
+use Rattle.shortest.proofs.Refuses.{writes-exactly}
+use Rattle.shortest.proofs.Theorems.{written-accepted as accepted-with}
 use Rattle.reading.proofs.check.check.Kinds as check-kinds
 use Rattle.reading.proofs.check.check.Reads as check-reads
 use Rattle.reading.proofs.read_day.read_day.Kinds as read-kinds
@@ -97,6 +104,21 @@ module _ (κs : Lfts 7) (a : Dens κs read-kinds.ps) where
 
 -- ---- `write_day`
 
+-- the bytes of a block stand in a file of at most 1,048,576 bytes, which is accepted as NEM12 with one channel and one day; and that day is read as d
+pub record GivenBack (d : Day) (block : List ℕ) : Type 1 where
+  pub file : List ℕ
+  pub before : List ℕ
+  pub after : List ℕ
+  pub bytes : file ≡ before ++ block ++ after
+  pub short : length file ≤ most
+  pub checked : (κs : Lfts 1) (a : Dens κs check-kinds.ps) (x : resT check-kinds.r κs .Denot) (e : AtExit (endedOf 1 check-kinds.ps check-kinds.r) κs) → check-reads.Learnt κs a x e
+      → now (a .0) ≡ file → checkedAs x ≡ accepted (12 ∷ 1 ∷ 1 ∷ [])
+  pub tags : List Tag
+  pub marks : map (markOf file) tags ≡ d .marks
+  pub read : (κs : Lfts 7) (a : Dens κs read-kinds.ps) (x : resT read-kinds.r κs .Denot) (e : AtExit (endedOf 7 read-kinds.ps read-kinds.r) κs) → read-reads.Learnt κs a x e
+      → fileLent κs a ≡ file → dayAsked κs a ≡ 0 → roomFor (d .n) (valuesLent κs a) (marksLent κs a) ≡ true
+      → left κs a x e ≡ outcome (accepted (d .date ∷ d .n ∷ d .update ∷ d .load ∷ [])) (over (d .values) (valuesLent κs a)) (overFive tags (marksLent κs a))
+
 module _ (κs : Lfts 8) (b : Dens κs write-kinds.ps) (y : resT write-kinds.r κs .Denot) (f : AtExit (endedOf 8 write-kinds.ps write-kinds.r) κs) (w : write-reads.Learnt κs b y f) where
   -- what it was called with, and what it left
   abbrev pub handedIn : Given
@@ -127,3 +149,26 @@ module _ (κs : Lfts 8) (b : Dens κs write-kinds.ps) (y : resT write-kinds.r κ
       let z = again (fileLent μs a) v c d h (dayAsked μs a) (valuesLent μs a) (marksLent μs a) date n update load (ap (λ (u : Outcome). u .answer) (sym p) ∙ r) roomLent in
       let s = subst (λ (q : Given). WrittenAgain (dayAsked μs a) (h .content) roomLent (writeOf q (length roomLent)) (roomOf q roomLent)) (sym t) z in
       rw (w .0, w .1) s
+
+  -- what was written stands in a file of at most 1,048,576 bytes that `check` accepts, and of which `read_day` gives the day back that was handed in
+  pub written-accepted : (b r : ℕ) → writtenAs y ≡ accepted (b ∷ r ∷ []) → GivenBack (dayGiven handedIn) (take b roomLeft)
+  unfolding roomOf
+  written-accepted b r q =
+      let d : Day = dayGiven handedIn in
+      let t = writes-exactly handedIn (length roomLent) (b ∷ r ∷ []) .0 (sym (w .0) ∙ q) in
+      let z = accepted-with handedIn (t .0) in
+      let l : b ≡ length (blockOf d) = cc in
+      let n : roomLeft ≡ over (blockOf d) roomLent = w .1 ∙ rw (sym (w .0) ∙ q) in
+      let m : take b roomLeft ≡ blockOf d = rw (n, l) (take-append-seam (blockOf d) (drop (length (blockOf d)) roomLent)) in
+      record {
+        file = z .file;
+        before = z .before;
+        after = z .after;
+        bytes = rw m (z .bytes);
+        short = z .short;
+        checked = λ κ a x e p f. p ∙ ap checkOf f ∙ z .check;
+        tags = z .reads .tags;
+        marks = z .reads .marks;
+        read = λ κ a x e p f g h.
+            p ∙ ap₂ (λ (s : List ℕ) (k : ℕ). readOf s k (valuesLent κ a) (marksLent κ a)) f g ∙ z .reads .answers (valuesLent κ a) (marksLent κ a) h;
+      }
