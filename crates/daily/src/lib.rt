@@ -15,7 +15,6 @@ use phrase::counts::counted;
 use reading::check::check;
 use reading::read_day::read_day;
 use report::output::write;
-use report::refused::explain;
 use report::refused::explained;
 use tables::days::headings;
 use tables::days::row;
@@ -178,7 +177,10 @@ fn block_out(page: &mut [u8], file: &[u8], x: Written, room: &[u8]) {
         Written::Block { bytes, records: _ } => {
             io::write_all(libc::STDOUT_FILENO, part(room, 0, bytes));
         }
-        Written::Refused(y) => explain(page, file, y),
+        Written::Refused(y) => {
+            let p = explained(page, file, y);
+            write(page, p);
+        }
     }
 }
 

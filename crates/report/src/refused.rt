@@ -1,5 +1,4 @@
 // What is said of a refusal: what it means, where it stands, and the record's line with a mark under the place.
-use super::output::write;
 use super::records::Record;
 use super::records::n_before;
 use super::records::record_of;
@@ -92,9 +91,4 @@ pub fn explained(page: &mut [u8], file: &[u8], x: Refusal) -> usize
         return place_text(page, q, file, x, record_of(file, x.place));
     }
     put(page, q, b"")
-}
-
-pub fn explain(page: &mut [u8], file: &[u8], x: Refusal) {
-    let p = explained(page, file, x);
-    write(page, p);
 }

@@ -1,9 +1,8 @@
 // nem totals FILE
-use super::output::say;
 use super::output::write;
 use super::records::days_from;
 use super::records::field;
-use super::refused::explain;
+use super::refused::explained;
 use channel::Channel;
 use channel::ChannelStart;
 use channel::total_noted;
@@ -19,7 +18,8 @@ ghost use Rattle.format.specs.Cut.{fields};
 ghost use Rattle.format.specs.File.{IsAccepted};
 ghost use Rattle.page.specs.Filled.{Filled};
 ghost use Rattle.channel.specs.Places.{ChannelAhead, inside};
-ghost use Rattle.report.specs.Said.{channelRow, channelText};
+ghost use Rattle.tables.specs.Totals.{headings as Totals·headings};
+ghost use Rattle.report.specs.Said.{lineText, channelRow, channelText};
 
 // The numbers of the fields that a channel is known by. The unit stands elsewhere in a 250.
 const NMI: usize = 2;
@@ -29,6 +29,13 @@ const SUFFIX: usize = 5;
 const UNIT_OF_200: usize = 8;
 
 const UNIT_OF_250: usize = 20;
+
+fn headed(page: &mut [u8]) -> usize
+    ensures { λ r. ⌜ Filled (now (page .entry)) 0 (lineText Totals·headings) r (now (page .exit)) ⌝ }
+{
+    let p = headings(page, 0);
+    put(page, p, b"\n")
+}
 
 // The row of channel k, whose record is given.
 fn channel_row(
@@ -100,10 +107,13 @@ pub fn show(page: &mut [u8], file: &[u8]) {
             channels,
             days: _,
         } => {
-            let p = headings(page, 0);
-            say(page, p);
+            let p = headed(page);
+            write(page, p);
             rows(page, file, channels, first);
         }
-        Checked::Refused(x) => explain(page, file, x),
+        Checked::Refused(x) => {
+            let p = explained(page, file, x);
+            write(page, p);
+        }
     }
 }
