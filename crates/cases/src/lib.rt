@@ -1,4 +1,4 @@
-// The probe's cases that hand in a file, check, day and total, or a block on its own. No contract can say what is read, so these functions are proved safe, and
+// The probe's cases that hand in a file, check, day and total, or a block on its own. No contract can say what is read, so those that read are proved safe, and
 // have none; what they answer is put together by `calls`.
 use calls::PLACES;
 use calls::files;
@@ -8,12 +8,17 @@ use input::bytes::Passed;
 use input::bytes::fill_line;
 use input::numbers::head;
 use page::texts::part;
+ghost use mathlib.Core.Path.{_≡_};
+ghost use Prim.Native.Nat.{_-_};
+ghost use lib.ListN.{length, getD};
 
 // The most minutes that an interval length can be handed in as.
 const MINUTES: u64 = 4294967295;
 
 // The last of some numbers, 0 where there is none.
-fn last(numbers: &[u64]) -> u64 {
+fn last(numbers: &[u64]) -> u64
+    ensures { λ r. ⌜ r ≡ getD (now (numbers .entry)) (length (now (numbers .entry)) - 1) 0 ⌝ }
+{
     let n = numbers.len();
     if n == 0 {
         return 0;

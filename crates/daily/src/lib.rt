@@ -1,5 +1,5 @@
-// A day of a file on standard output, as a table or as its shortest block. No contract can say what is written, so these functions are proved safe, and
-// have none; what they write is put together by functions that have one.
+// A day of a file on standard output, as a table or as its shortest block. What is shown is put together on a page by functions that have contracts. No
+// contract can say what is written, so those that write the page out are proved safe, and have none.
 use format::Checked;
 use format::DayHead;
 use format::DayRead;
@@ -14,12 +14,16 @@ use page::texts::put;
 use phrase::counts::counted;
 use reading::check::check;
 use reading::read_day::read_day;
-use report::output::say;
-use report::refused::explain;
+use report::output::write;
+use report::refused::explained;
 use tables::days::headings;
 use tables::days::row;
 use tables::days::title;
 use writing::write_day;
+ghost use mathlib.Core.Path.{_≡_};
+ghost use Rattle.format.specs.File.{checkOf};
+ghost use Rattle.page.specs.Filled.{Filled};
+ghost use Rattle.daily.specs.Shown.{daysThere, noDay, noDayText, refusedText, textAt, intervalRow, topText, minutesOf};
 
 const MOST: usize = 288;
 
@@ -34,7 +38,9 @@ pub enum Wanted {
 // ---- refused
 
 // How many days there are to ask for.
-fn days_there(page: &mut [u8], at: usize, days: usize) -> usize {
+fn days_there(page: &mut [u8], at: usize, days: usize) -> usize
+    ensures { λ r. ⌜ Filled (now (page .entry)) at (daysThere days) r (now (page .exit)) ⌝ }
+{
     if days == 0 {
         return put(page, at, b"none");
     }
@@ -42,37 +48,56 @@ fn days_there(page: &mut [u8], at: usize, days: usize) -> usize {
     put(page, p, b", numbered from 0")
 }
 
-fn no_day(page: &mut [u8], days: usize) {
+fn no_day(page: &mut [u8], days: usize) -> usize
+    ensures { λ r. ⌜ Filled (now (page .entry)) 0 (noDay days) r (now (page .exit)) ⌝ }
+{
     let p = put(page, 0, b"refused: 14, no such day: the file has ");
     let q = days_there(page, p, days);
-    say(page, q);
+    put(page, q, b"\n")
 }
 
-fn refuse(page: &mut [u8], file: &[u8], x: Refusal) {
-    if x.number != 14 {
-        explain(page, file, x);
-        return;
-    }
-    match check(file) {
+fn no_day_in(page: &mut [u8], file: &[u8]) -> usize
+    ensures { λ r. ⌜ Filled (now (page .entry)) 0 (noDayText (now (file .entry)) (checkOf (now (file .entry)))) r (now (page .exit)) ⌝ }
+{
+    let x = check(file);
+    match x {
         Checked::Accepted {
             version: _,
             channels: _,
             days,
         } => no_day(page, days),
-        Checked::Refused(y) => explain(page, file, y),
+        Checked::Refused(y) => explained(page, file, y),
     }
+}
+
+// Why there is no day; of 14, which days there are too.
+fn refused(page: &mut [u8], file: &[u8], x: Refusal) -> usize
+    ensures { λ r. ⌜ Filled (now (page .entry)) 0 (refusedText (now (file .entry)) x) r (now (page .exit)) ⌝ }
+{
+    if x.number != 14 {
+        return explained(page, file, x);
+    }
+    no_day_in(page, file)
+}
+
+fn refuse(page: &mut [u8], file: &[u8], x: Refusal) {
+    let p = refused(page, file, x);
+    write(page, p);
 }
 
 // ---- the table
 
-// The bytes of the file from a place on, none where it has no such part.
-fn text_at(file: &[u8], from: usize, n: usize) -> &[u8] {
-    if from <= file.len() {
-        if n <= file.len() - from {
-            return part(file, from, from + n);
-        }
+// The n bytes of the file from a place on, none where it has no such part.
+fn text_at(file: &[u8], from: usize, n: usize) -> &[u8]
+    ensures { λ r. ⌜ now r ≡ textAt (now (file .entry)) from n ⌝ }
+{
+    if file.len() < from {
+        return &file[..0];
     }
-    part(file, 0, 0)
+    if file.len() - from < n {
+        return &file[..0];
+    }
+    part(file, from, from + n)
 }
 
 // Interval i of the lists.
@@ -87,7 +112,9 @@ fn interval(
     reasons: &[u16],
     starts: &[usize],
     lengths: &[usize],
-) {
+) -> usize
+    ensures { λ r. ⌜ Filled (now (page .entry)) 0 (intervalRow (now (file .entry)) i n (now (values .entry)) (now (flags .entry)) (now (methods .entry)) (now (reasons .entry)) (now (starts .entry)) (now (lengths .entry))) r (now (page .exit)) ⌝ }
+{
     let k = i as u64 % 288 + 1;
     let text = text_at(file, usize_at(starts, i), usize_at(lengths, i));
     let p = row(
@@ -101,7 +128,7 @@ fn interval(
         u16_at(reasons, i),
         text,
     );
-    say(page, p);
+    put(page, p, b"\n")
 }
 
 fn intervals(
@@ -117,7 +144,7 @@ fn intervals(
 ) {
     let mut i: usize = 0;
     while i < n {
-        interval(
+        let p = interval(
             page,
             file,
             i,
@@ -129,15 +156,18 @@ fn intervals(
             starts,
             lengths,
         );
+        write(page, p);
         i += 1;
     }
 }
 
-fn top(page: &mut [u8], day: DayHead, n: usize) {
+fn top(page: &mut [u8], day: DayHead, n: usize) -> usize
+    ensures { λ r. ⌜ Filled (now (page .entry)) 0 (topText day n) r (now (page .exit)) ⌝ }
+{
     let p = title(page, 0, day, n);
-    say(page, p);
-    let q = headings(page, 0);
-    say(page, q);
+    let q = put(page, p, b"\n");
+    let r = headings(page, q);
+    put(page, r, b"\n")
 }
 
 // ---- the block
@@ -147,7 +177,10 @@ fn block_out(page: &mut [u8], file: &[u8], x: Written, room: &[u8]) {
         Written::Block { bytes, records: _ } => {
             io::write_all(libc::STDOUT_FILENO, part(room, 0, bytes));
         }
-        Written::Refused(y) => explain(page, file, y),
+        Written::Refused(y) => {
+            let p = explained(page, file, y);
+            write(page, p);
+        }
     }
 }
 
@@ -206,7 +239,9 @@ fn block(
 // ---- the day
 
 // The minutes of an interval, n of which make a day.
-fn minutes(n: usize) -> u32 {
+fn minutes(n: usize) -> u32
+    ensures { λ r. ⌜ r ≡ minutesOf n ⌝ }
+{
     match n {
         288 => 5,
         96 => 15,
@@ -229,7 +264,8 @@ fn day_shown(
 ) {
     match wanted {
         Wanted::Table => {
-            top(page, day, n);
+            let p = top(page, day, n);
+            write(page, p);
             intervals(
                 page,
                 file,

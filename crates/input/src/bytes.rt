@@ -1,5 +1,9 @@
 // Bytes of standard input. Bytes at..end of the buffer are read and not yet used.
+use super::byte;
 use page::texts::part;
+use page::texts::put;
+ghost use mathlib.Core.Path.{_≡_};
+ghost use Rattle.input.specs.Taking.{heldOf, expectedOf, behindOf};
 
 pub struct Cursor {
     pub at: usize,
@@ -17,71 +21,45 @@ pub enum Passed {
     Bad,
 }
 
-// The next byte, with the buffer filled anew where it is used up.
-pub fn next(buf: &mut [u8], c: Cursor) -> Taken {
+// The byte at the cursor, where the buffer holds one that is not yet used.
+fn held(buf: &[u8], c: Cursor) -> Taken
+    ensures { λ r. ⌜ r ≡ heldOf (now (buf .entry)) c ⌝ }
+{
     let at = c.at;
     let end = c.end;
-    if at < end {
-        if at < buf.len() {
-            return Taken::Byte(
-                buf[at],
-                Cursor {
-                    at: at + 1,
-                    end: end,
-                },
-            );
-        }
+    if end <= at {
+        return Taken::Ended;
+    }
+    if buf.len() <= at {
+        return Taken::Ended;
+    }
+    Taken::Byte(buf[at], Cursor { at: at + 1, end })
+}
+
+// The next byte, with the buffer filled anew where it is used up.
+pub fn next(buf: &mut [u8], c: Cursor) -> Taken {
+    let t = held(buf, c);
+    if let Taken::Byte(b, after) = t {
+        return Taken::Byte(b, after);
     }
     let got = libc::read(libc::STDIN_FILENO, buf);
     let n = io::count(got, buf);
-    if n == 0 {
-        return Taken::Ended;
-    }
-    Taken::Byte(buf[0], Cursor { at: 1, end: n })
+    held(buf, Cursor { at: 0, end: n })
 }
 
-// The byte, and no other.
-pub fn byte(buf: &mut [u8], c: Cursor, expected: u8) -> Passed {
-    match next(buf, c) {
+// Behind a byte, if it is the one that is expected.
+pub fn expected(t: Taken, sign: u8) -> Passed
+    ensures { λ r. ⌜ r ≡ expectedOf sign t ⌝ }
+{
+    match t {
         Taken::Byte(b, after) => {
-            if b == expected {
+            if b == sign {
                 return Passed::To(after);
             }
             Passed::Bad
         }
         Taken::Ended => Passed::Bad,
     }
-}
-
-// The text, and no other.
-pub fn text(buf: &mut [u8], c: Cursor, expected: &[u8]) -> Passed {
-    let mut now = c;
-    let mut i: usize = 0;
-    while i < expected.len() {
-        match byte(buf, now, expected[i]) {
-            Passed::To(after) => {
-                now = after;
-            }
-            Passed::Bad => {
-                return Passed::Bad;
-            }
-        }
-        i += 1;
-    }
-    Passed::To(now)
-}
-
-// Bytes to the start of a list, as many as it has places for: how many.
-fn copy(from: &[u8], to: &mut [u8]) -> usize {
-    let mut i: usize = 0;
-    while i < from.len() {
-        if to.len() <= i {
-            return i;
-        }
-        to[i] = from[i];
-        i += 1;
-    }
-    i
 }
 
 // One read behind the first n bytes of the list: how many bytes it has then.
@@ -96,24 +74,24 @@ fn more(to: &mut [u8], n: usize) -> usize {
 }
 
 // The cursor behind n bytes that the buffer held.
-fn behind(c: Cursor, n: usize) -> Cursor {
+fn behind(c: Cursor, n: usize) -> Cursor
+    ensures { λ r. ⌜ r ≡ behindOf c n ⌝ }
+{
     let at = c.at;
     let end = c.end;
-    if at < end {
-        if n <= end - at {
-            return Cursor {
-                at: at + n,
-                end: end,
-            };
-        }
+    if end <= at {
+        return Cursor { at: 0, end: 0 };
     }
-    Cursor { at: 0, end: 0 }
+    if end - at < n {
+        return Cursor { at: 0, end: 0 };
+    }
+    Cursor { at: at + n, end }
 }
 
 // Fills the list, past the buffer where that is used up.
 fn fill(buf: &[u8], c: Cursor, to: &mut [u8]) -> Passed {
-    let held = copy(part(buf, c.at, c.end), to);
-    let mut n = held;
+    let first = put(to, 0, part(buf, c.at, c.end));
+    let mut n = first;
     while n < to.len() {
         let k = more(to, n);
         if k <= n {
@@ -121,7 +99,7 @@ fn fill(buf: &[u8], c: Cursor, to: &mut [u8]) -> Passed {
         }
         n = k;
     }
-    Passed::To(behind(c, held))
+    Passed::To(behind(c, first))
 }
 
 // The first n places of the list, and the line's end behind them.

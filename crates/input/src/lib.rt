@@ -1,12 +1,35 @@
-// Standard input, byte by byte, in stretches, and as numbers. No contract can say what is read, so these functions are proved safe, and have none.
+// Standard input, byte by byte, in stretches, and as numbers. How bytes are taken is decided by functions that have contracts. No contract can say what is
+// read, so those that read are proved safe, and have none.
 pub mod bytes;
 pub mod numbers;
 
 use bytes::Cursor;
+use bytes::Passed;
+use bytes::expected;
+use bytes::next;
 
 // What a case of the probe has come to: answered, with the input behind it and the page's place behind its answer; there was none; or it was no case.
 pub enum Going {
     On(Cursor, usize),
     Ended,
     Bad,
+}
+
+// The byte, and no other.
+fn byte(buf: &mut [u8], c: Cursor, sign: u8) -> Passed {
+    expected(next(buf, c), sign)
+}
+
+// The text, and no other.
+fn text(buf: &mut [u8], c: Cursor, signs: &[u8]) -> Passed {
+    let mut now = c;
+    let mut i: usize = 0;
+    while i < signs.len() {
+        let Passed::To(after) = byte(buf, now, signs[i]) else {
+            return Passed::Bad;
+        };
+        now = after;
+        i += 1;
+    }
+    Passed::To(now)
 }

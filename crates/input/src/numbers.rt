@@ -1,10 +1,12 @@
 // Numbers on standard input: decimal, without sign.
+use super::byte;
 use super::bytes::Cursor;
 use super::bytes::Passed;
 use super::bytes::Taken;
-use super::bytes::byte;
 use super::bytes::next;
-use super::bytes::text;
+use super::text;
+ghost use mathlib.Core.Path.{_≡_};
+ghost use Rattle.input.specs.Taking.{grownOf, endAfter};
 
 // Nothing says that a number ends, so the loop over its digits has a count that falls.
 const TURNS: u64 = 18446744073709551615;
@@ -23,7 +25,9 @@ enum Grown {
 }
 
 // The number that v writes with one more digit.
-fn with_digit(v: u64, digit: u8) -> Grown {
+fn with_digit(v: u64, digit: u8) -> Grown
+    ensures { λ r. ⌜ r ≡ grownOf v digit ⌝ }
+{
     if digit < 48 {
         return Grown::Bad;
     }
@@ -77,11 +81,14 @@ fn number(buf: &mut [u8], c: Cursor, end: u8) -> Counted {
 }
 
 // The byte behind number i of n.
-fn end_at(i: usize, n: usize, last: u8) -> u8 {
-    if i < n {
-        if i + 1 < n {
-            return b' ';
-        }
+fn end_at(i: usize, n: usize, last: u8) -> u8
+    ensures { λ r. ⌜ r ≡ endAfter i n last ⌝ }
+{
+    if n <= i {
+        return last;
+    }
+    if i + 1 < n {
+        return b' ';
     }
     last
 }

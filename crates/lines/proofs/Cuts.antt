@@ -7,6 +7,7 @@ use native.Mathlib.Omega.{arith}
 use native.Mathlib.Decide.{decLt}
 use lib.ListN.{length, take, drop, List·getD-eq-default}
 use lib.Seq.{getD-drop}
+use borrow.Author.Tests.{lt-ltb, le-ltb}
 use Rattle.ground.specs.Lists.{spanOf, other, part}
 use Rattle.ground.proofs.Spans.{span-le, part-length, part-drop, part-take}
 use Rattle.format.specs.Cut.{fields, field, startOf}
@@ -36,6 +37,8 @@ module _ (file : List ℕ) (a e n : ℕ) (le : a ≤ e) (within : e ≤ length f
       let d : drop (n + 1) (part file a e) ≡ part file (a + n + 1) e =
       (let m : a + (n + 1) ≡ a + n + 1 = omega arith in rw (part-drop file a e (n + 1) (omega arith), m)) in
       record {
+        to = ap (λ (z : ℕ). a + z) en;
+        next = rw (lt-ltb _ _ h);
         order = omega arith;
         on = omega arith;
         ends = omega arith;
@@ -52,6 +55,8 @@ module _ (file : List ℕ) (a e n : ℕ) (le : a ≤ e) (within : e ≤ length f
   cut-last h =
       let eq : spanOf (other 44) (part file a e) ≡ length (part file a e) = omega (arith, part-length file a e within, short) in
       record {
+        to = ap (λ (z : ℕ). a + z) en;
+        next = rw (le-ltb _ _ h);
         order = omega arith;
         on = omega (arith, short);
         ends = omega arith;

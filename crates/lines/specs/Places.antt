@@ -5,6 +5,7 @@ use mathlib.Core.Path.{_≡_}
 use mathlib.Core.List.{List, [], _∷_}
 use mathlib.Core.Bool.{cond}
 use lib.ListN.{length, take, drop}
+use lib.Dec.{ltb}
 use Rattle.ground.specs.Lists.{spanOf, other, part}
 use Rattle.format.specs.Bytes.{plain}
 use Rattle.format.specs.Cut.{isCrlf, fields, field, startOf}
@@ -47,9 +48,12 @@ pub record Stops (file : List ℕ) (a e m : ℕ) : Type 0 where
   pub room : m ≤ e - a
   pub span : spanOf (other 44) (part file a e) ≤ m
 
--- in a record that ends at e, the field at a ends at b and the next one starts at x; x is e where no comma follows. A field that is not there
--- reads as an empty one, so nobody has to know how many there are.
+-- in a record that ends at e, the field at a ends at b, which is the first comma or e, and the next one starts at x, behind that comma; x is e where
+-- there is none. The rest follows: what that field is, and the fields behind it. One that is not there reads as an empty one, so nobody has to know how
+-- many there are.
 pub record Cut (file : List ℕ) (a e b x : ℕ) : Type 0 where
+  pub to : b ≡ a + spanOf (other 44) (part file a e)
+  pub next : x ≡ cond (ltb b e) (b + 1) e
   pub order : a ≤ b
   pub on : b ≤ x
   pub ends : x ≤ e

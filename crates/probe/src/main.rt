@@ -1,6 +1,4 @@
 // Answers the cases on standard input, one after the other, so that each public entry can be driven with any bytes.
-mod out;
-
 use cases::block_case;
 use cases::check_case;
 use cases::day_case;
@@ -9,10 +7,28 @@ use input::Going;
 use input::bytes::Cursor;
 use input::bytes::Taken;
 use input::bytes::next;
+use page::texts::part;
+use page::texts::put;
 use sheet::write_case;
 
 // Nothing says that the input ends, so the loop over its cases has a count that falls.
 const TURNS: u64 = 18446744073709551615;
+
+// What is put on the page is written out where so much of it stands there: the longest line, a day's, is shorter than the rest.
+const FULL: usize = 32768;
+
+fn write(page: &[u8], at: usize) {
+    io::write_all(libc::STDOUT_FILENO, part(page, 0, at));
+}
+
+// The place to go on from: the page's start, where the page was written out.
+fn make_room(page: &[u8], at: usize) -> usize {
+    if at < FULL {
+        return at;
+    }
+    write(page, at);
+    0
+}
 
 // The next case, told by its first byte.
 fn case(buf: &mut [u8], c: Cursor, file: &mut [u8], page: &mut [u8], at: usize) -> Going {
@@ -30,8 +46,8 @@ fn case(buf: &mut [u8], c: Cursor, file: &mut [u8], page: &mut [u8], at: usize) 
 }
 
 fn bad_case(page: &mut [u8], at: usize) {
-    let p = page::texts::put(page, at, b"bad case\n");
-    out::write(page, p);
+    let p = put(page, at, b"bad case\n");
+    write(page, p);
 }
 
 fn run(buf: &mut [u8], file: &mut [u8], page: &mut [u8]) {
@@ -43,10 +59,10 @@ fn run(buf: &mut [u8], file: &mut [u8], page: &mut [u8]) {
         match case(buf, c, file, page, at) {
             Going::On(next, place) => {
                 c = next;
-                at = out::make_room(page, place);
+                at = make_room(page, place);
             }
             Going::Ended => {
-                out::write(page, at);
+                write(page, at);
                 return;
             }
             Going::Bad => {

@@ -1,79 +1,94 @@
 // What is said of a refusal: what it means, where it stands, and the record's line with a mark under the place.
-use super::output::say;
 use super::records::Record;
+use super::records::n_before;
 use super::records::record_of;
 use format::Refusal;
 use page::texts::part;
+use page::texts::put;
 use refusals::counts;
 use refusals::excerpts::excerpt;
 use refusals::excerpts::mark;
 use refusals::headline;
 use refusals::places::whereabouts;
 use rows::count_of;
-
-const MOST: usize = 288;
+ghost use mathlib.Core.Path.{_≡_};
+ghost use Prim.Native.Nat.{_-_};
+ghost use Rattle.page.specs.Filled.{Filled};
+ghost use Rattle.report.specs.Said.{hasPlace, markedText, shownLine, countsLine, placeText, explanation};
 
 // Whether the number comes with a place in the file.
-fn has_place(number: u64) -> bool {
+fn has_place(number: u64) -> bool
+    ensures { λ r. ⌜ r ≡ hasPlace number ⌝ }
+{
     if number < 2 {
         return false;
     }
     number < 14
 }
 
-// How many fields a record of the kind has to have, where a 300 has n values.
-fn asked(kind: u64, n: usize) -> usize {
-    if MOST < n {
-        return 0;
-    }
-    count_of(kind, n)
-}
-
 // How many fields there are and have to be, where that is what is wrong.
-fn fields_said(page: &mut [u8], record: Record, number: u64) {
-    if number != 5 {
-        return;
+fn counts_line(page: &mut [u8], at: usize, file: &[u8], x: Refusal, r: Record) -> usize
+    ensures { λ p. ⌜ Filled (now (page .entry)) at (countsLine (now (file .entry)) x r) p (now (page .exit)) ⌝ }
+{
+    if x.number != 5 {
+        return put(page, at, b"");
     }
-    let p = counts(page, 0, record.count, asked(record.kind, record.n));
-    say(page, p);
+    let p = counts(page, at, r.count, count_of(r.kind, n_before(file, x.place)));
+    put(page, p, b"\n")
 }
 
-fn line_said(page: &mut [u8], line: &[u8], column: usize) {
-    let p = excerpt(page, 0, line, column);
-    say(page, p);
-    let q = mark(page, 0, column);
-    say(page, q);
+fn marked(page: &mut [u8], at: usize, line: &[u8], column: usize) -> usize
+    ensures { λ r. ⌜ Filled (now (page .entry)) at (markedText (now (line .entry)) column) r (now (page .exit)) ⌝ }
+{
+    let p = excerpt(page, at, line, column);
+    let q = put(page, p, b"\n");
+    let r = mark(page, q, column);
+    put(page, r, b"\n")
+}
+
+// The line, where there is something of it.
+fn shown_line(page: &mut [u8], at: usize, line: &[u8], column: usize) -> usize
+    ensures { λ r. ⌜ Filled (now (page .entry)) at (shownLine (now (line .entry)) column) r (now (page .exit)) ⌝ }
+{
+    if line.len() == 0 {
+        return put(page, at, b"");
+    }
+    marked(page, at, line, column)
 }
 
 // Where a place stands in the record that starts at another.
-fn column_of(start: usize, place: usize) -> usize {
+fn column_of(start: usize, place: usize) -> usize
+    ensures { λ r. ⌜ r ≡ place - start ⌝ }
+{
     if place < start {
         return 0;
     }
     place - start
 }
 
-// The line, where there is something of it.
-fn line_shown(page: &mut [u8], file: &[u8], record: Record, place: usize) {
-    let line = part(file, record.start, record.end);
-    if line.len() == 0 {
-        return;
-    }
-    line_said(page, line, column_of(record.start, place));
+// Where a refusal stands, which is in the record r.
+fn place_text(page: &mut [u8], at: usize, file: &[u8], x: Refusal, r: Record) -> usize
+    ensures { λ p. ⌜ Filled (now (page .entry)) at (placeText (now (file .entry)) x r) p (now (page .exit)) ⌝ }
+{
+    let p = whereabouts(page, at, x, r.kind, r.count);
+    let q = put(page, p, b"\n");
+    let s = counts_line(page, q, file, x, r);
+    shown_line(
+        page,
+        s,
+        part(file, r.start, r.end),
+        column_of(r.start, x.place),
+    )
 }
 
-fn place_shown(page: &mut [u8], file: &[u8], x: Refusal) {
-    let record = record_of(file, x.place, x.number);
-    let p = whereabouts(page, 0, x, record.kind, record.count);
-    say(page, p);
-    fields_said(page, record, x.number);
-    line_shown(page, file, record, x.place);
-}
-
-pub fn explain(page: &mut [u8], file: &[u8], x: Refusal) {
+// All that is said of a refusal.
+pub fn explained(page: &mut [u8], file: &[u8], x: Refusal) -> usize
+    ensures { λ r. ⌜ Filled (now (page .entry)) 0 (explanation (now (file .entry)) x) r (now (page .exit)) ⌝ }
+{
     let p = headline(page, 0, x.number);
-    say(page, p);
+    let q = put(page, p, b"\n");
     if has_place(x.number) {
-        place_shown(page, file, x);
+        return place_text(page, q, file, x, record_of(file, x.place));
     }
+    put(page, q, b"")
 }

@@ -1,22 +1,25 @@
 // nem totals FILE
-use super::output::say;
+use super::output::write;
+use super::records::days_from;
 use super::records::field;
-use super::refused::explain;
+use super::refused::explained;
 use channel::Channel;
 use channel::ChannelStart;
 use channel::total_noted;
 use format::Checked;
 use format::Totalled;
-use lines::line_end;
 use page::texts::part;
+use page::texts::put;
 use reading::tour::check_and_note;
-use says::kind_at;
 use tables::totals::headings;
 use tables::totals::row;
-ghost use Prim.Native.Nat.{_≤_};
-ghost use lib.ListN.{length};
+ghost use Prim.Native.Nat.{_-_};
+ghost use Rattle.format.specs.Cut.{fields};
 ghost use Rattle.format.specs.File.{IsAccepted};
+ghost use Rattle.page.specs.Filled.{Filled};
 ghost use Rattle.channel.specs.Places.{ChannelAhead, inside};
+ghost use Rattle.tables.specs.Totals.{headings as Totals·headings};
+ghost use Rattle.report.specs.Said.{lineText, channelRow, channelText};
 
 // The numbers of the fields that a channel is known by. The unit stands elsewhere in a 250.
 const NMI: usize = 2;
@@ -27,30 +30,24 @@ const UNIT_OF_200: usize = 8;
 
 const UNIT_OF_250: usize = 20;
 
-// How many 300s stand from a place on, up to the next 200.
-fn days_from(file: &[u8], start: usize) -> usize
-    requires { ⌜ start ≤ length (now file) ⌝ }
+fn headed(page: &mut [u8]) -> usize
+    ensures { λ r. ⌜ Filled (now (page .entry)) 0 (lineText Totals·headings) r (now (page .exit)) ⌝ }
 {
-    let mut at = start;
-    let mut days: usize = 0;
-    loop {
-        let end = line_end(file, at);
-        if end == file.len() {
-            return days;
-        }
-        let kind = kind_at(file, at, end);
-        if kind == 200 {
-            return days;
-        }
-        at = end + 2;
-        if kind == 300 {
-            days = std::num::wrapping_add_usize(days, 1);
-        }
-    }
+    let p = headings(page, 0);
+    put(page, p, b"\n")
 }
 
 // The row of channel k, whose record is given.
-fn known(page: &mut [u8], k: usize, record: &[u8], unit: usize, days: usize, total: Totalled) {
+fn channel_row(
+    page: &mut [u8],
+    k: usize,
+    record: &[u8],
+    unit: usize,
+    days: usize,
+    total: Totalled,
+) -> usize
+    ensures { λ r. ⌜ Filled (now (page .entry)) 0 (channelRow k (fields (now («record» .entry))) (unit - 1) days total) r (now (page .exit)) ⌝ }
+{
     let p = row(
         page,
         0,
@@ -61,15 +58,16 @@ fn known(page: &mut [u8], k: usize, record: &[u8], unit: usize, days: usize, tot
         days,
         total,
     );
-    say(page, p);
+    put(page, p, b"\n")
 }
 
 // The row of channel k, which stands at a place of the file.
-fn placed(page: &mut [u8], file: &[u8], k: usize, place: Channel, total: Totalled)
+fn placed(page: &mut [u8], file: &[u8], k: usize, place: Channel, total: Totalled) -> usize
     requires { ⌜ inside (now file) place ⌝ }
+    ensures { λ r. ⌜ Filled (now (page .entry)) 0 (channelText (now (file .entry)) k place total) r (now (page .exit)) ⌝ }
 {
     match place {
-        Channel::Days(a, e) => known(
+        Channel::Days(a, e) => channel_row(
             page,
             k,
             part(file, a, e),
@@ -77,8 +75,8 @@ fn placed(page: &mut [u8], file: &[u8], k: usize, place: Channel, total: Totalle
             days_from(file, e + 2),
             total,
         ),
-        Channel::Quantity(a, e) => known(page, k, part(file, a, e), UNIT_OF_250, 0, total),
-        Channel::Missing => {}
+        Channel::Quantity(a, e) => channel_row(page, k, part(file, a, e), UNIT_OF_250, 0, total),
+        Channel::Missing => put(page, 0, b""),
     }
 }
 
@@ -92,7 +90,8 @@ fn rows(page: &mut [u8], file: &[u8], channels: usize, first: ChannelStart)
         let t = total_noted(file, k, from);
         let place = t.place;
         let total = t.answer;
-        placed(page, file, k, place, total);
+        let p = placed(page, file, k, place, total);
+        write(page, p);
         from = t.next;
         k += 1;
     }
@@ -108,10 +107,13 @@ pub fn show(page: &mut [u8], file: &[u8]) {
             channels,
             days: _,
         } => {
-            let p = headings(page, 0);
-            say(page, p);
+            let p = headed(page);
+            write(page, p);
             rows(page, file, channels, first);
         }
-        Checked::Refused(x) => explain(page, file, x),
+        Checked::Refused(x) => {
+            let p = explained(page, file, x);
+            write(page, p);
+        }
     }
 }

@@ -1,1 +1,2 @@
 mod Long
+mod Sheets

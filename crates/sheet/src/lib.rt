@@ -1,5 +1,6 @@
 // The probe's case that hands in a day to be written: its first line, its six lists and its text are read from standard input, the day is lent to the
-// call, and the block is written out behind its answer. No contract can say what is read or written, so these functions are proved safe, and have none.
+// call, and the block is written out behind its answer. What the numbers mean is said by functions that have contracts. No contract can say what is read or
+// written, so those that do it are proved safe, and have none.
 mod lists;
 
 use calls::PLACES;
@@ -18,7 +19,9 @@ use lists::bytes_of;
 use lists::halves_of;
 use lists::sizes_of;
 use page::texts::part;
+ghost use mathlib.Core.Path.{_≡_};
 ghost use Prim.Native.Nat.{_≤_};
+ghost use Rattle.sheet.specs.Sheets.{sheetOf, canBe, dayOf, placesOf, leastOf, stretchOf, areNarrow};
 
 // Six lists, one behind the other.
 const ALL_PLACES: usize = 1800;
@@ -43,7 +46,9 @@ struct Sheet {
     text: usize,
 }
 
-fn sheet_of(n: [u64; 12]) -> Sheet {
+fn sheet_of(n: [u64; 12]) -> Sheet
+    ensures { λ r. ⌜ r ≡ sheetOf n ⌝ }
+{
     Sheet {
         date: n[0],
         length: n[1],
@@ -61,7 +66,9 @@ fn sheet_of(n: [u64; 12]) -> Sheet {
 }
 
 // Whether each number is one that the interface, or the case, can hold.
-fn can_be(s: Sheet) -> bool {
+fn can_be(s: Sheet) -> bool
+    ensures { λ r. ⌜ r ≡ canBe s ⌝ }
+{
     if 4294967295 < s.date {
         return false;
     }
@@ -74,7 +81,9 @@ fn can_be(s: Sheet) -> bool {
     s.text <= MOST_TEXT
 }
 
-fn places(s: Sheet, list: usize) -> usize {
+fn places(s: Sheet, list: usize) -> usize
+    ensures { λ r. ⌜ r ≡ placesOf s list ⌝ }
+{
     match list {
         0 => s.values,
         1 => s.flags,
@@ -119,20 +128,25 @@ fn stretch_in(buf: &mut [u8], c: Cursor, n: usize, lists: &mut [u64], from: usiz
 }
 
 // The first n places of a list.
-fn stretch(lists: &[u64], list: usize, n: usize) -> &[u64] {
-    if 5 < list {
-        return lists;
-    }
+fn stretch(lists: &[u64], list: usize, n: usize) -> &[u64]
+    requires { ⌜ list ≤ 5 ⌝ }
+    ensures { λ r. ⌜ now r ≡ stretchOf (now (lists .entry)) list n ⌝ }
+{
     let from = list * PLACES;
     let end = from + least(n, PLACES);
-    if lists.len() < end {
-        return lists;
+    if lists.len() <= from {
+        return &lists[..0];
+    }
+    if lists.len() <= end {
+        return &lists[from..];
     }
     &lists[from..end]
 }
 
 // Whether flags, methods and reasons are in their types' range.
-fn are_narrow(s: Sheet, lists: &[u64]) -> bool {
+fn are_narrow(s: Sheet, lists: &[u64]) -> bool
+    ensures { λ r. ⌜ r ≡ areNarrow s (now (lists .entry)) ⌝ }
+{
     if !below(stretch(lists, 1, s.flags), 256) {
         return false;
     }
@@ -145,7 +159,8 @@ fn are_narrow(s: Sheet, lists: &[u64]) -> bool {
 // ---- the answer
 
 fn least(a: usize, b: usize) -> usize
-    ensures { λ r. ⌜ (r ≤ a) × (r ≤ b) ⌝ }
+    ensures is { λ r. ⌜ r ≡ leastOf a b ⌝ }
+    ensures within { λ r. ⌜ (r ≤ a) × (r ≤ b) ⌝ }
 {
     if a < b { a } else { b }
 }
@@ -160,7 +175,9 @@ fn block_out(page: &[u8], room: &[u8], x: Wrote) -> usize {
     0
 }
 
-fn day_of(s: Sheet) -> DayHead {
+fn day_of(s: Sheet) -> DayHead
+    ensures { λ r. ⌜ r ≡ dayOf s ⌝ }
+{
     DayHead {
         date: (s.date % 4294967296) as u32,
         length: (s.length % 4294967296) as u32,

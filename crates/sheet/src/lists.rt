@@ -2,10 +2,13 @@
 use calls::PLACES;
 use page::days::u64_at;
 ghost use mathlib.Core.Path.{_≡_};
-ghost use lib.ListN.{length};
+ghost use Prim.Native.Nat.{ℕ, _%_};
+ghost use Rattle.sheet.specs.Sheets.{allBelow, Holds};
 
 // Whether each number is below another.
-pub fn below(list: &[u64], most: u64) -> bool {
+pub fn below(list: &[u64], most: u64) -> bool
+    ensures { λ r. ⌜ r ≡ allBelow most (now (list .entry)) ⌝ }
+{
     let mut i: usize = 0;
     while i < list.len() {
         if most <= list[i] {
@@ -17,7 +20,7 @@ pub fn below(list: &[u64], most: u64) -> bool {
 }
 
 pub fn bytes_of(list: &[u64]) -> [u8; PLACES]
-    ensures { λ r. ⌜ 300 ≡ length r ⌝ }
+    ensures { λ r. ⌜ Holds (λ (z : ℕ). z % 256) (now (list .entry)) r 300 ⌝ }
 {
     let mut to = [0u8; PLACES];
     let mut i: usize = 0;
@@ -29,7 +32,7 @@ pub fn bytes_of(list: &[u64]) -> [u8; PLACES]
 }
 
 pub fn halves_of(list: &[u64]) -> [u16; PLACES]
-    ensures { λ r. ⌜ 300 ≡ length r ⌝ }
+    ensures { λ r. ⌜ Holds (λ (z : ℕ). z % 65536) (now (list .entry)) r 300 ⌝ }
 {
     let mut to = [0u16; PLACES];
     let mut i: usize = 0;
@@ -41,7 +44,7 @@ pub fn halves_of(list: &[u64]) -> [u16; PLACES]
 }
 
 pub fn sizes_of(list: &[u64]) -> [usize; PLACES]
-    ensures { λ r. ⌜ 300 ≡ length r ⌝ }
+    ensures { λ r. ⌜ Holds (λ (z : ℕ). z) (now (list .entry)) r 300 ⌝ }
 {
     let mut to = [0usize; PLACES];
     let mut i: usize = 0;

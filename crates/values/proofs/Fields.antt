@@ -3,14 +3,10 @@ use Prim.Native.Nat.{ℕ, _+_, _-_, _≤_, _<_, _^_}
 use mathlib.Core.Path.{_≡_, sym, _∙_, ap}
 use mathlib.Core.List.{List}
 use mathlib.Core.Bool.{Bool, true}
-use native.Mathlib.Omega.{arith}
 use lib.ListN.{length, getD, take, drop}
-use lib.Seq.{length-take-le}
 use Rattle.ground.specs.Lists.{spanOf, other, part}
-use Rattle.ground.proofs.Spans.{span-le, part-length}
 use Rattle.format.specs.Cut.{fields, field}
 use Rattle.format.specs.Records.{millionths}
-use Rattle.format.proofs.Cut.{field-here}
 use Rattle.quick_values.specs.Shapes.{isThousandths}
 use Rattle.quick_values.proofs.Shapes.{thousandths-plain}
 use Rattle.lines.specs.Places.{Cut}
@@ -47,11 +43,5 @@ module _ (file : List ℕ) (a e b x : ℕ) (k : Cut file a e b x) where
   pub cut-value : {v : ℕ} → v ≡ millionths (take (b - a) (drop a file)) → v ≡ millionths (field 0 (fields (part file a e)))
   cut-value ev = ev ∙ ap millionths (sym (k .here))
 
-  cut-end : b ≡ a + spanOf (other 44) (part file a e)
-  cut-end =
-      let n : length (part file a b) ≡ spanOf (other 44) (part file a e) =
-      ap length (sym (k .here)) ∙ ap length (field-here (part file a e)) ∙ length-take-le (spanOf (other 44) (part file a e)) (part file a e) (span-le (other 44) (part file a e)) in
-      omega (arith, part-length file a b (omega (arith, k .on, k .ends, k .within)), k .order)
-
   pub cut-whole : Cut file a e (a + spanOf (other 44) (part file a e)) x
-  cut-whole = rw (← cut-end) k
+  cut-whole = rw (← k .to) k

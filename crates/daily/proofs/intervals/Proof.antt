@@ -1,8 +1,8 @@
 -- `daily::intervals` meets its contract. Assumes nothing.
 use Prim.Native.Nat.{_-_}
 use mathlib.Core.Path.{_≡_}
-use borrow.Author.Needs.{needs}
 use lib.ListN.{length}
+use borrow.Author.Needs.{needs}
 use Rattle.daily.proofs.intervals.Statement.{statement}
 use Rattle.daily.proofs.intervals.Tie as tie
 
@@ -17,6 +17,9 @@ loop-holds c = search needs
 
 interval-requires : tie.Need-interval-requires Inv-loop μ-loop
 interval-requires c κs = search needs
+
+write-requires : tie.Need-write-requires Inv-loop μ-loop
+write-requires c κs = search needs
 
 add-i : tie.Need-add-i Inv-loop μ-loop
 add-i c = search needs
@@ -41,6 +44,7 @@ intervals-spec =
     μ-loop
     loop-holds
     interval-requires
+    write-requires
     add-i
     loop-less
     loop-again

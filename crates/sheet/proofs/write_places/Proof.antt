@@ -49,7 +49,7 @@ array-borrow-prefix-room : tie.Need-array-borrow-prefix-room
 array-borrow-prefix-room c = search needs
 
 slice-aggregate-write-in-3 : tie.Need-slice-aggregate-write-in-3
-slice-aggregate-write-in-3 c = long-front 131072 _ (c .before .before .before .before .before .least3 .ensures .1)
+slice-aggregate-write-in-3 c = long-front 131072 _ (c .before .before .before .before .before .least3 .ensures .1 .1)
 
 write-in-requires : tie.Need-write-in-requires
 write-in-requires c κs = search needs

@@ -1,22 +1,22 @@
 -- `input::bytes::fill` meets its contract. Assumes nothing.
-use lib.ListN.{length}
-use Prim.Native.Nat.{_-_}
 use mathlib.Core.Path.{_≡_}
+use Prim.Native.Nat.{_-_}
+use lib.ListN.{length}
 use borrow.Author.Needs.{needs}
 use Rattle.input.proofs.bytes.fill.Statement.{statement}
 use Rattle.input.proofs.bytes.fill.Tie as tie
 
 abbrev Inv-loop : tie.InvT-loop
-Inv-loop buf c to₀ held n₀ to n = length to ≡ length to₀
+Inv-loop buf c to₀ first n₀ to n = length to ≡ length to₀
 
 abbrev μ-loop : tie.MeasureT-loop
-μ-loop buf c to₀ held n₀ to n = length to - n
+μ-loop buf c to₀ first n₀ to n = length to - n
 
 part-requires : tie.Need-part-requires Inv-loop μ-loop
 part-requires c κs = search needs
 
-copy-requires : tie.Need-copy-requires Inv-loop μ-loop
-copy-requires c κs = search needs
+put-requires : tie.Need-put-requires Inv-loop μ-loop
+put-requires c κs = search needs
 
 loop-holds : tie.Need-loop-holds Inv-loop μ-loop
 loop-holds c = search needs
@@ -52,7 +52,7 @@ fill-spec =
     Inv-loop
     μ-loop
     part-requires
-    copy-requires
+    put-requires
     loop-holds
     more-requires
     same-length

@@ -1,37 +1,26 @@
 -- `report::records::start_of` meets its contract. Assumes nothing.
-use Prim.Native.Nat.{_≤_}
-use borrow.Author.Needs.{needs}
-use lib.ListN.{length}
+use mathlib.Core.Path.{_≡_}
 use native.Mathlib.Omega.{arith}
+use Rattle.report.specs.Records.{recordStart}
+use Rattle.report.proofs.Lookup.{start-here, start-within, start-down, start-none}
+use borrow.Author.Needs.{needs}
 use Rattle.report.proofs.records.start_of.Statement.{statement}
 use Rattle.report.proofs.records.start_of.Tie as tie
 
 abbrev Inv-loop : tie.InvT-loop
-Inv-loop file place at₀ at = at ≤ length file
+Inv-loop file place at₀ at = recordStart file place ≡ recordStart file at
 
 abbrev μ-loop : tie.MeasureT-loop
 μ-loop file place at₀ at = at
 
-returns : tie.Need-returns Inv-loop μ-loop
-returns c = search needs
-
 loop-holds : tie.Need-loop-holds Inv-loop μ-loop
 loop-holds c = search needs
 
-sub-if2 : tie.Need-sub-if2 Inv-loop μ-loop
-sub-if2 c = search needs
+crlf-before-requires : tie.Need-crlf-before-requires Inv-loop μ-loop
+crlf-before-requires c κs = search needs
 
-shared-slice-read-if2 : tie.Need-shared-slice-read-if2 Inv-loop μ-loop
-shared-slice-read-if2 c = omega arith
-
-sub-if3 : tie.Need-sub-if3 Inv-loop μ-loop
-sub-if3 c = search needs
-
-shared-slice-read-if3 : tie.Need-shared-slice-read-if3 Inv-loop μ-loop
-shared-slice-read-if3 c = omega arith
-
-returns-2 : tie.Need-returns-2 Inv-loop μ-loop
-returns-2 c = search needs
+returns : tie.Need-returns Inv-loop μ-loop
+returns c = (search start-here, search start-within)
 
 sub-at : tie.Need-sub-at Inv-loop μ-loop
 sub-at c = search needs
@@ -40,10 +29,10 @@ loop-less : tie.Need-loop-less Inv-loop μ-loop
 loop-less c = omega arith
 
 loop-again : tie.Need-loop-again Inv-loop μ-loop
-loop-again c = omega arith
+loop-again c = search start-down
 
-returns-3 : tie.Need-returns-3 Inv-loop μ-loop
-returns-3 c = search needs
+returns-2 : tie.Need-returns-2 Inv-loop μ-loop
+returns-2 c = (search start-none, search needs)
 
 pub start-of-spec : {M : Type 1} → statement M
 start-of-spec =
@@ -51,14 +40,10 @@ start-of-spec =
     (tie.spec
     Inv-loop
     μ-loop
-    returns
     loop-holds
-    sub-if2
-    shared-slice-read-if2
-    sub-if3
-    shared-slice-read-if3
-    returns-2
+    crlf-before-requires
+    returns
     sub-at
     loop-less
     loop-again
-    returns-3)
+    returns-2)

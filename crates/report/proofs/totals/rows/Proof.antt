@@ -1,11 +1,11 @@
 -- `report::totals::rows` meets its contract. Assumes nothing.
 use lib.ListN.{length}
 use mathlib.Core.Path.{_≡_}
-use borrow.Author.Needs.{needs}
 use Prim.Native.Nat.{_-_}
 use Rattle.format.specs.File.{IsAccepted}
 use Rattle.channel.specs.Places.{ChannelAhead}
 use native.Mathlib.Omega.{arith}
+use borrow.Author.Needs.{needs}
 use Rattle.report.proofs.totals.rows.Statement.{statement}
 use Rattle.report.proofs.totals.rows.Tie as tie
 
@@ -23,6 +23,9 @@ total-noted-requires c κs = search needs
 
 placed-requires : tie.Need-placed-requires Inv-loop μ-loop
 placed-requires c κs = search needs
+
+write-requires : tie.Need-write-requires Inv-loop μ-loop
+write-requires c κs = search needs
 
 add-k : tie.Need-add-k Inv-loop μ-loop
 add-k c = search needs
@@ -48,6 +51,7 @@ rows-spec =
     loop-holds
     total-noted-requires
     placed-requires
+    write-requires
     add-k
     loop-less
     loop-again

@@ -10,11 +10,11 @@ check-and-note-requires c κs = search needs
 enum-known-answer : tie.Need-enum-known-answer
 enum-known-answer c = search needs
 
-headings-requires : tie.Need-headings-requires
-headings-requires c κs = search needs
+headed-requires : tie.Need-headed-requires
+headed-requires c κs = search needs
 
-say-requires : tie.Need-say-requires
-say-requires c κs = search needs
+write-requires : tie.Need-write-requires
+write-requires c κs = search needs
 
 rows-requires : tie.Need-rows-requires
 rows-requires c κs = (search is-accepted, search needs)
@@ -22,8 +22,11 @@ rows-requires c κs = (search is-accepted, search needs)
 enum-known-answer-2 : tie.Need-enum-known-answer-2
 enum-known-answer-2 c = search needs
 
-explain-requires : tie.Need-explain-requires
-explain-requires c κs = search needs
+explained-requires : tie.Need-explained-requires
+explained-requires c κs = search needs
+
+write-requires-2 : tie.Need-write-requires-2
+write-requires-2 c κs = search needs
 
 same-length : tie.Need-same-length
 same-length c = search needs
@@ -43,11 +46,12 @@ show-spec =
     (tie.spec
     check-and-note-requires
     enum-known-answer
-    headings-requires
-    say-requires
+    headed-requires
+    write-requires
     rows-requires
     enum-known-answer-2
-    explain-requires
+    explained-requires
+    write-requires-2
     same-length
     returns
     same-length-2

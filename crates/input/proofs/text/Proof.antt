@@ -1,31 +1,37 @@
--- `input::bytes::copy` meets its contract. Assumes nothing.
-use lib.ListN.{length}
-use Prim.Native.Nat.{_-_}
+-- `input::text` meets its contract. Assumes nothing.
 use mathlib.Core.Path.{_≡_}
+use Prim.Native.Nat.{_-_}
+use lib.ListN.{length}
 use borrow.Author.Needs.{needs}
-use Rattle.input.proofs.bytes.copy.Statement.{statement}
-use Rattle.input.proofs.bytes.copy.Tie as tie
+use Rattle.input.proofs.text.Statement.{statement}
+use Rattle.input.proofs.text.Tie as tie
 
 abbrev Inv-loop : tie.InvT-loop
-Inv-loop from to₀ i₀ to i = length to ≡ length to₀
+Inv-loop buf₀ signs now₀ i₀ buf now i = length buf ≡ length buf₀
 
 abbrev μ-loop : tie.MeasureT-loop
-μ-loop from to₀ i₀ to i = length from - i
+μ-loop buf₀ signs now₀ i₀ buf now i = length signs - i
 
 loop-holds : tie.Need-loop-holds Inv-loop μ-loop
 loop-holds c = search needs
+
+shared-slice-read-byte : tie.Need-shared-slice-read-byte Inv-loop μ-loop
+shared-slice-read-byte c = search needs
+
+byte-requires : tie.Need-byte-requires Inv-loop μ-loop
+byte-requires c κs = search needs
+
+enum-known-after : tie.Need-enum-known-after Inv-loop μ-loop
+enum-known-after c = search needs
+
+enum-told : tie.Need-enum-told Inv-loop μ-loop
+enum-told c = search needs
 
 same-length : tie.Need-same-length Inv-loop μ-loop
 same-length c = search needs
 
 returns : tie.Need-returns Inv-loop μ-loop
 returns c = search needs
-
-shared-slice-read-to : tie.Need-shared-slice-read-to Inv-loop μ-loop
-shared-slice-read-to c = search needs
-
-slice-write-to : tie.Need-slice-write-to Inv-loop μ-loop
-slice-write-to c = search needs
 
 add-i : tie.Need-add-i Inv-loop μ-loop
 add-i c = search needs
@@ -42,17 +48,19 @@ same-length-2 c = search needs
 returns-2 : tie.Need-returns-2 Inv-loop μ-loop
 returns-2 c = search needs
 
-pub copy-spec : {M : Type 1} → statement M
-copy-spec =
+pub text-spec : {M : Type 1} → statement M
+text-spec =
     tie.close
     (tie.spec
     Inv-loop
     μ-loop
     loop-holds
+    shared-slice-read-byte
+    byte-requires
+    enum-known-after
+    enum-told
     same-length
     returns
-    shared-slice-read-to
-    slice-write-to
     add-i
     loop-less
     loop-again

@@ -1,0 +1,153 @@
+-- The record in which a place stands, the n before a place and the days of a channel, as they are looked for. Assumes nothing.
+use Prim.Native.Nat.{ℕ, zero, suc, _+_, _-_, _≤_, _<_}
+use mathlib.Core.Path.{_≡_, refl, sym, ap, _∙_}
+use mathlib.Core.List.{List}
+use mathlib.Core.Bool.{Bool, true, false}
+use native.Mathlib.Omega.{arith}
+use borrow.Author.Tests.{lt-ltb, le-ltb, ne-eqb}
+use lib.ListN.{length, getD, take, drop, List·getD-eq-default}
+use lib.Dec.{eqb, ltb}
+use Rattle.ground.specs.Lists.{spanOf, part}
+use Rattle.ground.proofs.Cases.{split, same-or}
+use Rattle.ground.proofs.Lists.{to-end}
+use Rattle.ground.proofs.Spans.{span-le, part-take}
+use Rattle.ground.proofs.Tests.{and-false, nowhere}
+use Rattle.format.specs.Bytes.{plain}
+use Rattle.format.specs.Cut.{Lines, line, rest, lines, fields, field}
+use Rattle.format.specs.Records.{kindIn, intervalsIn}
+use Rattle.format.proofs.Numbers.{intervals-most}
+use Rattle.lines.specs.Places.{LineEnd, Looked, Rest}
+use Rattle.lines.proofs.Cuts.{rest-first}
+use Rattle.lines.proofs.Ends.{line-none, line-more, line-long}
+use Rattle.report.specs.Records.{crlfBefore, recordStart, firstOf, recordAs, recordOf, nBehind, nFrom, nBefore, daysAhead}
+use Rattle.report.specs.declared.records.Record.{Record}
+
+-- ---- where a record starts
+
+-- no CR LF stands before a place behind the file's end
+pub past-file : (file : List ℕ) (at : ℕ) → length file < at → false ≡ crlfBefore file at
+unfolding crlfBefore
+past-file file at h =
+    let z : getD file (at - 1) 0 ≡ 0 = List·getD-eq-default file 0 {n = at - 1} (omega arith) in
+    rw (z, and-false (eqb (getD file (at - 2) 0) 13), and-false (ltb 1 at))
+
+-- b is what `crlf_before` answers
+pub start-within : (file : List ℕ) (at : ℕ) {b : Bool} → b ≡ crlfBefore file at → b ≡ true → at ≤ length file
+start-within file at e t = split at (length file) (λ h. h) (λ h. nowhere (past-file file at h ∙ sym e ∙ t))
+
+pub start-here : (file : List ℕ) (place at : ℕ) {b : Bool} → b ≡ crlfBefore file at → b ≡ true → 0 < at → recordStart file place ≡ recordStart file at
+    → at ≡ recordStart file place
+unfolding recordStart
+start-here file place zero e t h inv = absurd (let z : ⊥ = omega arith in z)
+start-here file place (suc p) e t h inv = rw (inv, ← e, t)
+
+pub start-down : (file : List ℕ) (place at : ℕ) {b : Bool} → b ≡ crlfBefore file at → b ≡ false → 0 < at → recordStart file place ≡ recordStart file at
+    → recordStart file place ≡ recordStart file (at - 1)
+unfolding recordStart
+start-down file place zero e t h inv = absurd (let z : ⊥ = omega arith in z)
+start-down file place (suc p) e t h inv = let m : suc p - 1 ≡ p = omega arith in rw (inv, ← e, t, m)
+
+pub start-none : (file : List ℕ) (place at : ℕ) → at ≤ 0 → recordStart file place ≡ recordStart file at → 0 ≡ recordStart file place
+unfolding recordStart
+start-none file place at h inv = let z : at ≡ 0 = omega arith in rw (inv, z)
+
+-- ---- the record
+
+first-is : (file : List ℕ) (at e : ℕ) → LineEnd file at e → firstOf (lines (drop at file)) ≡ part file at e
+first-is file at e s =
+    same-or e (length file)
+    (λ h. ap firstOf (line-none file at e s h) ∙ sym (to-end at file) ∙ ap (part file at) (sym h))
+    (λ h. ap firstOf (line-more file at e s h))
+
+pub record-is : (file : List ℕ) (place a e bad commas k : ℕ) → a ≡ recordStart file place → Looked file a e bad commas → k ≡ kindIn (fields (part file a e))
+    → _≡_ {A = Record} (record { start = a; end = e; kind = k; count = commas + 1 }) (recordOf file place)
+unfolding recordOf recordAs
+record-is file place a e bad commas k q l h =
+    let r : List ℕ = part file a e in
+    let s = l .ends in
+    let n : a + length r ≡ e = omega (arith, line-long file a e s, s .order) in
+    let t : take (spanOf plain r) r ≡ part file a bad =
+    part-take file a e (spanOf plain r) (omega (arith, span-le plain r, line-long file a e s)) ∙ ap (part file a) (sym (l .first)) in
+    rw (← q, first-is file a e s, n, ← h, t, ← l .count)
+
+-- ---- n
+
+module _ (n k : ℕ) (r : List ℕ) (e : k ≡ kindIn (fields r)) where
+  pub n-own : (m : ℕ) → k ≡ 200 → m ≡ intervalsIn (fields r) → m ≡ nBehind n r
+  unfolding nBehind
+  n-own m h q = rw (← e, h, q)
+
+  pub n-kept : (k ≡ 200 → ⊥) → n ≡ nBehind n r
+  unfolding nBehind
+  n-kept h = rw (← e, ne-eqb _ _ h)
+
+pub own-most : (m : ℕ) (fs : List (List ℕ)) → m ≡ intervalsIn fs → m ≤ 288
+unfolding intervalsIn
+own-most m fs e = rw e (intervals-most _)
+
+pub n-begins : (file : List ℕ) (place : ℕ) → nBefore file place ≡ nFrom place 0 0 (lines (drop 0 file))
+unfolding nBefore
+n-begins file place = refl
+
+-- a record on, with what is left
+on-by : (file : List ℕ) (at e : ℕ) → LineEnd file at e → at + length (part file at e) + 2 ≡ e + 2
+on-by file at e s = omega (arith, line-long file at e s, s .order)
+
+module _ (file : List ℕ) (place at n : ℕ) (inv : nBefore file place ≡ nFrom place at n (lines (drop at file))) where
+  pub n-there : place ≤ at → n ≡ nBefore file place
+  unfolding nFrom
+  n-there h = sym (inv ∙ go (lines (drop at file)))
+    where
+      go : (ls : Lines) → nFrom place at n ls ≡ n
+      go (rest t) = refl
+      go (line r ls) = rw (le-ltb _ _ h)
+
+  module _ (e : ℕ) (s : LineEnd file at e) where
+    pub n-ends : e ≡ length file → n ≡ nBefore file place
+    unfolding nFrom
+    n-ends h = rw (inv, line-none file at e s h)
+
+    pub n-goes-on : (m : ℕ) → (e ≡ length file → ⊥) → at < place → m ≡ nBehind n (part file at e)
+        → nBefore file place ≡ nFrom place (e + 2) m (lines (drop (e + 2) file))
+    unfolding nFrom
+    n-goes-on m h g q = rw (inv, line-more file at e s h, lt-ltb _ _ g, on-by file at e s, ← q)
+
+-- ---- days
+
+module _ (file : List ℕ) (at e d all : ℕ) (s : LineEnd file at e) (inv : all ≡ d + daysAhead (lines (drop at file))) where
+  pub days-end : e ≡ length file → d ≡ all
+  unfolding daysAhead
+  days-end h = let z : daysAhead (lines (drop at file)) ≡ 0 = (rw (line-none file at e s h)) in omega arith
+
+  module _ (go : e ≡ length file → ⊥) {k : ℕ} (ek : k ≡ kindIn (fields (part file at e))) where
+    pub days-stop : k ≡ 200 → d ≡ all
+    unfolding daysAhead
+    days-stop h = let z : daysAhead (lines (drop at file)) ≡ 0 = (rw (line-more file at e s go, ← ek, h)) in omega arith
+
+    pub days-day : (k ≡ 200 → ⊥) → k ≡ 300 → all ≡ d + 1 + daysAhead (lines (drop (e + 2) file))
+    unfolding daysAhead
+    days-day h g =
+        let z : daysAhead (lines (drop at file)) ≡ suc (daysAhead (lines (drop (e + 2) file))) = (rw (line-more file at e s go, ← ek, g)) in
+        omega arith
+
+    pub days-pass : (k ≡ 200 → ⊥) → (k ≡ 300 → ⊥) → all ≡ d + daysAhead (lines (drop (e + 2) file))
+    unfolding daysAhead
+    days-pass h g =
+        let z : daysAhead (lines (drop at file)) ≡ daysAhead (lines (drop (e + 2) file)) = (rw (line-more file at e s go, ← ek, ne-eqb _ _ h, ne-eqb _ _ g)) in
+        omega arith
+
+-- there are no more days than bytes before them
+module _ (file : List ℕ) (at e d : ℕ) (s : LineEnd file at e) (h : d ≤ at) where
+  pub days-few : d + 1 ≤ e + 2
+  days-few = omega (arith, s .order)
+
+  pub days-fewer : d ≤ e + 2
+  days-fewer = omega (arith, s .order)
+
+-- ---- a field
+
+pub field-is : (s : List ℕ) (number n x : ℕ) {f : List ℕ} → n ≡ number - 1 → Rest s (fields (part s 0 (length s))) 0 n x (length s)
+    → f ≡ field 0 (fields (part s x (length s))) → f ≡ field (number - 1) (fields s)
+field-is s number n x e r h =
+    let w : part s 0 (length s) ≡ s = to-end 0 s in
+    h ∙ rest-first r ∙ ap (λ (t : List ℕ). field n (fields t)) w ∙ ap (λ (i : ℕ). field i (fields s)) e
