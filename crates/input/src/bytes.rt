@@ -3,7 +3,7 @@ use super::byte;
 use page::texts::part;
 use page::texts::put;
 ghost use mathlib.Core.Path.{_≡_};
-ghost use Rattle.input.specs.Taking.{heldOf, expectedOf, behindOf};
+ghost use Rattle.input.specs.Taking.{heldOf, behindOf};
 
 pub struct Cursor {
     pub at: usize,
@@ -45,21 +45,6 @@ pub fn next(buf: &mut [u8], c: Cursor) -> Taken {
     let got = libc::read(libc::STDIN_FILENO, buf);
     let n = io::count(got, buf);
     held(buf, Cursor { at: 0, end: n })
-}
-
-// Behind a byte, if it is the one that is expected.
-pub fn expected(t: Taken, sign: u8) -> Passed
-    ensures { λ r. ⌜ r ≡ expectedOf sign t ⌝ }
-{
-    match t {
-        Taken::Byte(b, after) => {
-            if b == sign {
-                return Passed::To(after);
-            }
-            Passed::Bad
-        }
-        Taken::Ended => Passed::Bad,
-    }
 }
 
 // One read behind the first n bytes of the list: how many bytes it has then.

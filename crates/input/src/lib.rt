@@ -5,14 +5,31 @@ pub mod numbers;
 
 use bytes::Cursor;
 use bytes::Passed;
-use bytes::expected;
+use bytes::Taken;
 use bytes::next;
+ghost use mathlib.Core.Path.{_≡_};
+ghost use Rattle.input.specs.Taking.{expectedOf};
 
 // What a case of the probe has come to: answered, with the input behind it and the page's place behind its answer; there was none; or it was no case.
 pub enum Going {
     On(Cursor, usize),
     Ended,
     Bad,
+}
+
+// Behind a byte, if it is the one that is expected.
+fn expected(t: Taken, sign: u8) -> Passed
+    ensures { λ r. ⌜ r ≡ expectedOf sign t ⌝ }
+{
+    match t {
+        Taken::Byte(b, after) => {
+            if b == sign {
+                return Passed::To(after);
+            }
+            Passed::Bad
+        }
+        Taken::Ended => Passed::Bad,
+    }
 }
 
 // The byte, and no other.

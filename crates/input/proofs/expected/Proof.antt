@@ -1,8 +1,8 @@
--- `input::bytes::expected` meets its contract. Assumes nothing.
+-- `input::expected` meets its contract. Assumes nothing.
 use Rattle.input.proofs.Taking.{expected-there, expected-other}
 use borrow.Author.Needs.{needs}
-use Rattle.input.proofs.bytes.expected.Statement.{statement}
-use Rattle.input.proofs.bytes.expected.Tie as tie
+use Rattle.input.proofs.expected.Statement.{statement}
+use Rattle.input.proofs.expected.Tie as tie
 
 enum-known-t : tie.Need-enum-known-t
 enum-known-t c = search needs
