@@ -20,3 +20,8 @@ firstOf p (rest t) = None
 
 unfoldable pub recordAt : List ℕ → ℕ → Record
 recordAt file at = firstOf at (lines (drop at file))
+
+-- the place behind a record that was handed out at p: behind its CR LF; p itself, where there is none
+abbrev pub behindRecord : ℕ → Record → ℕ
+behindRecord p (At s f) = f .end + 2
+behindRecord p None = p

@@ -13,10 +13,11 @@ use prog.Memory.{Memory}
 use prog.Routine.{Routine}
 use prog.Wp.{Heap, WpFn, Tables}
 use ghost.Atoms.{Atoms, sem}
-use contract.Monad.{Fun}
+use contract.Monad.{Fun, fact-mono}
 use contract.Running.{givenOf, tables, tablesOf}
 use types.Kit.{Given, ‵, raw, _⊛_, ⋆, _$_, _∵_, !, qed, by, move, drop, use1, use2, split, join, fsplit, fjoin, suffices, frame, done}
-use types.Run.{look, init, forget, stop, from, load, and-then, no-more, land, returns, enter, alloc1, alloc0, params1, pass1, pass0, free1, free0}
+use types.Part.{whole, sub, look-in}
+use types.Run.{look, init, forget, stop, fld, from, load, of-opd, and-then, no-more, assigns, land, returns, enter, alloc1, alloc0, params1, pass1, pass0, free1, free0}
 use sound.WpLaws.{fmOf, WpFn-mono}
 use denote.RattleType.{owns}
 use denote.Laws.{Is, shows}
@@ -26,8 +27,9 @@ use denote.Exit.{yes}
 use denote.Ref.{RefT, now}
 use denote.Signature.{plain}
 use denote.Slice.{ShrSlice, sliceVal, slice-vals, shr-slice-tells, shr-slice-lawful, shr-slice-copy}
-use denote.Steps.{owned, peeks, nothing}
+use denote.Steps.{owned, peeks, facts, nothing}
 use denote.Enum.Laws as EL
+use denote.Struct.Laws as LL
 use denote.Triple.Call.{calls-at}
 use denote.Triple.Entry.{Vals, onEntry}
 use denote.Triple.Spec.{Meets, tripleOf}
@@ -37,6 +39,8 @@ use denote.Triple.Walked.{says, Stays, stay-none, stay-none-slice, walkOf, goes-
 use Rattle.walker.specs.Handed.{recordAt}
 use Rattle.walker.specs.declared.Record.{Record}
 use Rattle.walker.specs.declared.Walker.{Walker}
+use Rattle.walker.proofs.HandedOn as O
+use Rattle.walker.proofs.HandedOn.Laws as O′
 use Rattle.walker.proofs.Record as R
 use Rattle.walker.proofs.Record.Laws as R′
 use Rattle.walker.proofs.Walker.new as new
@@ -55,7 +59,7 @@ use Rattle.walker.proofs.record_at as record-at
 use Rattle.walker.proofs.record_at.Code as code
 use Rattle.walker.proofs.record_at.Key.{name as #record-at}
 use Rattle.walker.proofs.record_at.Statement as stated
-use Rattle.walker.proofs.Held.{Walks, typed, File, answers}
+use Rattle.walker.proofs.Held.{life, Walks, Hands, recordVal, typed, File, holds, answers}
 
 abbrev stayed : Stays (record-at.ended .signature .params) (record-at.ended .kept)
 stayed = (stay-none-slice (0 ∷ []) tt (plain (λ _. u8)) yes, (stay-none (λ _. usize) yes, tt))
@@ -108,35 +112,40 @@ module _ {M : Type 1} (𝓤 : URA M) (H : Heap 𝓤) (A : Atoms 𝓤) (W : Given
     asks-next : (d : Walker) (v : Val) → ent 𝓤 (⋆ 𝓤 H A (‵ (Walks κ .own d (v ∷ [])) ∷ (‵ (flft κ q) ⊛ ‵ ftrue) ∷ [])) (Next 𝓤 H A mem run .pre (to-next d v))
     asks-next d v = qed W (‵ (Walks κ .own d (v ∷ [])) ∷ (‵ (flft κ q) ⊛ ‵ ftrue) ∷ []) ∵ nothing ! $ move ! (1 ∷ 0 ∷ []) $ fjoin ! $ move ! (1 ∷ 0 ∷ []) $ join ! $ frame ! $ done !
 
-    exits : (r : Record) (v : Val) → r ≡ recordAt (now s) n → ent 𝓤 (⋆ 𝓤 H A (‵ (R.the-row .own r (v ∷ [])) ∷ (‵ (flft κ q) ⊛ ‵ ftrue) ∷ ‵ (File 𝓤 H A W κ s) ∷ [])) (Post v)
-    exits r v e =
-        qed W (‵ (R.the-row .own r (v ∷ [])) ∷ (‵ (flft κ q) ⊛ ‵ ftrue) ∷ ‵ (File 𝓤 H A W κ s) ∷ []) ∵
-        suffices ! _ (ends-at 𝓤 H A record-at.ended stayed (record-at.clauses 𝓤 H A mem run) W (((κ, tt), (q, tt), tt, (s, (n, tt)), passed), tt) v r (tt, (tt, tt)) (tt, (tt, tt))) $ says ! e $
-        move ! (1 ∷ []) $ frame ! $ nothing ! $ owned ! usize (Is usize) (uint-makes 𝓤 H A W w64) n _ (refl, fits) $ fjoin ! $ move ! (2 ∷ 0 ∷ []) $ fjoin ! $ frame ! $ done !
+    exits : (r : Record) → r ≡ recordAt (now s) n → Is R.the-row r (recordVal r ∷ []) → ent 𝓤 (⋆ 𝓤 H A ((‵ (flft κ q) ⊛ ‵ ftrue) ∷ ‵ (File 𝓤 H A W κ s) ∷ [])) (Post (recordVal r))
+    exits r e ok =
+        qed W ((‵ (flft κ q) ⊛ ‵ ftrue) ∷ ‵ (File 𝓤 H A W κ s) ∷ []) ∵
+        suffices ! _ (ends-at 𝓤 H A record-at.ended stayed (record-at.clauses 𝓤 H A mem run) W (((κ, tt), (q, tt), tt, (s, (n, tt)), passed), tt) (recordVal r) r (tt, (tt, tt)) (tt, (tt, tt))) $ says ! e $
+        frame ! $ nothing ! $ owned ! usize (Is usize) (uint-makes 𝓤 H A W w64) n _ (refl, fits) $ fjoin ! $ move ! (1 ∷ 0 ∷ []) $ fjoin ! $
+        owned ! R.the-row (Is R.the-row) (EL.makes R.the-type R′.the-plain 𝓤 H A) r (recordVal r ∷ []) ok $ move ! (1 ∷ []) $ frame ! $ done !
 
     walk : Is (ShrSlice (named 0) κ u8) s (slice-vals s) → ent 𝓤 Entry (WpFn 𝓤 H (𝓣 .C) (𝓣 .Λ) code.function (sliceVal (s .ptr) (length (s .now)) ∷ vint w64 n ∷ []) Post)
     walk is =
         qed W (raw Entry ∷ []) ∵ enter ! (𝓣 .C) (𝓣 .Λ) code.function (sliceVal (s .ptr) (length (s .now)) ∷ vint w64 n ∷ []) _ $
-        alloc1 ! (λ l₀. alloc1 ! (λ l₁. alloc1 ! (λ l₂. alloc1 ! (λ l₃. alloc1 ! (λ l₄. alloc0 ! $ params1 ! $
-        pass1 ! (init ! 6 refl (shr-slice-lawful 𝓤 H A W (named 0) κ u8 .typed s (slice-vals s) is .0)) $ pass1 ! (init ! 4 refl (tt, record { fits = fits })) $ pass0 ! $
-        -- [room for the first walker; …; room for the second; …; at; …; file; …; room for the result; …; the entry]
-        move ! (10 ∷ []) $ use1 W (raw (New 𝓤 H A mem run .pre to-new) ⊛ ‵ (File 𝓤 H A W κ s)) asks-new $ split ! $
-        calls-at ! (fmOf 𝓤 H (W .laws) 𝓣) (New 𝓤 H A mem run) known-new to-new (and-then ! (load ! (from ! (stop !)) (look ! 8 refl)) (no-more !)) (λ v₁.
+        alloc1 ! (λ l₀. alloc1 ! (λ l₁. alloc1 ! (λ l₂. alloc1 ! (λ l₃. alloc1 ! (λ l₄. alloc1 ! (λ l₅. alloc0 ! $ params1 ! $
+        pass1 ! (init ! 8 refl (shr-slice-lawful 𝓤 H A W (named 0) κ u8 .typed s (slice-vals s) is .0)) $ pass1 ! (init ! 6 refl (tt, record { fits = fits })) $ pass0 ! $
+        -- [room for the first walker; …; room for the second; …; room for what it hands out; …; at; …; file; …; room for the result; …; the entry]
+        move ! (12 ∷ []) $ use1 W (raw (New 𝓤 H A mem run .pre to-new) ⊛ ‵ (File 𝓤 H A W κ s)) asks-new $ split ! $
+        calls-at ! (fmOf 𝓤 H (W .laws) 𝓣) (New 𝓤 H A mem run) known-new to-new (and-then ! (load ! (from ! (stop !)) (look ! 10 refl)) (no-more !)) (λ v₁.
         answers ! tt new.ended (new.clauses 𝓤 H A mem run) to-new v₁ (λ d. (d .file ≡ s) × (d .at ≡ 0)) (λ d e. id⊢ 𝓤 _) (λ d₁ e₁.
-        -- [what the walker owns; the token; what file owns; room for the first walker; …; room for the second; …; at; …; file; …; room for the result; …]
+        -- [what the walker owns; the token; what file owns; room for the first walker; …; for the second; …; for what it hands out; …; at; …; file; …; room for the result; …]
         peeks ! (Walks κ) (Is (Walks κ)) (shows 𝓤 H A (Walks κ)) d₁ (v₁ ∷ []) (λ is₁. land ! (from ! (stop !)) (init ! 3 refl (typed 𝓤 H A W erased κ d₁ v₁ is₁)) $
         use2 W (raw (Moved 𝓤 H A mem run .pre (to-moved d₁ v₁))) (asks-moved d₁ v₁) $
-        calls-at ! (fmOf 𝓤 H (W .laws) 𝓣) (Moved 𝓤 H A mem run) known-moved (to-moved d₁ v₁) (and-then ! (load ! (from ! (stop !)) (look ! 2 refl)) (and-then ! (load ! (from ! (stop !)) (look ! 6 refl)) (no-more !))) (λ v₂.
+        calls-at ! (fmOf 𝓤 H (W .laws) 𝓣) (Moved 𝓤 H A mem run) known-moved (to-moved d₁ v₁) (and-then ! (load ! (from ! (stop !)) (look ! 2 refl)) (and-then ! (load ! (from ! (stop !)) (look ! 8 refl)) (no-more !))) (λ v₂.
         answers ! tt moved.ended (moved.clauses 𝓤 H A mem run) (to-moved d₁ v₁) v₂ (λ d. (d .file ≡ d₁ .file) × (d .at ≡ n)) (λ d e. id⊢ 𝓤 _) (λ d₂ e₂.
         peeks ! (Walks κ) (Is (Walks κ)) (shows 𝓤 H A (Walks κ)) d₂ (v₂ ∷ []) (λ is₂. land ! (from ! (stop !)) (init ! 5 refl (typed 𝓤 H A W erased κ d₂ v₂ is₂)) $
         use2 W (raw (Next 𝓤 H A mem run .pre (to-next d₂ v₂))) (asks-next d₂ v₂) $
         calls-at ! (fmOf 𝓤 H (W .laws) 𝓣) (Next 𝓤 H A mem run) known-next (to-next d₂ v₂) (and-then ! (load ! (from ! (stop !)) (look ! 4 refl)) (no-more !)) (λ v.
-        answers ! tt next.ended (next.clauses 𝓤 H A mem run) (to-next d₂ v₂) v (λ r. r ≡ recordAt (now (d₂ .file)) (d₂ .at)) (λ r e. id⊢ 𝓤 _) (λ r e.
-        -- [the result; the token; what file owns; the first walker; …; the second; …; at; …; file; …; room for the result; …]
-        peeks ! R.the-row (Is R.the-row) (shows 𝓤 H A R.the-row) r (v ∷ []) (λ ok. land ! (from ! (stop !)) (init ! 11 refl (EL.lawful R.the-type R′.the-laws 𝓤 H A W tt .typed r _ ok .0)) $
-        returns ! (look ! 11 refl) $ forget ! 3 refl $ forget ! 5 refl $ forget ! 7 refl $ forget ! 9 refl $ forget ! 11 refl $
-        move ! (11 ∷ 12 ∷ 9 ∷ 10 ∷ 7 ∷ 8 ∷ 5 ∷ 6 ∷ 3 ∷ 4 ∷ []) $ free1 ! $ free1 ! $ free1 ! $ free1 ! $ free1 ! $ free0 ! $
-        by ! (exits r v (e ∙ (ap (λ (x : RefT (List ℕ)). recordAt (now x) (d₂ .at)) (e₂ .0 ∙ e₁ .0) ∙ ap (recordAt (now s)) (e₂ .1))))))))))))))))))
+        answers ! tt next.ended (next.clauses 𝓤 H A mem run) (to-next d₂ v₂) v (λ h. h .«record» ≡ recordAt (now (d₂ .file)) (d₂ .at)) (λ h e. fact-mono 𝓤 _ _ (λ p. p .0)) (λ h e.
+        -- [what was handed out; the token; what file owns; the first walker; …; the second; …; room for what it handed out; …; at; …; file; …; room for the result; …]
+        facts ! (Hands κ) (Is (Hands κ)) (shows 𝓤 H A (Hands κ)) h (v ∷ []) (λ ok.
+        let parts = LL.owed (O.the-type (life (named 0) κ)) (O′.the-laws (life (named 0) κ)) h (v ∷ []) ok in
+        land ! (from ! (stop !)) (init ! 6 refl (LL.lawful (O.the-type (life erased κ)) (O′.the-laws (life erased κ)) 𝓤 H A W .typed h (v ∷ []) ok .0)) $
+        holds ! 6 refl (LL.tells (O.the-type (life (named 0) κ)) (O′.the-laws (life (named 0) κ)) h (v ∷ []) ok) $
+        assigns ! (of-opd ! (load ! (from ! (fld ! refl (stop !))) (look-in ! 6 (sub ! 0 refl (whole !))))) (from ! (stop !)) (init ! 12 refl (EL.lawful R.the-type R′.the-laws 𝓤 H A W tt .typed (h .«record») _ (parts .0) .0)) $
+        returns ! (look ! 12 refl) $ forget ! 2 refl $ forget ! 4 refl $ forget ! 6 refl $ forget ! 8 refl $ forget ! 10 refl $ forget ! 12 refl $
+        move ! (12 ∷ 13 ∷ 10 ∷ 11 ∷ 8 ∷ 9 ∷ 6 ∷ 7 ∷ 4 ∷ 5 ∷ 2 ∷ 3 ∷ []) $ free1 ! $ free1 ! $ free1 ! $ free1 ! $ free1 ! $ free1 ! $ free0 ! $
+        by ! (exits (h .«record») (e ∙ (ap (λ (x : RefT (List ℕ)). recordAt (now x) (d₂ .at)) (e₂ .0 ∙ e₁ .0) ∙ ap (recordAt (now s)) (e₂ .1))) (parts .0)))))))))))))))))
 
   meets : Meets 𝓤 H A record-at.signature (WpFn 𝓤 H (𝓣 .C) (𝓣 .Λ) code.function) (record-at.spec 𝓤 H A mem run)
   meets = walk-meets 𝓤 H A record-at.ended stayed W (goes-none-slice 𝓤 H A W 1 (0 ∷ []) tt (plain (λ _. u8)) yes, (goes-none 𝓤 H A W 1 (λ _. usize) yes (λ κs x f. refl), tt)) (record-at.clauses 𝓤 H A mem run)
