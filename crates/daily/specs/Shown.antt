@@ -41,7 +41,7 @@ topText day n = lineText (titleText day n) ++ lineText headings
 unfoldable pub textAt : List ℕ → ℕ → ℕ → List ℕ
 textAt file from n = cond (leb (from + n) (length file)) (part file from (from + n)) []
 
--- interval i of six lists, of n in its day
+-- interval i of six lists, of n in its day, counted from 1; no day has more than 288, so the remainder is i itself
 unfoldable pub intervalRow : List ℕ → ℕ → ℕ → List ℕ → List ℕ → List ℕ → List ℕ → List ℕ → List ℕ → List ℕ
 intervalRow file i n values flags methods reasons starts lengths =
     lineText

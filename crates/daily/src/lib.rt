@@ -100,7 +100,7 @@ fn text_at(file: &[u8], from: usize, n: usize) -> &[u8]
     part(file, from, from + n)
 }
 
-// Interval i of the lists.
+// Interval i of the lists. Its line has room for a number up to 288, and no day has more intervals.
 fn interval(
     page: &mut [u8],
     file: &[u8],

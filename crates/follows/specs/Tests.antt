@@ -8,6 +8,7 @@ use Rattle.format.specs.Quality.{Mark}
 use Rattle.format.specs.Order.{Expected, the100, first200, first300, underDay, underVaried, behind500, first250, behind250, behind550, theEnd}
 use Rattle.format.specs.declared.Tag.{Tag}
 
+-- the mark of a tag: its description is the bytes of the file at the tag's place
 abbrev pub markOf : List ℕ → Tag → Mark
 markOf file t = record { flag = t .flag; method = t .method; reason = t .reason; text = part file (t .start) (t .start + t .length) }
 

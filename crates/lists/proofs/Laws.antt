@@ -1,11 +1,12 @@
 -- Laws of filling, and of the five lists taken together. Assumes nothing.
-use Prim.Native.Nat.{ℕ, zero, suc, _+_, _-_, _≤_, _<_}
+use Prim.Native.Nat.{ℕ, suc, _+_, _-_, _≤_, _<_}
 use mathlib.Core.Path.{_≡_, refl, sym, ap, _∙_}
-use mathlib.Core.List.{List, _∷_, _++_, map, map-append}
+use mathlib.Core.List.{List, _++_, map, map-append}
 use native.Mathlib.Numerals.{add-one}
 use native.Mathlib.Omega.{arith}
 use lib.ListN.{length, set, replicate, length-map}
 use lib.Seq.{sets, length-sets}
+use Rattle.ground.proofs.Lists.{map-replicate}
 use Rattle.ground.proofs.Room.{sets-append}
 use Rattle.format.specs.declared.Tag.{Tag}
 use Rattle.format.specs.Day.{Five, five}
@@ -24,10 +25,6 @@ fill-end l i to x whole h e =
     let m : to - i ≡ 0 = omega arith in
     let s : sets l i (replicate (to - i) x) ≡ l = rw m in
     sym s ∙ e
-
-map-replicate : (f : Tag → ℕ) (n : ℕ) (t : Tag) → map f (replicate n t) ≡ replicate n (f t)
-map-replicate f zero t = refl
-map-replicate f (suc n) t = ap (λ (r : List ℕ). f t ∷ r) (map-replicate f n t)
 
 -- five fillings are one
 pub five-filled : (t : Tag) (i n : ℕ) (a b d e f a₁ b₁ d₁ e₁ f₁ : List ℕ)

@@ -20,6 +20,7 @@ use Rattle.format.specs.Answers.{Answer, accepted, refusal}
 use Rattle.format.specs.Day.{Day, dayOf, Five, Outcome, outcome, over, overFive, enoughFor, roomFor, readOf}
 use Rattle.format.specs.Block.{Given, intervalsGiven, markGiven, dayGiven, fitDay, isInside, fitGiven, blockOf, recordsOf, enough, writeOf, leftBy, roomOf}
 use Rattle.format.specs.declared.Tag.{Tag}
+use Rattle.theorems.proofs.Lists.{each-at}
 use Rattle.theorems.specs.Grammar.{Each, Record, Content, InFormat}
 use Rattle.theorems.specs.Days.{dayIn, meanings, ReadsAs, StandsAt}
 use Rattle.theorems.proofs.Says.{intervals-of}
@@ -53,11 +54,6 @@ from-all p j zero h = refl
 from-all p j (suc k) h =
     let a : p j ≡ true = rw add-zero at (h 0 (omega arith)) in
     both (p j) (all p (from (λ i. i) (suc j) k)) a (from-all p (suc j) k (λ i l. (let s : suc j + i ≡ j + suc i = omega arith in rw s (h (suc i) (omega arith)))))
-
-each-at : (P : Tag → Type 0) (ts : List Tag) (i : ℕ) → Each P ts → i < length ts → P (getD ts i noTag)
-each-at P [] i h l = absurd (let z : ⊥ = omega arith in z)
-each-at P (t ∷ ts) zero h l = h .0
-each-at P (t ∷ ts) (suc i) h l = each-at P ts i (h .1) (omega arith)
 
 -- ---- the interval length of a 200's n
 
@@ -116,7 +112,7 @@ module _ (file : List ℕ) (day : Day) (head : Record) (b : List ℕ) (r : Reads
   inside-handed i l =
       let t : Tag = getD tags i noTag in
       rw (column (λ (t : Tag). t .start) (ms .starts) i l, column (λ (t : Tag). t .length) (ms .lengths) i l)
-      (or-right (eqb (t .length) 0) (leb (t .start + t .length) (length file)) (le-leb _ _ (each-at (Points file) tags i q l .0)))
+      (or-right (eqb (t .length) 0) (leb (t .start + t .length) (length file)) (le-leb _ _ (each-at (Points file) noTag tags i q l .0)))
 
   long : (c : Tag → ℕ) (ws : List ℕ) → leb (day .n) (length (over (map c tags) ws)) ≡ true
   long c ws = le-leb (day .n) (length (over (map c tags) ws)) (omega (arith, length-append (map c tags) (drop (length (map c tags)) ws), length-map tags c, tags-long))

@@ -2,11 +2,12 @@
 use Prim.Native.Nat.{ℕ, zero, suc, _+_, _-_, _^_, _≤_, _<_}
 use mathlib.Core.Path.{_≡_, refl, sym, ap, ap₂, _∙_, subst}
 use mathlib.Core.Bool.{true, false, cond, true≢false}
-use mathlib.Core.List.{List, [], _∷_, _++_, map}
+use mathlib.Core.List.{List, [], _∷_, _++_, map, map-append}
 use native.Mathlib.Omega.{arith}
 use lib.ListN.{length, drop, replicate, length-take, length-drop, drop-of-length-le}
 use lib.Dec.{eqb}
 use borrow.Author.Tests.{lt-ltb, le-ltb}
+use Rattle.ground.proofs.Lists.{map-replicate}
 use Rattle.ground.proofs.Cases.{split, same-or, by}
 use Rattle.format.specs.Quality.{Mark}
 use Rattle.format.specs.Cut.{Lines, line, rest, lines, fields}
@@ -21,6 +22,7 @@ use Rattle.format.proofs.Cut.{bytesOf, bytes-lines}
 use Rattle.passing.proofs.Steps.{days-more, days-skip}
 use Rattle.theorems.specs.Grammar.{Each, InFormat}
 use Rattle.theorems.specs.Days.{meant, totals}
+use Rattle.theorems.proofs.Lists.{each-append}
 use Rattle.theorems.proofs.Format.{format}
 use Rattle.theorems.proofs.Days.{channel-totals}
 use Rattle.theorems.proofs.Meaning.{meaning, total-count}
@@ -32,33 +34,21 @@ use Rattle.promises.specs.Exact.{Points, ReadExactly, TotalExactly}
 -- ---- what is said of each interval
 
 module _ {X Y : Type 0} (g : X → Y) where
-  map-append : (xs ys : List X) → map g (xs ++ ys) ≡ map g xs ++ map g ys
-  map-append [] ys = refl
-  map-append (x ∷ xs) ys = ap (λ (l : List Y). g x ∷ l) (map-append xs ys)
-
-  map-replicate : (k : ℕ) (x : X) → map g (replicate k x) ≡ replicate k (g x)
-  map-replicate zero x = refl
-  map-replicate (suc k) x = ap (λ (l : List Y). g x ∷ l) (map-replicate k x)
-
   map-cover : (f : Row → X) (rs : List Row) → map g (coverOf f rs) ≡ coverOf (λ r. g (f r)) rs
   unfolding coverOf
   map-cover f [] = refl
   map-cover f (r ∷ rs) =
       let k : ℕ = lastIn (r .cells) + 1 - firstIn (r .cells) in
-      map-append (replicate k (f r)) (coverOf f rs) ∙ ap₂ (λ (x y : List Y). x ++ y) (map-replicate k (f r)) (map-cover f rs)
+      map-append g (replicate k (f r)) (coverOf f rs) ∙ ap₂ (λ (x y : List Y). x ++ y) (map-replicate g k (f r)) (map-cover f rs)
 
   map-each : (f : ℕ → Row → ℕ → X) (d : BlockRows) → map g (eachOf f d) ≡ eachOf (λ k x i. g (f k x i)) d
   unfolding eachOf
   map-each f d =
       by (isVaried (d .n) (d .top .cells))
       (λ t. rw t (map-cover (λ x. f 400 x 3) (d .runs)))
-      (λ t. rw t (map-replicate (d .n) (f 300 (d .top) (d .n + 2))))
+      (λ t. rw t (map-replicate g (d .n) (f 300 (d .top) (d .n + 2))))
 
 module _ {X : Type 0} (P : X → Type 0) where
-  each-append : (xs ys : List X) → Each P xs → Each P ys → Each P (xs ++ ys)
-  each-append [] ys h g = g
-  each-append (x ∷ xs) ys h g = (h .0, each-append xs ys (h .1) g)
-
   each-replicate : (k : ℕ) (x : X) → P x → Each P (replicate k x)
   each-replicate zero x h = tt
   each-replicate (suc k) x h = (h, each-replicate k x h)
@@ -68,7 +58,7 @@ module _ {X : Type 0} (P : X → Type 0) where
   each-cover f h [] = tt
   each-cover f h (r ∷ rs) =
       let k : ℕ = lastIn (r .cells) + 1 - firstIn (r .cells) in
-      each-append (replicate k (f r)) (coverOf f rs) (each-replicate k (f r) (h r)) (each-cover f h rs)
+      each-append P (replicate k (f r)) (coverOf f rs) (each-replicate k (f r) (h r)) (each-cover f h rs)
 
   each-each : (f : ℕ → Row → ℕ → X) → ((k : ℕ) (r : Row) (i : ℕ) → P (f k r i)) → (d : BlockRows) → Each P (eachOf f d)
   unfolding eachOf

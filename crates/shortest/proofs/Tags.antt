@@ -3,12 +3,13 @@
 use Prim.Native.Nat.{ℕ, zero, suc, _+_, _-_}
 use mathlib.Core.Path.{_≡_, refl, sym, ap, ap₂, _∙_}
 use mathlib.Core.Bool.{true, cond}
-use mathlib.Core.List.{List, [], _∷_, _++_, map, append-assoc}
+use mathlib.Core.List.{List, [], _∷_, _++_, map, append-assoc, map-append}
 use native.Mathlib.Omega.{arith}
 use lib.ListN.{length, take, drop, replicate}
 use lib.Seq.{take-append-seam, drop-append-add, drop-drop}
 use lib.Dec.{eqb}
 use borrow.Author.Tests.{ne-eqb}
+use Rattle.ground.proofs.Lists.{map-replicate}
 use Rattle.ground.proofs.Cases.{by}
 use Rattle.format.specs.Quality.{Mark}
 use Rattle.format.specs.Cut.{Lines, line, rest, fields, field, startOf}
@@ -17,7 +18,6 @@ use Rattle.format.specs.Order.{isVaried}
 use Rattle.format.specs.Answers.{Answer, accepted}
 use Rattle.format.specs.File.{checkOf}
 use Rattle.format.specs.Day.{rowAt, DayRows, runsFrom, daysOf, coverOf, eachOf, tagAt, tagsOf, Day, marksOf, dayOf, Outcome, outcome, over, overFive, roomFor, readInto, readFirst, afterCheck, readOf}
-use Rattle.format.specs.declared.Tag.{Tag}
 use Rattle.format.proofs.Cut.{bytesOf}
 use Rattle.passing.proofs.Steps.{blockFound}
 use Rattle.theorems.specs.Grammar.{Record, join}
@@ -66,14 +66,6 @@ module _ (file : List ℕ) where
 
   -- ---- a day
 
-  map-replicate : (k : ℕ) (t : Tag) → map (markOf file) (replicate k t) ≡ replicate k (markOf file t)
-  map-replicate zero t = refl
-  map-replicate (suc k) t = ap (λ (l : List Mark). markOf file t ∷ l) (map-replicate k t)
-
-  map-append : (xs ys : List Tag) → map (markOf file) (xs ++ ys) ≡ map (markOf file) xs ++ map (markOf file) ys
-  map-append [] ys = refl
-  map-append (x ∷ xs) ys = ap (λ (l : List Mark). markOf file x ∷ l) (map-append xs ys)
-
   -- the next record starts behind this one's CR LF
   pub next-at : (p : ℕ) (r : List ℕ) (ls : Lines) → drop p file ≡ bytesOf (line r ls) → drop (p + length r + 2) file ≡ bytesOf ls
   next-at p r ls h =
@@ -88,8 +80,8 @@ module _ (file : List ℕ) where
       let k : ℕ = lastIn (fields r) + 1 - firstIn (fields r) in
       by (eqb (kindIn (fields r)) 400)
       (λ t. rw t
-      (map-append (replicate k (tagAt 400 (rowAt p r) 3)) (coverOf (λ x. tagAt 400 x 3) (runsFrom (p + length r + 2) ls))
-      ∙ ap₂ (λ (x y : List Mark). x ++ y) (map-replicate k (tagAt 400 (rowAt p r) 3) ∙ ap (replicate k) (tag-mark 400 p 3 r (13 ∷ 10 ∷ bytesOf ls) h)) (cover-tags (p + length r + 2) ls (next-at p r ls h))))
+      (map-append (markOf file) (replicate k (tagAt 400 (rowAt p r) 3)) (coverOf (λ x. tagAt 400 x 3) (runsFrom (p + length r + 2) ls))
+      ∙ ap₂ (λ (x y : List Mark). x ++ y) (map-replicate (markOf file) k (tagAt 400 (rowAt p r) 3) ∙ ap (replicate k) (tag-mark 400 p 3 r (13 ∷ 10 ∷ bytesOf ls) h)) (cover-tags (p + length r + 2) ls (next-at p r ls h))))
       (λ t. rw t)
 
   pub tags-marks : (p n : ℕ) (r : List ℕ) (ls : Lines) → drop p file ≡ bytesOf (line r ls) → map (markOf file) (tagsOf (blockFound p r ls n)) ≡ marksOf (blockFound p r ls n)
@@ -97,7 +89,7 @@ module _ (file : List ℕ) where
   tags-marks p n r ls h =
       by (isVaried n (fields r))
       (λ t. rw t (cover-tags (p + length r + 2) ls (next-at p r ls h)))
-      (λ t. rw t (map-replicate n (tagAt 300 (rowAt p r) (n + 2)) ∙ ap (replicate n) (tag-mark 300 p (n + 2) r (13 ∷ 10 ∷ bytesOf ls) h)))
+      (λ t. rw t (map-replicate (markOf file) n (tagAt 300 (rowAt p r) (n + 2)) ∙ ap (replicate n) (tag-mark 300 p (n + 2) r (13 ∷ 10 ∷ bytesOf ls) h)))
 
 -- ---- what a reading answers and leaves
 

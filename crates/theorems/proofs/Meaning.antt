@@ -1,9 +1,9 @@
 -- What the days of a file in the format mean, by its grammar: the same at every place, as many days and channels as the check answers, n values and n marks, each
 -- interval with the mark of the record that names it. Assumes nothing.
-use Prim.Native.Nat.{ℕ, zero, suc, _+_, _-_, _≤_, _<_}
+use Prim.Native.Nat.{ℕ, suc, _+_, _-_, _≤_, _<_}
 use mathlib.Core.Path.{_≡_, refl, sym, ap, _∙_}
 use mathlib.Core.Bool.{true, false}
-use mathlib.Core.List.{List, [], _∷_, _++_, map}
+use mathlib.Core.List.{List, [], _∷_, _++_, map, map-append}
 use native.Mathlib.Omega.{arith}
 use lib.ListN.{length, getD, take, drop, replicate, length-append, length-take, length-drop, length-map, length-replicate, getD-replicate, List·getD-append}
 use lib.Seq.{getD-append-add}
@@ -12,10 +12,11 @@ use Rattle.format.specs.Cut.{lines}
 use Rattle.format.specs.Quality.{Mark, noMark}
 use Rattle.format.specs.Records.{rowOf, intervalsIn, millionths, valuesIn, firstIn, lastIn, markAt, markIn}
 use Rattle.format.specs.Order.{isVaried}
-use Rattle.format.specs.Day.{Row, DayRows, daysOf, coverOf, eachOf, valuesOf, marksOf, Day, dayOf}
+use Rattle.format.specs.Day.{Row, daysOf, coverOf, eachOf, valuesOf, marksOf, dayOf}
 use Rattle.format.specs.Total.{totalsFrom}
 use Rattle.theorems.specs.Grammar.{Each, Record, join, Block, Covers, Marked, IsBlock, Channel, Reading, Content, nem12, nem13, channelsIn, blocksIn, daysIn, InFormat}
 use Rattle.theorems.specs.Days.{behind, recordAt, rowsAt, rowsOf, blockAt, blockDays, behindBlocks, channelDays, contentDays, dayIn, meant, blockMeanings, channelMeanings, meanings, channelTotals, readingTotals, totals}
+use Rattle.theorems.proofs.Lists.{each-at}
 use Rattle.theorems.proofs.Rows.{meets-length}
 use Rattle.theorems.proofs.Days.{days, channel-totals}
 use Rattle.theorems.proofs.Once.{row-length}
@@ -35,10 +36,6 @@ pub day-anywhere : (p n : ℕ) (b : Block) → dayOf (blockAt p n b) ≡ dayIn n
 unfolding dayIn dayOf marksOf eachOf valuesOf
 day-anywhere p n b = rw (cover-anywhere (p + length (join (b .top)) + 2) (0 + length (join (b .top)) + 2) (b .runs))
 
-map-append : (xs ys : List DayRows) → map meant (xs ++ ys) ≡ map meant xs ++ map meant ys
-map-append [] ys = refl
-map-append (x ∷ xs) ys = ap (λ (ds : List Day). meant x ∷ ds) (map-append xs ys)
-
 block-meanings : (p : ℕ) (c : Row) (bs : List Block) → map meant (blockDays p c bs) ≡ blockMeanings (intervalsIn (c .cells)) bs
 block-meanings p c [] = refl
 block-meanings p c (b ∷ bs) = rw (day-anywhere p (intervalsIn (c .cells)) b, block-meanings (behind p (rowsOf b)) c bs)
@@ -48,7 +45,7 @@ channel-meanings p [] = refl
 channel-meanings p (c ∷ cs) =
     let q : ℕ = p + length (join (c .head)) + 2 in
     let n : Row = recordAt p (c .head) in
-    map-append (blockDays q n (c .blocks)) (channelDays (behindBlocks q (c .blocks)) cs)
+    map-append meant (blockDays q n (c .blocks)) (channelDays (behindBlocks q (c .blocks)) cs)
     ∙ rw (block-meanings q n (c .blocks), channel-meanings (behindBlocks q (c .blocks)) cs)
 
 content-meanings : (p : ℕ) (x : Content) → map meant (contentDays p x) ≡ meanings x
@@ -171,11 +168,6 @@ interval-marks n b h e = rw (varied-marks n b h e) (cover-gives n 1 0 (b .runs) 
 
 -- ---- a V day has two intervals with different marks
 
-each-at : (m : Mark) (ms : List Mark) (i : ℕ) → Each (λ x. x ≡ m) ms → i < length ms → getD ms i noMark ≡ m
-each-at m [] i h l = absurd (let z : ⊥ = omega arith in z)
-each-at m (x ∷ ms) zero h l = h .0
-each-at m (x ∷ ms) (suc i) h l = each-at m ms i (h .1) (omega arith)
-
 pub unlike-intervals : (n : ℕ) (b : Block) → IsBlock n b → isVaried n (b .top) ≡ true → (m : Mark) → Each (λ x. x ≡ m) (dayIn n b .marks) → ⊥
 unlike-intervals n b h e m all = h .unlike e (m, go 1 (b .runs) (omega arith) (h .covers e) (interval-marks n b h e))
   where
@@ -186,4 +178,4 @@ unlike-intervals n b h e m all = h .unlike e (m, go 1 (b .runs) (omega arith) (h
         let y : firstIn r ≤ lastIn r = c .1 in
         let z : lastIn r ≤ n = c .2 in
         let i : firstIn r - 1 < length (dayIn n b .marks) = omega (arith, mark-count n b h) in
-        (sym (g .0 (firstIn r) (omega arith) y) ∙ each-at m (dayIn n b .marks) (firstIn r - 1) all i, go (lastIn r + 1) rs (omega arith) (c .3) (g .1))
+        (sym (g .0 (firstIn r) (omega arith) y) ∙ each-at (λ x. x ≡ m) noMark (dayIn n b .marks) (firstIn r - 1) all i, go (lastIn r + 1) rs (omega arith) (c .3) (g .1))

@@ -11,6 +11,7 @@ use Rattle.format.specs.Day.{Day}
 use Rattle.passing.proofs.Days.{count-300}
 use Rattle.theorems.specs.Grammar.{Each, Record, join, text, IsRecord, Block, IsBlock, Channel, IsChannel, Reading, IsReading, Content, nem12, nem13, IsContent, blocksThen, channelsThen, readingsThen, contentThen, InFormat}
 use Rattle.theorems.specs.Days.{ReadsAs}
+use Rattle.theorems.proofs.Lists.{each-append}
 use Rattle.theorems.proofs.Bytes.{lines-row}
 use Rattle.theorems.proofs.Rows.{Fields, record-fields, meets-length}
 use Rattle.theorems.proofs.Takes.{fields-of}
@@ -30,10 +31,6 @@ records-text (r ∷ rs) h = let w = fields-of r (h .0) in rw (lines-row (join r)
 text-once : (rs us : List Record) → Each Fields rs → Each Fields us → text rs ≡ text us → rs ≡ us
 text-once rs us h g e = sym (records-text rs h) ∙ ap (λ (s : List ℕ). recordsIn (lines s)) e ∙ records-text us g
 
-each-append : (rs us : List Record) → Each Fields rs → Each Fields us → Each Fields (rs ++ us)
-each-append [] us h g = g
-each-append (r ∷ rs) us h g = (h .0, each-append rs us (h .1) g)
-
 records-all : (k n : ℕ) (rs : List Record) → Each (IsRecord k n) rs → Each Fields rs
 records-all k n [] h = tt
 records-all k n (r ∷ rs) h = (record-fields k n r (h .0), records-all k n rs (h .1))
@@ -41,8 +38,8 @@ records-all k n (r ∷ rs) h = (record-fields k n r (h .0), records-all k n rs (
 block-all : (n : ℕ) (b : Block) (t : List Record) → IsBlock n b → Each Fields t → Each Fields (b .top ∷ (b .runs ++ (b .extra ++ t)))
 block-all n b t h g = (
   record-fields 300 n (b .top) (h .top),
-  each-append (b .runs) (b .extra ++ t) (records-all 400 0 (b .runs) (h .runs))
-      (each-append (b .extra) t (records-all 500 0 (b .extra) (extras-500 (dateIn (b .top)) (b .extra) (h .extra))) g),
+  each-append Fields (b .runs) (b .extra ++ t) (records-all 400 0 (b .runs) (h .runs))
+      (each-append Fields (b .extra) t (records-all 500 0 (b .extra) (extras-500 (dateIn (b .top)) (b .extra) (h .extra))) g),
 )
 
 blocks-all : (n : ℕ) (bs : List Block) (t : List Record) → Each (IsBlock n) bs → Each Fields t → Each Fields (blocksThen bs t)
@@ -57,7 +54,7 @@ channels-all (c ∷ cs) t h g =
 readings-all : (rs : List Reading) (t : List Record) → Each IsReading rs → Each Fields t → Each Fields (readingsThen rs t)
 readings-all [] t h g = g
 readings-all (r ∷ rs) t h g =
-    (record-fields 250 0 (r .head) (h .0 .head), each-append (r .codes) (readingsThen rs t) (records-all 550 0 (r .codes) (h .0 .codes)) (readings-all rs t (h .1) g))
+    (record-fields 250 0 (r .head) (h .0 .head), each-append Fields (r .codes) (readingsThen rs t) (records-all 550 0 (r .codes) (h .0 .codes)) (readings-all rs t (h .1) g))
 
 content-all : (v : ℕ) (x : Content) (t : List Record) → IsContent v x → Each Fields t → Each Fields (contentThen x t)
 content-all v (nem12 cs) t h g = channels-all cs t (h .2) g

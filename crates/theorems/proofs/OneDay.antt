@@ -10,6 +10,7 @@ use Rattle.format.specs.Answers.{accepted}
 use Rattle.format.specs.File.{checkOf}
 use Rattle.theorems.specs.Grammar.{Each, Record, join, text, IsRecord, Block, IsBlock, Channel, IsChannel, Content, nem12, nem13, IsContent, blocksThen, channelsThen, contentThen}
 use Rattle.theorems.specs.Days.{behind, recordAt, rowsOf, blockDays, behindBlocks, channelDays, contentDays, meant, meanings, Means, StandsAt, OneDay}
+use Rattle.theorems.proofs.Lists.{each-append, each-drop}
 use Rattle.theorems.proofs.Format.{format}
 use Rattle.theorems.proofs.Days.{days}
 use Rattle.theorems.proofs.Meaning.{day-anywhere, meaning, day-count}
@@ -33,10 +34,6 @@ block-text b t = rw (← append-assoc (b .runs) (b .extra) t) (text-append (rows
 
 abbrev Standing : List ℕ → DayRows → Type 0
 Standing file x = StandsAt file (x .block .top .place) (meant x)
-
-each-append : (P : DayRows → Type 0) (xs ys : List DayRows) → Each P xs → Each P ys → Each P (xs ++ ys)
-each-append P [] ys h g = g
-each-append P (x ∷ xs) ys h g = (h .0, each-append P xs ys (h .1) g)
 
 -- the rows t start at p in the file, behind the bytes s
 record From (file s : List ℕ) (p : ℕ) (t : List Record) : Type 0 where
@@ -112,11 +109,6 @@ find : (k : ℕ) (xs : List DayRows) → k < length xs → Found k xs
 find k [] h = absurd (let z : ⊥ = omega arith in z)
 find zero (x ∷ xs) h = record { rows = x; more = xs; is = refl }
 find (suc k) (x ∷ xs) h = let w = find k xs (omega arith) in record { rows = w .rows; more = w .more; is = w .is }
-
-each-drop : (P : DayRows → Type 0) (k : ℕ) (xs : List DayRows) → Each P xs → Each P (drop k xs)
-each-drop P zero xs h = h
-each-drop P (suc k) [] h = tt
-each-drop P (suc k) (x ∷ xs) h = each-drop P k xs (h .1)
 
 map-drop : (k : ℕ) (xs : List DayRows) → drop k (map meant xs) ≡ map meant (drop k xs)
 map-drop zero xs = refl
