@@ -1,24 +1,21 @@
 -- The walk to the channel of a number, what is answered of it, and the channel behind it. Assumes nothing.
-use Prim.Native.Nat.{ℕ, zero, suc, _+_, _-_, _^_, _≤_, _<_}
+use Prim.Native.Nat.{ℕ, zero, suc, _+_, _-_, _≤_}
 use mathlib.Core.Path.{_≡_, refl, sym, ap, _∙_}
 use mathlib.Core.List.{List, [], _∷_}
 use native.Mathlib.Omega.{arith}
 use lib.ListN.{length, drop}
 use lib.Seq.{drop-nil, drop-length, drop-drop}
-use borrow.Author.Tests.{ne-eqb, lt-ltb, le-ltb}
+use borrow.Author.Tests.{ne-eqb}
 use Rattle.ground.specs.Lists.{part}
 use Rattle.format.specs.Cut.{lines, fields}
 use Rattle.format.specs.Records.{kindIn, intervalsIn, millionths, quantityIn}
 use Rattle.format.specs.Answers.{Answer, accepted, refusal}
 use Rattle.format.specs.Total.{totalsFrom, totalFirst, totalOf}
-use Rattle.format.specs.declared.Number.{Number}
-use Rattle.format.specs.declared.Number.the-variants.{Is, Bad}
 use Rattle.lines.specs.Places.{LineEnd, Cut, Rest}
 use Rattle.lines.proofs.Cuts.{rest-here}
 use Rattle.lines.proofs.Ends.{line-none, line-more}
 use Rattle.format.specs.File.{IsAccepted}
-use Rattle.sums.specs.Sums.{held, sumAt}
-use Rattle.sums.proofs.Sums.{got-is, got-bad, got-fits}
+use Rattle.sums.specs.Sums.{sumAt}
 use Rattle.channel.specs.declared.Channel.{Channel}
 use Rattle.channel.specs.declared.Channel.the-variants.{Days, Quantity, Missing}
 use Rattle.channel.specs.declared.ChannelStart.{ChannelStart}
@@ -112,23 +109,13 @@ behind-none file c h r ra rl = record { within = omega arith; is = rw (h, ra, rl
 
 -- ---- what is answered of it
 
-module _ (w : ℕ) {x : Number} (ex : x ≡ held w) where
-  pub total-is : {v : ℕ} → x ≡ Is v → accepted (v ∷ []) ≡ totalFirst (w ∷ [])
-  total-is {v} h =
-      let q : w ≡ v = got-is w v (sym ex ∙ h) in
-      let l : w < 2 ^ 64 = rw (← q) at (got-fits w ex h) in
-      rw (lt-ltb _ _ l, q)
-
-  pub total-over : (r : Answer) → x ≡ Bad → r ≡ refusal 17 → r ≡ totalFirst (w ∷ [])
-  total-over r h er = rw (le-ltb _ _ (got-bad w (sym ex ∙ h))) er
-
 module _ (file : List ℕ) (c : Channel) where
-  pub channel-days : (a e n : ℕ) (r : Answer) → c ≡ Days a e → n ≡ intervalsIn (fields (part file a e)) → r ≡ totalFirst (sumAt file (e + 2) n ∷ [])
-      → r ≡ totalFirst (totalled file c)
-  channel-days a e n r h en er = rw (h, ← en) er
+  pub channel-days : (a e n v : ℕ) → c ≡ Days a e → n ≡ intervalsIn (fields (part file a e)) → v ≡ sumAt file (e + 2) n
+      → accepted (v ∷ []) ≡ totalFirst (totalled file c)
+  channel-days a e n v h en ev = rw (h, ← en, ← ev)
 
-  pub channel-quantity : (a e v : ℕ) → c ≡ Quantity a e → v ≡ quantityIn (fields (part file a e)) → v < 10 ^ 13 → accepted (v ∷ []) ≡ totalFirst (totalled file c)
-  channel-quantity a e v h ev hv = let l : v < 2 ^ 64 = omega arith in rw (h, ← ev, lt-ltb _ _ l)
+  pub channel-quantity : (a e v : ℕ) → c ≡ Quantity a e → v ≡ quantityIn (fields (part file a e)) → accepted (v ∷ []) ≡ totalFirst (totalled file c)
+  channel-quantity a e v h ev = rw (h, ← ev)
 
   pub channel-missing : (r : Answer) → c ≡ Missing → r ≡ refusal 14 → r ≡ totalFirst (totalled file c)
   channel-missing r h er = rw (h, er)

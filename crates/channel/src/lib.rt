@@ -2,7 +2,6 @@
 pub mod walk;
 
 use day::walk::intervals_of;
-use format::Number;
 use format::Refusal;
 use format::Totalled;
 use sums::add_days;
@@ -10,13 +9,11 @@ use walk::behind;
 use walk::find_channel;
 use walk::quantity_of;
 ghost use mathlib.Core.Path.{_≡_};
-ghost use mathlib.Core.List.{[], _∷_};
 ghost use Prim.Native.Nat.{_+_, _≤_};
 ghost use lib.ListN.{length, drop};
 ghost use Rattle.format.specs.Answers.{totalledAs};
 ghost use Rattle.format.specs.Total.{totalFirst, totalOf};
-ghost use Rattle.sums.specs.Sums.{sumAt};
-ghost use Rattle.format.specs.File.{IsAccepted};
+ghost use Rattle.format.specs.File.{most, IsAccepted};
 ghost use Rattle.channel.specs.Places.{totalsIn, ChannelAhead, totalled, inside};
 
 // From where a channel is found: it stands behind `left` more channels from the record at `at` on.
@@ -32,27 +29,15 @@ pub enum Channel {
     Missing,
 }
 
-// What the days from a place on add up to.
-fn days_total(file: &[u8], start: usize, n: usize) -> Totalled
-    requires { ⌜ start ≤ length (now file) ⌝ }
-    ensures { λ r. ⌜ totalledAs r ≡ totalFirst (sumAt (now (file .entry)) start n ∷ []) ⌝ }
-{
-    let x = add_days(file, start, n);
-    match x {
-        Number::Is(v) => Totalled::Total(v),
-        Number::Bad => Totalled::Refused(Refusal::bare(17)),
-    }
-}
-
 // What a channel adds up to, if there is one.
 fn total_place(file: &[u8], c: Channel) -> Totalled
-    requires { ⌜ inside (now file) c ⌝ }
+    requires { ⌜ inside (now file) c × (length (now file) ≤ most) ⌝ }
     ensures { λ r. ⌜ totalledAs r ≡ totalFirst (totalled (now (file .entry)) c) ⌝ }
 {
     match c {
         Channel::Missing => Totalled::Refused(Refusal::bare(14)),
         Channel::Quantity(a, e) => Totalled::Total(quantity_of(file, a, e)),
-        Channel::Days(a, e) => days_total(file, e + 2, intervals_of(file, a, e)),
+        Channel::Days(a, e) => Totalled::Total(add_days(file, e + 2, intervals_of(file, a, e))),
     }
 }
 

@@ -7,7 +7,7 @@ use lines::pieces::field_at;
 use says::kind_at;
 use says::value_of;
 ghost use mathlib.Core.Path.{_≡_};
-ghost use Prim.Native.Nat.{_≤_, _<_, _^_};
+ghost use Prim.Native.Nat.{_≤_};
 ghost use lib.ListN.{length, drop};
 ghost use Rattle.ground.specs.Lists.{part};
 ghost use Rattle.format.specs.Cut.{fields};
@@ -17,8 +17,7 @@ ghost use Rattle.channel.specs.Places.{totalsIn, ChannelAhead, totalled,
 // The quantity of a 250, as its text has it: multiplier and rollover of the two reads aren't in the file.
 pub fn quantity_of(file: &[u8], a: usize, e: usize) -> u64
     requires { ⌜ (a ≤ e) × (e ≤ length (now file)) ⌝ }
-    ensures is { λ r. ⌜ r ≡ quantityIn (fields (part (now (file .entry)) a e)) ⌝ }
-    ensures small { λ r. ⌜ r < 10 ^ 13 ⌝ }
+    ensures { λ r. ⌜ r ≡ quantityIn (fields (part (now (file .entry)) a e)) ⌝ }
 {
     let x = skip(file, a, e, 18);
     let f = field_at(file, x, e);

@@ -46,6 +46,16 @@ module _ (s : List ℕ) (i : ℕ) where
   unfolding fields
   count-end h = rw (drop-of-length-le s h)
 
+-- a comma parts each two of them
+pub count-most : (s : List ℕ) → length (fields s) ≤ length s + 1
+unfolding fields
+count-most [] = omega arith
+count-most (b ∷ s) = go (other 44 b) (count-most s) (fields-some s)
+  where
+    go : (t : Bool) → length (fields s) ≤ length s + 1 → 0 < length (fields s) → length (cond t (onField b (fields s)) ([] ∷ fields s)) ≤ suc (length s) + 1
+    go true h k = rw (on-length b (fields s) k) (omega arith)
+    go false h k = omega arith
+
 -- two lists one behind the other: the last field of the first and the first of the second are one
 pub count-append : (a b : List ℕ) → length (fields (a ++ b)) + 1 ≡ length (fields a) + length (fields b)
 unfolding fields

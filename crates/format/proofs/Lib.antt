@@ -12,3 +12,4 @@ pub mod Forms
 pub mod Settled
 pub mod Refusals
 pub mod Faults
+pub mod Total

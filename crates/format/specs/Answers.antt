@@ -1,4 +1,4 @@
--- 01, Refusal numbers: "Numbers are answered with byte place, record number from 0, and field number from 1 (0 if no field is meant)." "For 1, 14 to 17, and
+-- 01, Refusal numbers: "Numbers are answered with byte place, record number from 0, and field number from 1 (0 if no field is meant)." "For 1, 14 to [16], and
 -- any number added later without a place of its own, place, record and field are 0." And, in Which form goes where: "If an answer is an enum, a definition
 -- sets out this paper's number and values for each of the enum's cases."
 use Prim.Native.Nat.{ℕ}

@@ -13,7 +13,7 @@ use Rattle.format.specs.Cut.{Lines, line, rest, lines}
 use Rattle.format.specs.Order.{isEnd, Due, begun}
 use Rattle.format.specs.Faults.{faultOf}
 use Rattle.format.specs.Answers.{Answer, accepted, refused, refusal}
-use Rattle.format.specs.File.{after, orGoOn, walkOf, most, checkOf}
+use Rattle.format.specs.File.{after, orGoOn, walkOf, most, checkOf, IsAccepted}
 use Rattle.format.specs.declared.Fault.{Fault}
 use Rattle.format.specs.declared.Fault.the-variants.{Fine, Stop}
 use Rattle.passing.specs.Passes.{Passes}
@@ -91,6 +91,10 @@ pub of-walk : (file : List ℕ) (a : Answer) → length file ≤ most → walkOf
 unfolding checkOf
 of-walk file a h e = rw (le-ltb most (length file) h) e
 
--- an accepted file passes
+-- an accepted file is not too long
+pub file-short : (file : List ℕ) → IsAccepted file → length file ≤ most
+file-short file a = walk-of file (accepted (a .0)) (a .1) (not-accepted 1 0 0 0 (a .0)) .0
+
+-- and passes
 pub file-passes : (file xs : List ℕ) → checkOf file ≡ accepted xs → Passed begun (lines file) xs
 file-passes file xs e = passed begun 0 0 (lines file) xs (walk-of file (accepted xs) e (not-accepted 1 0 0 0 xs) .1)

@@ -1,12 +1,12 @@
 -- What a reading of an accepted file answers and leaves is what the grammar has it answer and leave: each day, each total, and nothing else. Assumes nothing.
 use Prim.Native.Nat.{ℕ, zero, suc, _+_, _-_, _^_, _≤_, _<_}
 use mathlib.Core.Path.{_≡_, refl, sym, ap, ap₂, _∙_, subst}
+use mathlib.Core.Logic.{_⊎_, inl, inr}
 use mathlib.Core.Bool.{true, false, cond, true≢false}
 use mathlib.Core.List.{List, [], _∷_, _++_, map, map-append}
 use native.Mathlib.Omega.{arith}
 use lib.ListN.{length, drop, replicate, length-take, length-drop, drop-of-length-le}
 use lib.Dec.{eqb}
-use borrow.Author.Tests.{lt-ltb, le-ltb}
 use Rattle.ground.proofs.Lists.{map-replicate}
 use Rattle.ground.proofs.Cases.{split, same-or, by}
 use Rattle.format.specs.Quality.{Mark}
@@ -16,15 +16,16 @@ use Rattle.format.specs.Order.{isVaried}
 use Rattle.format.specs.Answers.{Answer, accepted, refused, refusal}
 use Rattle.format.specs.File.{checkOf}
 use Rattle.format.specs.Day.{Row, rowAt, BlockRows, DayRows, dayFrom, daysFrom, noChannel, daysOf, coverOf, eachOf, tagAt, tagsOf, marksOf, dayOf, Five, outcome, roomFor, readInto, readFirst, afterCheck, readOf}
-use Rattle.format.specs.Total.{totalFirst, totalOf}
+use Rattle.format.specs.Total.{totalsFrom, totalFirst, totalAfter, totalOf}
 use Rattle.format.specs.declared.Tag.{Tag}
 use Rattle.format.proofs.Cut.{bytesOf, bytes-lines}
 use Rattle.passing.proofs.Steps.{days-more, days-skip}
 use Rattle.theorems.specs.Grammar.{Each, InFormat}
 use Rattle.theorems.specs.Days.{meant, totals}
-use Rattle.theorems.proofs.Lists.{each-append}
+use Rattle.theorems.proofs.Lists.{each-append, each-drop}
 use Rattle.theorems.proofs.Format.{format}
 use Rattle.theorems.proofs.Days.{channel-totals}
+use Rattle.theorems.proofs.Bounds.{totals-fit}
 use Rattle.theorems.proofs.Meaning.{meaning, total-count}
 use Rattle.theorems.proofs.OneDay.{one-day, no-day}
 use Rattle.shortest.specs.Blocks.{markOf}
@@ -141,9 +142,6 @@ module _ (file : List ℕ) where
 
 -- ---- by the grammar
 
-numbers : (x y : ℕ) → refusal x ≡ refusal y → x ≡ y
-numbers x y e = cc
-
 module _ (file : List ℕ) (v c d : ℕ) (h : InFormat file v c d) where
   passed : checkOf file ≡ accepted (v ∷ c ∷ d ∷ [])
   passed = format file v c d .1 h
@@ -196,13 +194,8 @@ module _ (file : List ℕ) (v c d : ℕ) (h : InFormat file v c d) where
       go [] e = absurd (some e)
       go (t ∷ ts) e =
           let z : totalOf file channel ≡ totalFirst (t ∷ ts) = total-is channel ∙ ap totalFirst e in
-          record {
-            total = t;
-            more = ts;
-            is = e;
-            below = λ b. z ∙ (rw (lt-ltb t (2 ^ 64) b));
-            above = λ b. z ∙ (rw (le-ltb t (2 ^ 64) b));
-          }
+          let b : Each (λ u. u < 2 ^ 64) (t ∷ ts) = rw e at (each-drop (λ u. u < 2 ^ 64) channel (totals (h .content)) (totals-fit file v c d h)) in
+          record { total = t; more = ts; is = e; answered = z; below = b .0 }
 
   pub channel-none : (channel : ℕ) → c ≤ channel → totalOf file channel ≡ refusal 14
   channel-none channel l =
@@ -211,11 +204,17 @@ module _ (file : List ℕ) (v c d : ℕ) (h : InFormat file v c d) where
 
   pub channel-none-only : (channel : ℕ) → totalOf file channel ≡ refusal 14 → c ≤ channel
   channel-none-only channel e =
-      split c channel (λ l. l) (λ l.
-      let w = channel-exact channel l in
-      split (2 ^ 64) (w .total)
-      (λ b. absurd (let z : ⊥ = omega (arith, numbers 17 14 (sym (w .above b) ∙ e)) in z))
-      (λ b. absurd (let g = w .below b in let z : true ≡ false = cc in true≢false z)))
+      split c channel (λ l. l) (λ l. absurd (let w = channel-exact channel l in let z : true ≡ false = cc in true≢false z))
+
+-- whatever the file is, a total is refused by the file's own refusal, or since there is no such channel
+pub total-refusal : (file : List ℕ) (channel n q k i : ℕ) → totalOf file channel ≡ refused n q k i → (checkOf file ≡ refused n q k i) ⊎ (refused n q k i ≡ refusal 14)
+unfolding totalOf
+total-refusal file channel n q k i e = go (checkOf file) (drop channel (totalsFrom (lines file))) e
+  where
+    go : (a : Answer) (ts : List ℕ) → totalAfter a (totalFirst ts) ≡ refused n q k i → (a ≡ refused n q k i) ⊎ (refused n q k i ≡ refusal 14)
+    go (refused x p j f) ts r = inl r
+    go (accepted xs) [] r = inr (sym r)
+    go (accepted xs) (t ∷ ts) r = absurd (let z : true ≡ false = cc in true≢false z)
 
 -- ---- a refusal leaves all as it was
 

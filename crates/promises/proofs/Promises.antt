@@ -1,10 +1,11 @@
 -- What the contract of each public entry promises of a file that is in the format, and where it refuses. Said of what a caller learns of the function, which
 -- the tool makes of the clauses in its source. Assumes nothing.
 use mathlib.Core.Path.{_≡_, sym, ap, ap₂, _∙_, subst}
-use mathlib.Core.Logic.{_↔_}
+use mathlib.Core.Logic.{_↔_, _⊎_, inl, inr}
 use mathlib.Core.Bool.{true}
 use mathlib.Core.List.{List, [], _∷_, _++_, map}
 use Prim.Native.Nat.{ℕ, _≤_, _<_}
+use native.Mathlib.Omega.{arith}
 use contract.Lifetimes.{Lfts}
 use borrow.Fn.Kinds.{Dens, resT, endedOf}
 use denote.Triple.Clauses.{AtExit}
@@ -20,6 +21,7 @@ use Rattle.theorems.specs.Grammar.{InFormat}
 use Rattle.theorems.specs.First.{GivenTo}
 use Rattle.theorems.proofs.Format.{format}
 use Rattle.theorems.proofs.First.{first}
+use Rattle.theorems.proofs.Reach.{check-number}
 use Rattle.shortest.specs.Blocks.{markOf}
 use Rattle.shortest.proofs.Refuses.{writes-exactly}
 use Rattle.shortest.proofs.Theorems.{written-accepted as accepted-with}
@@ -33,7 +35,7 @@ use Rattle.writing.proofs.write_day.Kinds as write-kinds
 use Rattle.writing.proofs.write_day.Reads as write-reads
 use Rattle.promises.specs.Exact.{ReadExactly, TotalExactly}
 use Rattle.promises.specs.Again.{handedOn, WrittenAgain}
-use Rattle.promises.proofs.Exact.{day-exact, day-none, day-none-only, channel-exact, channel-none, channel-none-only, read-keeps}
+use Rattle.promises.proofs.Exact.{day-exact, day-none, day-none-only, channel-exact, channel-none, channel-none-only, total-refusal, read-keeps}
 use Rattle.promises.proofs.Again.{again}
 
 -- ---- `check`, which is lent nothing that it may change
@@ -49,15 +51,31 @@ module _ (κs : Lfts 1) (a : Dens κs check-kinds.ps) (x : resT check-kinds.r κ
 
 -- ---- `total`, which is lent nothing that it may change
 
-module _ (κs : Lfts 1) (a : Dens κs total-kinds.ps) (x : resT total-kinds.r κs .Denot) (e : AtExit (endedOf 1 total-kinds.ps total-kinds.r) κs) (p : total-reads.Learnt κs a x e)
-    (v c d : ℕ) (h : InFormat (now (a .0)) v c d) where
-  -- a channel's total is what the grammar has it add up to
-  pub total-exact : a .1 .0 < c → TotalExactly (a .1 .0) (h .content) (totalledAs x)
-  total-exact l = subst (TotalExactly (a .1 .0) (h .content)) (sym p) (channel-exact (now (a .0)) v c d h (a .1 .0) l)
+module _ (κs : Lfts 1) (a : Dens κs total-kinds.ps) (x : resT total-kinds.r κs .Denot) (e : AtExit (endedOf 1 total-kinds.ps total-kinds.r) κs) (p : total-reads.Learnt κs a x e) where
+  -- whatever the file is: it is refused by 01's refusal of the file, or by 14
+  pub total-refuses : (n q k i : ℕ) → totalledAs x ≡ refused n q k i → GivenTo (now (a .0)) n q k i ⊎ (refused n q k i ≡ refusal 14)
+  total-refuses n q k i r = go (total-refusal (now (a .0)) (a .1 .0) n q k i (sym p ∙ r))
+    where
+      go : (checkOf (now (a .0)) ≡ refused n q k i) ⊎ (refused n q k i ≡ refusal 14) → GivenTo (now (a .0)) n q k i ⊎ (refused n q k i ≡ refusal 14)
+      go (inl g) = inl (first (now (a .0)) n q k i .0 g)
+      go (inr g) = inr g
 
-  -- and there is no such channel exactly from the number of channels on
-  pub total-none : (totalledAs x ≡ refusal 14) ↔ (c ≤ a .1 .0)
-  total-none = (λ q. channel-none-only (now (a .0)) v c d h (a .1 .0) (sym p ∙ q), λ l. p ∙ channel-none (now (a .0)) v c d h (a .1 .0) l)
+  -- 02, request 7: "17 never occurs"
+  pub never-17 : (q k i : ℕ) → totalledAs x ≡ refused 17 q k i → ⊥
+  never-17 q k i r = go (total-refusal (now (a .0)) (a .1 .0) 17 q k i (sym p ∙ r))
+    where
+      go : (checkOf (now (a .0)) ≡ refused 17 q k i) ⊎ (refused 17 q k i ≡ refusal 14) → ⊥
+      go (inl g) = omega (arith, check-number (now (a .0)) 17 q k i g)
+      go (inr g) = let z : _≡_ {A = ℕ} 17 14 = cc in omega arith
+
+  module _ (v c d : ℕ) (h : InFormat (now (a .0)) v c d) where
+    -- a channel's total is what the grammar has it add up to, and 64 bits hold it
+    pub total-exact : a .1 .0 < c → TotalExactly (a .1 .0) (h .content) (totalledAs x)
+    total-exact l = subst (TotalExactly (a .1 .0) (h .content)) (sym p) (channel-exact (now (a .0)) v c d h (a .1 .0) l)
+
+    -- and there is no such channel exactly from the number of channels on
+    pub total-none : (totalledAs x ≡ refusal 14) ↔ (c ≤ a .1 .0)
+    total-none = (λ q. channel-none-only (now (a .0)) v c d h (a .1 .0) (sym p ∙ q), λ l. p ∙ channel-none (now (a .0)) v c d h (a .1 .0) l)
 
 -- ---- `read_day`
 

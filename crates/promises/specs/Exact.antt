@@ -37,6 +37,6 @@ pub record TotalExactly (channel : ℕ) (content : Content) (answer : Answer) : 
   pub total : ℕ
   pub more : List ℕ
   pub is : drop channel (totals content) ≡ total ∷ more
-  pub below : total < 2 ^ 64 → answer ≡ accepted (total ∷ [])
-  -- "a channel's exact total is 2^64 or more"
-  pub above : 2 ^ 64 ≤ total → answer ≡ refusal 17
+  pub answered : answer ≡ accepted (total ∷ [])
+  -- 02, request 7: 64 bits hold it
+  pub below : total < 2 ^ 64

@@ -8,7 +8,7 @@ ghost use Rattle.format.specs.Answers.{totalledAs};
 ghost use Rattle.format.specs.Total.{totalOf};
 
 // What the channel of a number from 0 adds up to, in millionths: a 200's is the sum of its days' values, a 250's its quantity. The file's own refusal comes
-// first, then 14 if there is no such channel, then 17 if the exact sum is 2^64 or more.
+// first, then 14 if there is no such channel.
 pub fn total(file: &[u8], channel: usize) -> Totalled
     ensures { λ r. ⌜ totalledAs r ≡ totalOf (now (file .entry)) channel ⌝ }
 {

@@ -13,7 +13,6 @@ use Rattle.format.specs.Records.{countOf}
 use Rattle.format.specs.declared.Checked.{Checked}
 use Rattle.format.specs.declared.Checked.the-variants.{Accepted, Refused}
 use Rattle.format.specs.declared.Refusal.{Refusal}
-use Rattle.format.specs.declared.Totalled.{Totalled}
 use Rattle.channel.specs.declared.Channel.{Channel}
 use Rattle.channel.specs.declared.Channel.the-variants.{Days, Quantity, Missing}
 use Rattle.page.specs.Filled.{Filled}
@@ -58,7 +57,7 @@ module _ {p₀ p₁ p₂ : List ℕ} {at i j : ℕ} where
 
 module _ {p₀ p₁ p₂ : List ℕ} {i j : ℕ} where
   -- the row of a channel, by the fields of its record
-  pub channel-put : (n : ℕ) (fs : List (List ℕ)) (unit days : ℕ) (t : Totalled) {nmi suffix u : List ℕ} → nmi ≡ field (2 - 1) fs → suffix ≡ field (5 - 1) fs
+  pub channel-put : (n : ℕ) (fs : List (List ℕ)) (unit days t : ℕ) {nmi suffix u : List ℕ} → nmi ≡ field (2 - 1) fs → suffix ≡ field (5 - 1) fs
       → u ≡ field (unit - 1) fs → Filled p₀ 0 (rowText n nmi suffix u days t 0) i p₁ → Filled p₁ i (10 ∷ []) j p₂
       → Filled p₀ 0 (channelRow n fs (unit - 1) days t) j p₂
   unfolding channelRow lineText
@@ -70,7 +69,7 @@ module _ {p₀ p₁ : List ℕ} {at i : ℕ} where
   counts-none file x r h a = rw (ne-eqb _ _ h) a
 
 -- and by where it stands
-module _ {p₀ p₁ : List ℕ} {i : ℕ} (file : List ℕ) (k : ℕ) (place : Channel) (t : Totalled) where
+module _ {p₀ p₁ : List ℕ} {i : ℕ} (file : List ℕ) (k : ℕ) (place : Channel) (t : ℕ) where
   pub placed-days : (a e d : ℕ) {s : List ℕ} → place ≡ Days a e → s ≡ part file a e → d ≡ daysAhead (lines (drop (e + 2) file))
       → Filled p₀ 0 (channelRow k (fields s) (8 - 1) d t) i p₁ → Filled p₀ 0 (channelText file k place t) i p₁
   placed-days a e d h es ed w = rw (h, ← es, ← ed) w

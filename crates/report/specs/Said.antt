@@ -11,7 +11,6 @@ use Rattle.format.specs.Answers.{Answer, accepted, refused}
 use Rattle.format.specs.Cut.{lines, fields, field}
 use Rattle.format.specs.Records.{countOf}
 use Rattle.format.specs.declared.Refusal.{Refusal}
-use Rattle.format.specs.declared.Totalled.{Totalled}
 use Rattle.channel.specs.declared.Channel.{Channel}
 use Rattle.channel.specs.declared.Channel.the-variants.{Days, Quantity, Missing}
 use Rattle.phrase.specs.Phrases.{countedText}
@@ -27,7 +26,7 @@ lineText t = t ++ 10 ∷ []
 
 -- ---- a refusal
 
--- 01: "For 1, 14 to 17, and any number added later without a place of its own, place, record and field are 0."
+-- 01: "For 1, 14 to [16], and any number added later without a place of its own, place, record and field are 0."
 unfoldable pub hasPlace : ℕ → Bool
 hasPlace number = leb 2 number && ltb number 14
 
@@ -68,11 +67,11 @@ checkText file (refused x p k i) = explanation file (record { number = x; place 
 -- ---- channels
 
 -- channel k by its record, in which the unit is the field of a number from 0: NMI, suffix, unit, days and total
-unfoldable pub channelRow : ℕ → List (List ℕ) → ℕ → ℕ → Totalled → List ℕ
-channelRow k fs unit days t = lineText (rowText k (field 1 fs) (field 4 fs) (field unit fs) days t 0)
+unfoldable pub channelRow : ℕ → List (List ℕ) → ℕ → ℕ → ℕ → List ℕ
+channelRow k fs unit days total = lineText (rowText k (field 1 fs) (field 4 fs) (field unit fs) days total 0)
 
 -- channel k, where it stands in the file
-abbrev pub channelText : List ℕ → ℕ → Channel → Totalled → List ℕ
-channelText file k (Days a e) t = channelRow k (fields (part file a e)) 7 (daysAhead (lines (drop (e + 2) file))) t
-channelText file k (Quantity a e) t = channelRow k (fields (part file a e)) 19 0 t
-channelText file k Missing t = []
+abbrev pub channelText : List ℕ → ℕ → Channel → ℕ → List ℕ
+channelText file k (Days a e) total = channelRow k (fields (part file a e)) 7 (daysAhead (lines (drop (e + 2) file))) total
+channelText file k (Quantity a e) total = channelRow k (fields (part file a e)) 19 0 total
+channelText file k Missing total = []

@@ -44,7 +44,7 @@ fn channel_row(
     record: &[u8],
     unit: usize,
     days: usize,
-    total: Totalled,
+    total: u64,
 ) -> usize
     ensures { λ r. ⌜ Filled (now (page .entry)) 0 (channelRow k (fields (now («record» .entry))) (unit - 1) days total) r (now (page .exit)) ⌝ }
 {
@@ -62,7 +62,7 @@ fn channel_row(
 }
 
 // The row of channel k, which stands at a place of the file.
-fn placed(page: &mut [u8], file: &[u8], k: usize, place: Channel, total: Totalled) -> usize
+fn placed(page: &mut [u8], file: &[u8], k: usize, place: Channel, total: u64) -> usize
     requires { ⌜ inside (now file) place ⌝ }
     ensures { λ r. ⌜ Filled (now (page .entry)) 0 (channelText (now (file .entry)) k place total) r (now (page .exit)) ⌝ }
 {
@@ -80,7 +80,7 @@ fn placed(page: &mut [u8], file: &[u8], k: usize, place: Channel, total: Totalle
     }
 }
 
-// The rows of all channels, one after the other.
+// The rows of all channels, one after the other. Where there is no channel k, there is none behind it.
 fn rows(page: &mut [u8], file: &[u8], channels: usize, first: ChannelStart)
     requires { ⌜ IsAccepted (now file) × ChannelAhead (now file) 0 first ⌝ }
 {
@@ -89,7 +89,10 @@ fn rows(page: &mut [u8], file: &[u8], channels: usize, first: ChannelStart)
     while k < channels {
         let t = total_noted(file, k, from);
         let place = t.place;
-        let total = t.answer;
+        let answer = t.answer;
+        let Totalled::Total(total) = answer else {
+            return;
+        };
         let p = placed(page, file, k, place, total);
         write(page, p);
         from = t.next;

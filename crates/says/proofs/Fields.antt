@@ -23,7 +23,8 @@ use Rattle.format.specs.declared.Number.the-variants.{Is, Bad}
 use Rattle.format.specs.declared.Graded.{Graded}
 use Rattle.format.specs.declared.Tag.{Tag}
 use Rattle.format.proofs.Cut.{start-zero}
-use Rattle.format.proofs.Numbers.{under, number-under, small-under, value-below}
+use Rattle.format.proofs.Numbers.{under, number-under, small-under}
+use Rattle.format.proofs.Total.{millionths-below}
 use Rattle.lines.specs.Places.{Cut, Rest, Starts}
 use Rattle.lines.proofs.Cuts.{rest-first}
 use Rattle.lines.proofs.Commas.{comma-field}
@@ -84,11 +85,7 @@ module _ (s : List ℕ) {x : Number} {v : ℕ} (e : x ≡ valueOf 6 s) (q : v �
   value-is = q ∙ ap numberIn e
 
   pub value-small : v < 10 ^ 13
-  value-small = go x refl
-    where
-      go : (y : Number) → x ≡ y → v < 10 ^ 13
-      go (Is w) h = let z : v ≡ w = q ∙ ap numberIn h in omega (arith, value-below 6 s w (sym e ∙ h))
-      go Bad h = let z : v ≡ 0 = q ∙ ap numberIn h in omega arith
+  value-small = rw value-is (millionths-below s)
 
 -- n, by the interval length
 pub intervals-say : {f g : List ℕ} {x : Number} {v n : ℕ} → n ≡ intervalsOf v → v ≡ numberIn x → x ≡ lengthOf f → f ≡ g

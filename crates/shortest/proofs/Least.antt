@@ -36,9 +36,9 @@ use Rattle.passing.proofs.Fit.{Fit, fine-fit, fit-cover}
 use Rattle.passing.proofs.Blocks.{headed}
 use Rattle.passing.proofs.Steps.{after-300, after-400, runs-more, runs-end, blockFound}
 use Rattle.theorems.specs.Grammar.{Each, Record}
+use Rattle.theorems.proofs.Sizes.{size, size-append, length-record}
 use Rattle.shortest.specs.Blocks.{Says}
 use Rattle.shortest.specs.Writer.{NoLonger}
-use Rattle.shortest.proofs.Sizes.{size, size-append, length-record}
 use Rattle.shortest.proofs.Shapes.{number-is, graded-is, said, Marking, Top, top-of, Stretch, stretch-of}
 use Rattle.shortest.proofs.Steps.{fit-record, read-day}
 

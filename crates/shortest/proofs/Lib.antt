@@ -1,4 +1,3 @@
-pub mod Sizes
 pub mod Shapes
 pub mod Steps
 pub mod Least

@@ -3,7 +3,7 @@ use Prim.Native.Nat.{ℕ, zero, suc, _+_, _-_, _^_}
 use mathlib.Core.Path.{_≡_, refl, sym, ap, _∙_}
 use mathlib.Core.Logic.{_≢_}
 use mathlib.Core.Bool.{Bool, true, false, cond, _&&_, _||_, false≢true}
-use mathlib.Core.List.{List, [], _∷_, map}
+use mathlib.Core.List.{List, [], _∷_}
 use native.Mathlib.Omega.{arith}
 use lib.ListN.{length, getD, drop, replicate}
 use lib.Dec.{eqb, ltb}
@@ -12,26 +12,27 @@ use Rattle.ground.specs.Lists.{all}
 use Rattle.ground.proofs.Cases.{by, both}
 use Rattle.ground.proofs.Digits.{all-append}
 use Rattle.ground.proofs.Tests.{or-right}
-use Rattle.format.specs.Numbers.{isNumber, numberIn, numberOf, smallOf, noReason, reasonOf, decimals, valueOf}
+use Rattle.format.specs.Numbers.{isNumber, numberIn, numberOf, smallOf, noReason, reasonOf}
 use Rattle.format.specs.Dates.{isDate, isTime, dateOf, timeOf, loadOf}
 use Rattle.format.specs.Quality.{standsAlone, takesMethod, noMethod, withMethod, qualityOf, isGraded, flagIn, methodIn, Mark}
 use Rattle.format.specs.Cut.{Lines, line, rest, fields}
-use Rattle.format.specs.Records.{kindIn, millionths, firstIn, lastIn, markAt, markIn, agrees, qualitiesOf}
+use Rattle.format.specs.Records.{kindIn, firstIn, lastIn, markAt, markIn, agrees, qualitiesOf}
 use Rattle.format.specs.Order.{Due, isVaried}
 use Rattle.format.specs.File.{after}
 use Rattle.format.specs.Day.{runsFrom, coverOf, eachOf, valuesOf, Day, marksOf, dayOf}
-use Rattle.format.specs.Block.{fitQuality, fitReason, fitMark, fitValue, fitDay}
+use Rattle.format.specs.Block.{fitQuality, fitReason, fitMark, fitDay}
 use Rattle.format.specs.declared.Graded.{Graded}
 use Rattle.format.specs.declared.Graded.the-variants.{Of}
 use Rattle.format.specs.declared.Number.{Number}
 use Rattle.format.specs.declared.Number.the-variants.{Is, Bad}
-use Rattle.format.proofs.Numbers.{that-holds, under, under-is, number-under, small-under, value-below}
+use Rattle.format.proofs.Numbers.{that-holds, under, under-is, number-under, small-under}
+use Rattle.format.proofs.Total.{values-fit}
 use Rattle.format.proofs.MarkText.{method-flag}
 use Rattle.passing.specs.Passes.{Passes}
 use Rattle.passing.proofs.Fit.{Fit, fine-fit}
 use Rattle.passing.proofs.Blocks.{headed}
 use Rattle.passing.proofs.Steps.{blockFound}
-use Rattle.theorems.specs.Grammar.{Each, Record, IsRecord}
+use Rattle.theorems.specs.Grammar.{Record, IsRecord}
 use Rattle.theorems.proofs.Across.{together-agrees}
 use Rattle.shortest.specs.Blocks.{Says}
 use Rattle.shortest.proofs.Shapes.{number-is, said, Marking, Top, top-of, stretch-of}
@@ -53,14 +54,6 @@ load-fit s h =
     by (eqb (length s) 0)
     (λ t. rw t)
     (λ t. rw t (or-right (eqb (numberIn (timeOf s)) 0) (isTime (numberIn (timeOf s))) (time-fit s (let z : isNumber (timeOf s) ≡ true = (rw t at h) in z))))
-
-values-fit : (vs : List (List ℕ)) → Each (λ v. isNumber (valueOf decimals v) ≡ true) vs → all fitValue (map millionths vs) ≡ true
-unfolding fitValue millionths
-values-fit [] h = refl
-values-fit (v ∷ vs) h =
-    both (ltb (numberIn (valueOf decimals v)) (10 ^ 13)) (all fitValue (map millionths vs))
-    (lt-ltb _ _ (value-below decimals v (numberIn (valueOf decimals v)) (number-is (valueOf decimals v) (h .0))))
-    (values-fit vs (h .1))
 
 reason-fit : (s : List ℕ) → isNumber (reasonOf s) ≡ true → fitReason (numberIn (reasonOf s)) ≡ true
 unfolding reasonOf fitReason
@@ -176,7 +169,7 @@ module _ (st end : Due) (p : ℕ) (r : List ℕ) (ls : Lines) (k : kindIn (field
         t .says .load,
         load-fit (t .load) (t .loaded),
         t .says .values,
-        values-fit (t .values) (t .valued),
+        values-fit (t .values),
         marks-fit t,
       )
 

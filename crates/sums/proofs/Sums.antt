@@ -1,26 +1,25 @@
--- A sum that is taken value by value, and given up before it would pass 64 bits. Assumes nothing.
+-- A sum that is taken value by value, and is at most 10^13 for each byte passed. Assumes nothing.
 use Prim.Native.Nat.{ℕ, zero, suc, _+_, _-_, _*_, _^_, _≤_, _<_}
 use mathlib.Core.Path.{_≡_, refl, sym, ap, _∙_}
 use mathlib.Core.List.{List, [], map}
-use mathlib.Core.Bool.{Bool, true, false, cond}
+use mathlib.Core.Bool.{true}
 use native.Mathlib.Nat.{sub-zero, add-zero, zero-add}
 use native.Mathlib.Numerals.{add-one}
 use native.Mathlib.Omega.{arith}
 use native.Mathlib.Decide.{decLt}
-use lib.ListN.{length, getD, take, drop, drop-of-length-le, List·getD-eq-default}
+use lib.ListN.{length, getD, take, drop, length-take, length-drop, drop-of-length-le, List·getD-eq-default}
 use lib.Seq.{drop-cons}
-use lib.Dec.{ltb}
 use mir.Val.{Fits}
 use mir.Syntax.{w64}
-use borrow.Author.Tests.{lt-ltb, le-ltb, ltb-true, ltb-false, ne-eqb}
+use borrow.Author.Tests.{ne-eqb}
 use Rattle.ground.specs.Lists.{all, spanOf, other, sum, part}
 use Rattle.format.specs.Bytes.{areAll}
 use Rattle.format.specs.Numbers.{numberOf, valueOf}
 use Rattle.format.specs.Cut.{fields, field}
 use Rattle.format.specs.Records.{kindIn, millionths, valuesIn}
 use Rattle.format.specs.Total.{sumFrom}
-use Rattle.format.specs.declared.Number.{Number}
-use Rattle.format.specs.declared.Number.the-variants.{Is, Bad}
+use Rattle.format.specs.File.{most}
+use Rattle.format.proofs.Total.{record-most}
 use Rattle.quick_values.specs.Shapes.{isThousandths}
 use Rattle.quick_values.proofs.Shapes.{thousandths-plain}
 use Rattle.lines.specs.Places.{LineEnd, Cut, Rest}
@@ -30,39 +29,7 @@ use Rattle.lumps.specs.Lumps.{Alike}
 use Rattle.lines.proofs.Commas.{comma-field, comma-cut}
 use Rattle.day.specs.Places.{valuesFrom}
 use Rattle.day.proofs.Values.{values-move}
-use Rattle.sums.specs.Sums.{held, sumAt, Adds}
-
-held-is : (v : ℕ) → v < 2 ^ 64 → Is v ≡ held v
-unfolding held
-held-is v h = rw (lt-ltb _ _ h)
-
-held-not : (v : ℕ) → 2 ^ 64 ≤ v → Bad ≡ held v
-unfolding held
-held-not v h = rw (le-ltb _ _ h)
-
-pub got-is : (v y : ℕ) → held v ≡ Is y → v ≡ y
-unfolding held
-got-is v y e = by (ltb v (2 ^ 64)) e
-  where
-    by : (b : Bool) → cond b (Is v) Bad ≡ Is y → v ≡ y
-    by true q = cc
-    by false q = let z : _≡_ {A = ℕ} 0 1 = cc in absurd (omega arith)
-
-pub got-fits : {x : Number} (v : ℕ) {y : ℕ} → x ≡ held v → x ≡ Is y → y < 2 ^ 64
-unfolding held
-got-fits {x} v {y} e q = by (ltb v (2 ^ 64)) refl (sym e ∙ q)
-  where
-    by : (b : Bool) → ltb v (2 ^ 64) ≡ b → cond b (Is v) Bad ≡ Is y → y < 2 ^ 64
-    by true h r = let z : v ≡ y = cc in rw z at (ltb-true v (2 ^ 64) h)
-    by false h r = let z : _≡_ {A = ℕ} 0 1 = cc in absurd (omega arith)
-
-pub got-bad : (v : ℕ) → held v ≡ Bad → 2 ^ 64 ≤ v
-unfolding held
-got-bad v e = by (ltb v (2 ^ 64)) refl e
-  where
-    by : (b : Bool) → ltb v (2 ^ 64) ≡ b → cond b (Is v) Bad ≡ Bad → 2 ^ 64 ≤ v
-    by true h q = let z : _≡_ {A = ℕ} 0 1 = cc in absurd (omega arith)
-    by false h q = ltb-false _ _ h
+use Rattle.sums.specs.Sums.{sumAt, Adds}
 
 -- ---- some of the values of a 300
 
@@ -139,27 +106,22 @@ module _ (file : List ℕ) (p n i a e m v y acc whole : ℕ) (fs : List (List �
   pub sum-rest : Rest file fs p (i + m) y e
   sum-rest = rest-on s (d .rest)
 
-  pub sum-over : 18446744073709551615 - acc < v → acc < 2 ^ 64 → Bad ≡ held whole
-  sum-over o l = held-not whole (omega (arith, sum-on))
+  -- where 64 bits hold the whole, they hold this
+  pub sum-fits : whole < 2 ^ 64 → Fits w64 (acc + v)
+  sum-fits l = omega (arith, sum-on)
 
--- the last turn, over the n - i values that are left: r is what they come to with the sum before
-pub sum-end : (file : List ℕ) (p n i a e v y acc whole : ℕ) (fs : List (List ℕ)) {r : Number} → i ≤ n → Rest file fs p i a e → Adds file a e (n - i) v y
-    → acc + sum (valuesFrom (n - i) i fs) ≡ whole → r ≡ held (acc + v) → r ≡ held whole
-unfolding valuesFrom
-sum-end file p n i a e v y acc whole fs h s d inv er =
-    let k : i + (n - i) ≡ n = omega arith in
-    let m : n - (i + (n - i)) ≡ 0 = omega arith in
-    let t : sum (valuesFrom (n - (i + (n - i))) (i + (n - i)) fs) ≡ 0 = rw m in
-    let q : acc + v ≡ whole = omega (arith, sum-on file p n i a e (n - i) v y acc whole fs (omega arith) h s d inv) in
-    er ∙ ap held q
+-- the last turn, over the n - i values that are left
+module _ (file : List ℕ) (p n i a e v y acc whole : ℕ) (fs : List (List ℕ)) (g : i ≤ n) (s : Rest file fs p i a e) (d : Adds file a e (n - i) v y)
+    (inv : acc + sum (valuesFrom (n - i) i fs) ≡ whole) where
+  pub sum-end : acc + v ≡ whole
+  unfolding valuesFrom
+  sum-end =
+      let m : n - (i + (n - i)) ≡ 0 = omega arith in
+      let t : sum (valuesFrom (n - (i + (n - i))) (i + (n - i)) fs) ≡ 0 = rw m in
+      omega (arith, sum-on file p n i a e (n - i) v y acc whole fs (omega arith) g s d inv)
 
--- a sum of two that was tested
-module _ (a b : ℕ) (l : a < 2 ^ 64) where
-  pub plus-not : 18446744073709551615 - a < b → Bad ≡ held (a + b)
-  plus-not h = held-not (a + b) (omega arith)
-
-  pub plus-is : b ≤ 18446744073709551615 - a → Is (a + b) ≡ held (a + b)
-  plus-is h = held-is (a + b) (omega arith)
+  pub end-fits : whole < 2 ^ 64 → Fits w64 (acc + v)
+  end-fits l = omega (arith, sum-end)
 
 -- a field that is not there adds nothing
 nothing : millionths [] ≡ 0
@@ -191,22 +153,20 @@ day-sum file a e v n s = ap sum (values-move s n 0) ∙ sum-take n 2 (fields (pa
 
 -- ---- the days of a channel: the record at a place ends at e
 
-module _ (file : List ℕ) (at e n acc whole : ℕ) (s : LineEnd file at e) (inv : acc + sumAt file at n ≡ whole) (l : acc < 2 ^ 64) where
-  pub days-none : e ≡ length file → Is acc ≡ held whole
+module _ (file : List ℕ) (at e n acc whole : ℕ) (s : LineEnd file at e) (inv : acc + sumAt file at n ≡ whole) where
+  pub days-none : e ≡ length file → acc ≡ whole
   unfolding sumFrom
   days-none h =
       let t : sumAt file at n ≡ 0 = rw (line-none file at e s h) in
-      let q : acc ≡ whole = omega arith in
-      rw (← q) (held-is acc l)
+      omega arith
 
   module _ (go : e ≡ length file → ⊥) {k : ℕ} (ek : k ≡ kindIn (fields (part file at e))) where
     -- the next channel
-    pub days-end : k ≡ 200 → Is acc ≡ held whole
+    pub days-end : k ≡ 200 → acc ≡ whole
     unfolding sumFrom
     days-end h =
         let t : sumAt file at n ≡ 0 = rw (line-more file at e s go, ← ek, h) in
-        let q : acc ≡ whole = omega arith in
-        rw (← q) (held-is acc l)
+        omega arith
 
     pub days-skip : (k ≡ 200 → ⊥) → (k ≡ 300 → ⊥) → acc + sumAt file (e + 2) n ≡ whole
     unfolding sumFrom
@@ -214,17 +174,26 @@ module _ (file : List ℕ) (at e n acc whole : ℕ) (s : LineEnd file at e) (inv
         let t : sumAt file at n ≡ sumAt file (e + 2) n = rw (line-more file at e s go, ← ek, ne-eqb _ _ h, ne-eqb _ _ g) in
         omega arith
 
-    -- a day: x is what its values and the sum before them come to
-    module _ (h : k ≡ 300) (v : ℕ) (z : Rest file (fields (part file at e)) at 2 v e) {x : Number}
-        (ex : x ≡ held (acc + sum (valuesFrom n 0 (fields (part file v e))))) where
-      day-more : sumAt file at n ≡ sum (valuesFrom n 0 (fields (part file v e))) + sumAt file (e + 2) n
-      unfolding sumFrom
-      day-more = rw (line-more file at e s go, ← ek, h, day-sum file at e v n z)
+    -- a day: y is what its values and the sum before them come to
+    pub days-on : k ≡ 300 → (v : ℕ) → Rest file (fields (part file at e)) at 2 v e → {y : ℕ}
+        → y ≡ acc + sum (valuesFrom n 0 (fields (part file v e))) → y + sumAt file (e + 2) n ≡ whole
+    unfolding sumFrom
+    days-on h v z ey =
+        let t : sumAt file at n ≡ sum (valuesFrom n 0 (fields (part file v e))) + sumAt file (e + 2) n = rw (line-more file at e s go, ← ek, h, day-sum file at e v n z) in
+        omega arith
 
-      pub days-over : x ≡ Bad → Bad ≡ held whole
-      days-over q = held-not whole (omega (arith, got-bad _ (sym ex ∙ q), day-more))
+pub ruleset days = (days-none, days-end, days-skip, days-on)
 
-      pub days-on : {y : ℕ} → x ≡ Is y → y + sumAt file (e + 2) n ≡ whole
-      days-on {y} q = omega (arith, got-is (acc + sum (valuesFrom n 0 (fields (part file v e)))) y (sym ex ∙ q), day-more)
+-- ---- what was added up is at most 10^13 for each byte passed
 
-pub ruleset days = (days-none, days-end, days-skip, days-over, days-on)
+-- a day whose 300 stands from a to e, behind bytes that came to acc
+module _ (file : List ℕ) (a e v n acc : ℕ) (o : a ≤ e) (g : e ≤ length file) (z : Rest file (fields (part file a e)) a 2 v e) (inv : acc ≤ a * 10 ^ 13) where
+  day-most : acc + sum (valuesFrom n 0 (fields (part file v e))) ≤ e * 10 ^ 13
+  day-most =
+      omega (arith, day-sum file a e v n z, record-most n (part file a e), length-take (e - a) (drop a file), length-drop a file)
+
+  pub passed-fits : length file ≤ most → acc + sum (valuesFrom n 0 (fields (part file v e))) < 2 ^ 64
+  passed-fits l = omega (arith, day-most)
+
+  pub passed-on : {y : ℕ} → y ≡ acc + sum (valuesFrom n 0 (fields (part file v e))) → y ≤ (e + 2) * 10 ^ 13
+  passed-on ey = omega (arith, day-most)

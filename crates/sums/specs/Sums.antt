@@ -2,20 +2,12 @@
 use Prim.Native.Nat.{ℕ, _*_, _^_, _≤_}
 use mathlib.Core.Path.{_≡_}
 use mathlib.Core.List.{List}
-use mathlib.Core.Bool.{cond}
 use lib.ListN.{drop}
-use lib.Dec.{ltb}
 use Rattle.ground.specs.Lists.{sum, part}
 use Rattle.format.specs.Cut.{lines, fields}
 use Rattle.format.specs.Total.{sumFrom}
-use Rattle.format.specs.declared.Number.{Number}
-use Rattle.format.specs.declared.Number.the-variants.{Is, Bad}
 use Rattle.lines.specs.Places.{Rest}
 use Rattle.day.specs.Places.{valuesFrom}
-
--- a sum, if 64 bits hold it
-unfoldable pub held : ℕ → Number
-held v = cond (ltb v (2 ^ 64)) (Is v) Bad
 
 -- the values of m fields from place x on come to v, and the field behind them starts at y
 pub record Adds (file : List ℕ) (x e m v y : ℕ) : Type 0 where

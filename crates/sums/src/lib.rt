@@ -1,6 +1,6 @@
-// The values of a channel's days, added up, sixteen at a time. Sixteen can't pass 64 bits; a sum of more is tested before it is taken, so that none wraps.
+// The values of a channel's days, added up, sixteen at a time. No sum is tested: a value is below 10^13 and has a comma of its own before it, so that what was
+// added up is at most 10^13 for each byte passed, and a file that was accepted has no more than 1,048,576 of them.
 use day::fields::skip;
-use format::Number;
 use lines::line_end;
 use lumps::sixteen;
 use lumps::thousand;
@@ -8,13 +8,14 @@ use says::kind_at;
 use values::short_stop;
 use values::value_in_pass;
 ghost use mathlib.Core.Path.{_≡_};
-ghost use Prim.Native.Nat.{_+_, _≤_, _<_};
+ghost use Prim.Native.Nat.{_+_, _^_, _≤_, _<_};
 ghost use lib.ListN.{length};
 ghost use Rattle.ground.specs.Lists.{part, sum};
 ghost use Rattle.format.specs.Cut.{fields};
+ghost use Rattle.format.specs.File.{most};
 ghost use Rattle.day.specs.Places.{valuesFrom};
 ghost use Rattle.lumps.specs.Lumps.{Alike};
-ghost use Rattle.sums.specs.Sums.{held, sumAt, Adds};
+ghost use Rattle.sums.specs.Sums.{sumAt, Adds};
 
 // The values of some fields from a place on, added up, and where the field behind them starts.
 pub struct Sum {
@@ -70,65 +71,45 @@ fn many(file: &[u8], x: usize, e: usize) -> Sum
     singly(file, x, e, 16)
 }
 
-// A sum, if 64 bits hold it.
-fn plus(a: u64, b: u64) -> Number
-    ensures { λ r. ⌜ r ≡ held (a + b) ⌝ }
-{
-    if 18446744073709551615 - a < b {
-        return Number::Bad;
-    }
-    Number::Is(a + b)
-}
-
 // The values of the n fields from a on, added to a sum so far: sixteen by sixteen, then those that are left.
-fn add_values(file: &[u8], a: usize, e: usize, n: usize, before: u64) -> Number
-    requires { ⌜ (a ≤ e) × (e ≤ length (now file)) ⌝ }
-    ensures { λ r. ⌜ r ≡ held (before + sum (valuesFrom n 0 (fields (part (now (file .entry)) a e)))) ⌝ }
+fn add_values(file: &[u8], a: usize, e: usize, n: usize, before: u64) -> u64
+    requires { ⌜ (a ≤ e) × (e ≤ length (now file)) × (before + sum (valuesFrom n 0 (fields (part (now file) a e))) < 2 ^ 64) ⌝ }
+    ensures { λ r. ⌜ r ≡ before + sum (valuesFrom n 0 (fields (part (now (file .entry)) a e))) ⌝ }
 {
     let mut acc = before;
     let mut x = a;
     let mut i: usize = 0;
     while 16 <= n - i {
         let s = many(file, x, e);
-        let v = s.v;
-        if 18446744073709551615 - acc < v {
-            return Number::Bad;
-        }
-        acc += v;
+        acc += s.v;
         x = s.next;
         i += 16;
     }
     let t = singly(file, x, e, n - i);
-    plus(acc, t.v)
+    acc + t.v
 }
 
 // The values of the days from a place on up to the next channel, n to a day.
-pub fn add_days(file: &[u8], start: usize, n: usize) -> Number
-    requires { ⌜ start ≤ length (now file) ⌝ }
-    ensures { λ r. ⌜ r ≡ held (sumAt (now (file .entry)) start n) ⌝ }
+pub fn add_days(file: &[u8], start: usize, n: usize) -> u64
+    requires { ⌜ (start ≤ length (now file)) × (length (now file) ≤ most) ⌝ }
+    ensures { λ r. ⌜ r ≡ sumAt (now (file .entry)) start n ⌝ }
 {
     let mut acc: u64 = 0;
     let mut at = start;
     loop {
         let e = line_end(file, at);
         if e == file.len() {
-            return Number::Is(acc);
+            return acc;
         }
         let k = kind_at(file, at, e);
         if k == 200 {
-            return Number::Is(acc);
+            return acc;
         }
         let a = at;
         at = e + 2;
         if k == 300 {
             let v = skip(file, a, e, 2);
-            let x = add_values(file, v, e, n, acc);
-            match x {
-                Number::Is(y) => {
-                    acc = y;
-                }
-                Number::Bad => return Number::Bad,
-            }
+            acc = add_values(file, v, e, n, acc);
         }
     }
 }

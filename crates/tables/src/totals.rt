@@ -1,11 +1,10 @@
 // What the channels of a file add up to, as a table.
-use format::Totalled;
 use page::texts::put;
 use phrase::columns::cell;
 use phrase::columns::point;
 use phrase::columns::right;
 ghost use Rattle.page.specs.Filled.{Filled};
-ghost use Rattle.tables.specs.Totals.{headings as Totals·headings, namesText, totalText, sumsText, rowText};
+ghost use Rattle.tables.specs.Totals.{headings as Totals·headings, namesText, sumsText, rowText};
 
 // Where the columns of the table start, or, of numbers, end.
 const CHANNEL: usize = 7;
@@ -38,20 +37,11 @@ fn names(page: &mut [u8], at: usize, nmi: &[u8], suffix: &[u8], unit: &[u8]) -> 
     cell(page, q, UNIT, unit)
 }
 
-fn total(page: &mut [u8], at: usize, x: Totalled) -> usize
-    ensures { λ r. ⌜ Filled (now (page .entry)) at (totalText x at) r (now (page .exit)) ⌝ }
-{
-    match x {
-        Totalled::Total(v) => point(page, at, POINT, v),
-        Totalled::Refused(_) => put(page, at, b"  2^64 millionths or more"),
-    }
-}
-
-fn sums(page: &mut [u8], at: usize, days: usize, x: Totalled) -> usize
-    ensures { λ r. ⌜ Filled (now (page .entry)) at (sumsText days x at) r (now (page .exit)) ⌝ }
+fn sums(page: &mut [u8], at: usize, days: usize, total: u64) -> usize
+    ensures { λ r. ⌜ Filled (now (page .entry)) at (sumsText days total at) r (now (page .exit)) ⌝ }
 {
     let p = right(page, at, DAYS, days as u64);
-    total(page, p, x)
+    point(page, p, POINT, total)
 }
 
 // Channel k: its NMI, suffix and unit, how many days it has, and its total.
@@ -63,11 +53,11 @@ pub fn row(
     suffix: &[u8],
     unit: &[u8],
     days: usize,
-    x: Totalled,
+    total: u64,
 ) -> usize
-    ensures { λ r. ⌜ Filled (now (page .entry)) at (rowText k (now (nmi .entry)) (now (suffix .entry)) (now (unit .entry)) days x at) r (now (page .exit)) ⌝ }
+    ensures { λ r. ⌜ Filled (now (page .entry)) at (rowText k (now (nmi .entry)) (now (suffix .entry)) (now (unit .entry)) days total at) r (now (page .exit)) ⌝ }
 {
     let p = right(page, at, CHANNEL, k as u64);
     let q = names(page, p, nmi, suffix, unit);
-    sums(page, q, days, x)
+    sums(page, q, days, total)
 }

@@ -1,17 +1,19 @@
 -- The days that the lines of a file in the format show are those of its grammar, in order and with their places; and so are the channels' totals. Assumes nothing.
 use Prim.Native.Nat.{ℕ, _+_}
-use mathlib.Core.Path.{_≡_, refl, ap, _∙_}
-use mathlib.Core.List.{List, [], _∷_, _++_}
+use mathlib.Core.Path.{_≡_, refl, sym, ap, ap₂, _∙_}
+use mathlib.Core.List.{List, [], _∷_, _++_, map}
+use native.Mathlib.Nat.{add-zero}
 use native.Mathlib.Omega.{arith}
 use lib.ListN.{length}
 use borrow.Author.Tests.{eq-eqb, ne-eqb}
 use Rattle.ground.specs.Lists.{sum}
+use Rattle.ground.proofs.Lists.{sum-append}
 use Rattle.format.specs.Cut.{line, lines, fields}
 use Rattle.format.specs.Records.{intervalsIn, dateIn, valuesIn, quantityIn}
 use Rattle.format.specs.Day.{Row, DayRows, runsFrom, daysFrom, noChannel, daysOf}
 use Rattle.format.specs.Total.{sumFrom, totalsFrom}
 use Rattle.theorems.specs.Grammar.{Each, Record, join, text, IsRecord, Block, Extra, IsBlock, Channel, IsChannel, Reading, IsReading, Content, nem12, nem13, IsContent, blocksThen, channelsThen, readingsThen, contentThen, InFormat}
-use Rattle.theorems.specs.Days.{behind, recordAt, rowsAt, blockDays, behindBlocks, channelDays, contentDays, blocksTotal, channelTotals, readingTotals, totals}
+use Rattle.theorems.specs.Days.{behind, recordAt, rowsAt, blockDays, behindBlocks, channelDays, contentDays, blockValues, channelValues, readingValues, totals}
 use Rattle.theorems.proofs.Bytes.{lines-row}
 use Rattle.theorems.proofs.Rows.{record-fields}
 use Rattle.theorems.proofs.Takes.{fields-of}
@@ -180,7 +182,7 @@ skip-totals : (k : ℕ) (rs rows : List Record) → (k ≡ 200 → ⊥) → (k �
 skip-totals k [] rows y z h = refl
 skip-totals k (r ∷ rs) rows y z h = total-skip r (rs ++ rows) 0 k 0 (h .0) y z ∙ skip-totals k rs rows y z (h .1)
 
-sum-blocks : (m : ℕ) (bs : List Block) (rows : List Record) → Each (IsBlock m) bs → Sum m rows ≡ 0 → Sum m (blocksThen bs rows) ≡ blocksTotal m bs
+sum-blocks : (m : ℕ) (bs : List Block) (rows : List Record) → Each (IsBlock m) bs → Sum m rows ≡ 0 → Sum m (blocksThen bs rows) ≡ sum (blockValues m bs)
 sum-blocks m [] rows h z = z
 sum-blocks m (b ∷ bs) rows h z =
     let more : List Record = blocksThen bs rows in
@@ -189,6 +191,7 @@ sum-blocks m (b ∷ bs) rows h z =
     ∙ ap (λ (x : ℕ). sum (valuesIn m (b .top)) + x)
     (skip-sum m 400 (b .runs) (b .extra ++ more) (λ y. omega arith) (λ y. omega arith) (g .runs)
     ∙ skip-sum m 500 (b .extra) more (λ y. omega arith) (λ y. omega arith) (extras-500 (dateIn (b .top)) (b .extra) (g .extra)) ∙ sum-blocks m bs rows (h .1) z)
+    ∙ sym (sum-append (valuesIn m (b .top)) (blockValues m bs))
 
 skip-blocks : (m : ℕ) (bs : List Block) (rows : List Record) → Each (IsBlock m) bs → Totals (blocksThen bs rows) ≡ Totals rows
 skip-blocks m [] rows h = refl
@@ -203,7 +206,7 @@ sum-channels : (m : ℕ) (cs : List Channel) (rows : List Record) → Each IsCha
 sum-channels m [] rows h z = z
 sum-channels m (c ∷ cs) rows h z = sum-stop (c .head) (blocksThen (c .blocks) (channelsThen cs rows)) 0 200 0 (h .0 .head) m refl
 
-total-channels : (cs : List Channel) (rows : List Record) → Each IsChannel cs → ((m : ℕ) → Sum m rows ≡ 0) → Totals rows ≡ [] → Totals (channelsThen cs rows) ≡ channelTotals cs
+total-channels : (cs : List Channel) (rows : List Record) → Each IsChannel cs → ((m : ℕ) → Sum m rows ≡ 0) → Totals rows ≡ [] → Totals (channelsThen cs rows) ≡ map sum (channelValues cs)
 total-channels [] rows h s z = z
 total-channels (c ∷ cs) rows h s z =
     let m : ℕ = intervalsIn (c .head) in
@@ -216,11 +219,11 @@ total-channels (c ∷ cs) rows h s z =
       total-channels cs rows (h .1) s z,
     )
 
-total-readings : (rs : List Reading) (rows : List Record) → Each IsReading rs → Totals rows ≡ [] → Totals (readingsThen rs rows) ≡ readingTotals rs
+total-readings : (rs : List Reading) (rows : List Record) → Each IsReading rs → Totals rows ≡ [] → Totals (readingsThen rs rows) ≡ map sum (readingValues rs)
 total-readings [] rows h z = z
 total-readings (r ∷ rs) rows h z =
     total-250 (r .head) (r .codes ++ readingsThen rs rows) 0 250 0 (h .0 .head) refl
-    ∙ ap (λ (x : List ℕ). quantityIn (r .head) ∷ x) (skip-totals 550 (r .codes) (readingsThen rs rows) (λ y. omega arith) (λ y. omega arith) (h .0 .codes) ∙ total-readings rs rows (h .1) z)
+    ∙ ap₂ (λ (q : ℕ) (x : List ℕ). q ∷ x) (sym (add-zero (quantityIn (r .head)))) (skip-totals 550 (r .codes) (readingsThen rs rows) (λ y. omega arith) (λ y. omega arith) (h .0 .codes) ∙ total-readings rs rows (h .1) z)
 
 end-sum : (l : Record) → IsRecord 900 0 l → (m : ℕ) → Sum m (l ∷ []) ≡ 0
 unfolding sumFrom lines text

@@ -1,5 +1,6 @@
 pub mod Lists
 pub mod Bytes
+pub mod Sizes
 pub mod Ends
 pub mod Across
 pub mod Rows
@@ -23,3 +24,4 @@ pub mod Once
 pub mod Meaning
 pub mod OneDay
 pub mod Blocks
+pub mod Bounds

@@ -19,3 +19,8 @@ module _ {X : Type 0} (P : X → Type 0) where
   each-at d [] i h l = absurd (let z : ⊥ = omega arith in z)
   each-at d (x ∷ xs) zero h l = h .0
   each-at d (x ∷ xs) (suc i) h l = each-at d xs i (h .1) (omega arith)
+
+-- what follows from the property
+pub each-if : {X : Type 0} (P Q : X → Type 0) → ((x : X) → P x → Q x) → (xs : List X) → Each P xs → Each Q xs
+each-if P Q f [] h = tt
+each-if P Q f (x ∷ xs) h = (f x (h .0), each-if P Q f xs (h .1))

@@ -7,6 +7,7 @@ use mathlib.Core.List.{List, [], _∷_, _++_, map, map-append}
 use native.Mathlib.Omega.{arith}
 use lib.ListN.{length, getD, take, drop, replicate, length-append, length-take, length-drop, length-map, length-replicate, getD-replicate, List·getD-append}
 use lib.Seq.{getD-append-add}
+use Rattle.ground.specs.Lists.{sum}
 use Rattle.ground.proofs.Cases.{by}
 use Rattle.format.specs.Cut.{lines}
 use Rattle.format.specs.Quality.{Mark, noMark}
@@ -15,7 +16,7 @@ use Rattle.format.specs.Order.{isVaried}
 use Rattle.format.specs.Day.{Row, daysOf, coverOf, eachOf, valuesOf, marksOf, dayOf}
 use Rattle.format.specs.Total.{totalsFrom}
 use Rattle.theorems.specs.Grammar.{Each, Record, join, Block, Covers, Marked, IsBlock, Channel, Reading, Content, nem12, nem13, channelsIn, blocksIn, daysIn, InFormat}
-use Rattle.theorems.specs.Days.{behind, recordAt, rowsAt, rowsOf, blockAt, blockDays, behindBlocks, channelDays, contentDays, dayIn, meant, blockMeanings, channelMeanings, meanings, channelTotals, readingTotals, totals}
+use Rattle.theorems.specs.Days.{behind, recordAt, rowsAt, rowsOf, blockAt, blockDays, behindBlocks, channelDays, contentDays, dayIn, meant, blockMeanings, channelMeanings, meanings, channelValues, readingValues, totals}
 use Rattle.theorems.proofs.Lists.{each-at}
 use Rattle.theorems.proofs.Rows.{meets-length}
 use Rattle.theorems.proofs.Days.{days, channel-totals}
@@ -81,12 +82,12 @@ day-count file v c d h = ap length (days file v c d h) ∙ content-count (length
 totals-count : (x : Content) → length (totals x) ≡ channelsIn x
 totals-count (nem12 cs) = go cs
   where
-    go : (cs : List Channel) → length (channelTotals cs) ≡ length cs
+    go : (cs : List Channel) → length (map sum (channelValues cs)) ≡ length cs
     go [] = refl
     go (c ∷ cs) = ap suc (go cs)
 totals-count (nem13 rs) = go rs
   where
-    go : (rs : List Reading) → length (readingTotals rs) ≡ length rs
+    go : (rs : List Reading) → length (map sum (readingValues rs)) ≡ length rs
     go [] = refl
     go (r ∷ rs) = ap suc (go rs)
 

@@ -9,7 +9,7 @@ use native.Mathlib.Numerals.{add-one}
 use lib.ListN.{length, take, drop, length-append, length-take, take-append-drop}
 use lib.Dec.{eqb}
 use borrow.Author.Tests.{eqb-false}
-use Rattle.ground.proofs.Cases.{by}
+use Rattle.ground.proofs.Cases.{same-or, by}
 use Rattle.format.specs.Cut.{Lines, line, rest, lines}
 use Rattle.format.specs.Order.{isEnd, Due, begun}
 use Rattle.format.specs.Faults.{faultOf}
@@ -131,6 +131,17 @@ pub refusal-of : (file : List ℕ) (x q k i : ℕ) → checkOf file ≡ refused 
 refusal-of file x q k i e n =
     let c = walk-of file (refused x q k i) e (λ z. n (let y : x ≡ 1 = cc in y)) in
     (c .0, refusal-in file x q k i (c .1))
+
+why-number : (st : Due) (p : ℕ) (ls : Lines) (x q i : ℕ) → Why st p ls x q i → x ≤ 13
+why-number st p ls x q i (unfinished t l s e f g) = omega arith
+why-number st p ls x q i (faulty r more o l s e f) = omega (arith, fault-number st r x o i e)
+why-number st p ls x q i (trailing s b e f g) = omega arith
+
+-- a check refuses with no number above 13
+pub check-number : (file : List ℕ) (x q k i : ℕ) → checkOf file ≡ refused x q k i → x ≤ 13
+check-number file x q k i e =
+    same-or x 1 (λ z. omega arith)
+    (λ z. why-number (stateAt k file) (placeOf k file) (past k (lines file)) x q i (refusal-of file x q k i e z .1 .why))
 
 -- ---- prefix
 

@@ -1,8 +1,8 @@
 -- What the grammar's blocks and channels say: the days of a file with the places of their records, what each means, the day that bytes are as a block, and the
--- channels' totals.
+-- channels' values and totals.
 use Prim.Native.Nat.{ℕ, _+_}
 use mathlib.Core.Path.{_≡_}
-use mathlib.Core.List.{List, [], _∷_, _++_}
+use mathlib.Core.List.{List, [], _∷_, _++_, map}
 use lib.ListN.{length, drop}
 use Rattle.ground.specs.Lists.{sum}
 use Rattle.format.specs.Records.{intervalsIn, valuesIn, quantityIn}
@@ -121,18 +121,23 @@ pub record OneDay (file : List ℕ) (k : ℕ) : Type 0 where
 
 -- ---- totals: "A 200's total is the sum of its days' values; a 250's is its quantity."
 
-abbrev pub blocksTotal : ℕ → List Block → ℕ
-blocksTotal n [] = 0
-blocksTotal n (b ∷ bs) = sum (valuesIn n (b .top)) + blocksTotal n bs
+-- the values of a 200's days, each of n intervals
+abbrev pub blockValues : ℕ → List Block → List ℕ
+blockValues n [] = []
+blockValues n (b ∷ bs) = valuesIn n (b .top) ++ blockValues n bs
 
-abbrev pub channelTotals : List Channel → List ℕ
-channelTotals [] = []
-channelTotals (c ∷ cs) = blocksTotal (intervalsIn (c .head)) (c .blocks) ∷ channelTotals cs
+abbrev pub channelValues : List Channel → List (List ℕ)
+channelValues [] = []
+channelValues (c ∷ cs) = blockValues (intervalsIn (c .head)) (c .blocks) ∷ channelValues cs
 
-abbrev pub readingTotals : List Reading → List ℕ
-readingTotals [] = []
-readingTotals (r ∷ rs) = quantityIn (r .head) ∷ readingTotals rs
+abbrev pub readingValues : List Reading → List (List ℕ)
+readingValues [] = []
+readingValues (r ∷ rs) = (quantityIn (r .head) ∷ []) ∷ readingValues rs
+
+-- the values that each channel adds up
+abbrev pub values : Content → List (List ℕ)
+values (nem12 cs) = channelValues cs
+values (nem13 rs) = readingValues rs
 
 abbrev pub totals : Content → List ℕ
-totals (nem12 cs) = channelTotals cs
-totals (nem13 rs) = readingTotals rs
+totals x = map sum (values x)

@@ -1,4 +1,4 @@
--- What a refusal's number means: 01, Refusal numbers, in words for a person.
+-- What a refusal's number means: 01, Refusal numbers, in words for a person. 02, request 7, struck 17.
 use Prim.Native.Nat.{ℕ}
 use mathlib.Core.List.{List, _++_}
 use Rattle.ground.specs.Text.{bytes}
@@ -22,8 +22,7 @@ meanings =
     ++ bytes "bytes behind the 900 record;"
     ++ bytes "no such day or channel;"
     ++ bytes "a lent list or the room is too short;"
-    ++ bytes "the day is not fit to be written;"
-    ++ bytes "the channel's total is 2^64 or more"
+    ++ bytes "the day is not fit to be written"
 
 unfoldable pub meaningOf : ℕ → List ℕ
 meaningOf x = numbered x meanings

@@ -22,7 +22,6 @@ pub fn meaning(page: &mut [u8], at: usize, number: u64) -> usize
         bytes behind the 900 record;\
         no such day or channel;\
         a lent list or the room is too short;\
-        the day is not fit to be written;\
-        the channel's total is 2^64 or more";
+        the day is not fit to be written";
     put(page, at, text_at(meanings, number as usize))
 }

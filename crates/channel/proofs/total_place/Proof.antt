@@ -22,14 +22,14 @@ quantity-of-requires c κs = (search quantity-order, search quantity-end)
 enum-known-c-2 : tie.Need-enum-known-c-2
 enum-known-c-2 c = search needs
 
-add-days-total : tie.Need-add-days-total
-add-days-total c = let r : c .before .c2 .given .0 .1 .0 + 2 ≤ length (c .before .before .before .before .args .file .now) = search days-room in omega arith
+add-add-days : tie.Need-add-add-days
+add-add-days c = let r : c .before .c2 .given .0 .1 .0 + 2 ≤ length (c .before .before .before .before .args .file .now) = search days-room in omega arith
 
 intervals-of-requires : tie.Need-intervals-of-requires
 intervals-of-requires c κs = (search days-order, search days-end)
 
-days-total-requires : tie.Need-days-total-requires
-days-total-requires c κs = search days-room
+add-days-requires : tie.Need-add-days-requires
+add-days-requires c κs = (search days-room, search needs)
 
 returns : tie.Need-returns
 returns c = search channel-missing
@@ -49,9 +49,9 @@ total-place-spec =
     enum-known-c
     quantity-of-requires
     enum-known-c-2
-    add-days-total
+    add-add-days
     intervals-of-requires
-    days-total-requires
+    add-days-requires
     returns
     returns-2
     returns-3)

@@ -1,6 +1,6 @@
 -- `sums::add_days` meets its contract. Assumes nothing.
-use Prim.Native.Nat.{_+_, _≤_, _-_, _<_, _^_}
-use Rattle.sums.proofs.Sums.{days, got-fits}
+use Prim.Native.Nat.{_+_, _≤_, _-_, _*_, _^_}
+use Rattle.sums.proofs.Sums.{days, passed-fits, passed-on}
 use Rattle.sums.specs.Sums.{sumAt}
 use Rattle.day.proofs.Find.{line-less}
 use Rattle.lines.proofs.Ends.{line-room}
@@ -13,7 +13,7 @@ use Rattle.sums.proofs.add_days.Statement.{statement}
 use Rattle.sums.proofs.add_days.Tie as tie
 
 abbrev Inv-loop : tie.InvT-loop
-Inv-loop file start n acc₀ at₀ acc at = (at ≤ length file) × (acc < 2 ^ 64) × (acc + sumAt file at n ≡ sumAt file start n)
+Inv-loop file start n acc₀ at₀ acc at = (at ≤ length file) × (acc ≤ at * 10 ^ 13) × (acc + sumAt file at n ≡ sumAt file start n)
 
 abbrev μ-loop : tie.MeasureT-loop
 μ-loop file start n acc₀ at₀ acc at = length file - at
@@ -40,28 +40,19 @@ skip-requires : tie.Need-skip-requires Inv-loop μ-loop
 skip-requires c κs = search needs
 
 add-values-requires : tie.Need-add-values-requires Inv-loop μ-loop
-add-values-requires c κs = search needs
-
-enum-known-x : tie.Need-enum-known-x Inv-loop μ-loop
-enum-known-x c = search needs
+add-values-requires c κs = (search needs, search needs, search passed-fits)
 
 loop-less : tie.Need-loop-less Inv-loop μ-loop
 loop-less c = search line-less
 
 loop-again : tie.Need-loop-again Inv-loop μ-loop
-loop-again c = (search line-room, search got-fits, search days)
-
-enum-told : tie.Need-enum-told Inv-loop μ-loop
-enum-told c = search needs
-
-returns-3 : tie.Need-returns-3 Inv-loop μ-loop
-returns-3 c = search days
+loop-again c = (search line-room, search passed-on, search days)
 
 loop-less-2 : tie.Need-loop-less-2 Inv-loop μ-loop
 loop-less-2 c = search line-less
 
 loop-again-2 : tie.Need-loop-again-2 Inv-loop μ-loop
-loop-again-2 c = (search line-room, search needs, search days)
+loop-again-2 c = (search line-room, omega arith, search days)
 
 pub add-days-spec : {M : Type 1} → statement M
 add-days-spec =
@@ -77,10 +68,7 @@ add-days-spec =
     add-at
     skip-requires
     add-values-requires
-    enum-known-x
     loop-less
     loop-again
-    enum-told
-    returns-3
     loop-less-2
     loop-again-2)

@@ -1,6 +1,6 @@
 -- `sums::add_values` meets its contract. Assumes nothing.
 use Prim.Native.Nat.{_+_, _≤_, _-_, _<_, _^_}
-use Rattle.sums.proofs.Sums.{sum-on, sum-rest, sum-over, sum-end}
+use Rattle.sums.proofs.Sums.{sum-on, sum-rest, sum-fits, sum-end, end-fits}
 use Rattle.day.specs.Places.{valuesFrom}
 use Rattle.format.specs.Cut.{fields}
 use Rattle.ground.specs.Lists.{part, sum}
@@ -14,13 +14,13 @@ use Rattle.sums.proofs.add_values.Statement.{statement}
 use Rattle.sums.proofs.add_values.Tie as tie
 
 abbrev Inv-loop : tie.InvT-loop
-Inv-loop file a e n before acc₀ x₀ i₀ acc x i = (i ≤ n) × (acc < 2 ^ 64) × Rest file (fields (part file a e)) a i x e × (acc + sum (valuesFrom (n - i) i (fields (part file a e))) ≡ before + sum (valuesFrom n 0 (fields (part file a e))))
+Inv-loop file a e n before acc₀ x₀ i₀ acc x i = (i ≤ n) × Rest file (fields (part file a e)) a i x e × (acc + sum (valuesFrom (n - i) i (fields (part file a e))) ≡ before + sum (valuesFrom n 0 (fields (part file a e))))
 
 abbrev μ-loop : tie.MeasureT-loop
 μ-loop file a e n before acc₀ x₀ i₀ acc x i = n - i
 
 loop-holds : tie.Need-loop-holds Inv-loop μ-loop
-loop-holds c = (omega arith, omega arith, rest-whole _ _ _ (omega arith) (omega arith), rw sub-zero)
+loop-holds c = (omega arith, rest-whole _ _ _ (omega arith) (omega arith), rw sub-zero)
 
 sub-loop : tie.Need-sub-loop Inv-loop μ-loop
 sub-loop c = search needs
@@ -28,14 +28,8 @@ sub-loop c = search needs
 many-requires : tie.Need-many-requires Inv-loop μ-loop
 many-requires c κs = search needs
 
-sub-if1 : tie.Need-sub-if1 Inv-loop μ-loop
-sub-if1 c = search needs
-
-returns : tie.Need-returns Inv-loop μ-loop
-returns c = search sum-over
-
 add-acc : tie.Need-add-acc Inv-loop μ-loop
-add-acc c = search needs
+add-acc c = search sum-fits
 
 add-i : tie.Need-add-i Inv-loop μ-loop
 add-i c = search needs
@@ -44,7 +38,7 @@ loop-less : tie.Need-loop-less Inv-loop μ-loop
 loop-less c = search needs
 
 loop-again : tie.Need-loop-again Inv-loop μ-loop
-loop-again c = (omega arith, omega arith, search sum-rest, search sum-on)
+loop-again c = (omega arith, search sum-rest, search sum-on)
 
 sub-singly : tie.Need-sub-singly Inv-loop μ-loop
 sub-singly c = search needs
@@ -52,11 +46,11 @@ sub-singly c = search needs
 singly-requires : tie.Need-singly-requires Inv-loop μ-loop
 singly-requires c κs = (omega arith, omega arith, omega arith)
 
-plus-requires : tie.Need-plus-requires Inv-loop μ-loop
-plus-requires c κs = search needs
+add-result : tie.Need-add-result Inv-loop μ-loop
+add-result c = search (end-fits, c .before .singly .ensures)
 
-returns-2 : tie.Need-returns-2 Inv-loop μ-loop
-returns-2 c = search sum-end
+returns : tie.Need-returns Inv-loop μ-loop
+returns c = search sum-end
 
 pub add-values-spec : {M : Type 1} → statement M
 add-values-spec =
@@ -67,13 +61,11 @@ add-values-spec =
     loop-holds
     sub-loop
     many-requires
-    sub-if1
-    returns
     add-acc
     add-i
     loop-less
     loop-again
     sub-singly
     singly-requires
-    plus-requires
-    returns-2)
+    add-result
+    returns)

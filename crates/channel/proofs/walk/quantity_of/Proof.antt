@@ -23,7 +23,7 @@ value-of-requires : tie.Need-value-of-requires
 value-of-requires c κs = search needs
 
 returns : tie.Need-returns
-returns c = (search quantity-is, search needs)
+returns c = search quantity-is
 
 pub quantity-of-spec : {M : Type 1} → statement M
 quantity-of-spec =

@@ -21,6 +21,18 @@ loop-holds c = search needs
 total-noted-requires : tie.Need-total-noted-requires Inv-loop μ-loop
 total-noted-requires c κs = search needs
 
+enum-known-answer : tie.Need-enum-known-answer Inv-loop μ-loop
+enum-known-answer c = search needs
+
+enum-told : tie.Need-enum-told Inv-loop μ-loop
+enum-told c = search needs
+
+same-length : tie.Need-same-length Inv-loop μ-loop
+same-length c = search needs
+
+returns : tie.Need-returns Inv-loop μ-loop
+returns c = search needs
+
 placed-requires : tie.Need-placed-requires Inv-loop μ-loop
 placed-requires c κs = search needs
 
@@ -36,11 +48,11 @@ loop-less c = omega arith
 loop-again : tie.Need-loop-again Inv-loop μ-loop
 loop-again c = search needs
 
-same-length : tie.Need-same-length Inv-loop μ-loop
-same-length c = search needs
+same-length-2 : tie.Need-same-length-2 Inv-loop μ-loop
+same-length-2 c = search needs
 
-returns : tie.Need-returns Inv-loop μ-loop
-returns c = search needs
+returns-2 : tie.Need-returns-2 Inv-loop μ-loop
+returns-2 c = search needs
 
 pub rows-spec : {M : Type 1} → statement M
 rows-spec =
@@ -50,10 +62,14 @@ rows-spec =
     μ-loop
     loop-holds
     total-noted-requires
+    enum-known-answer
+    enum-told
+    same-length
+    returns
     placed-requires
     write-requires
     add-k
     loop-less
     loop-again
-    same-length
-    returns)
+    same-length-2
+    returns-2)

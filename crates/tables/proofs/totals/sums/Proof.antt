@@ -8,8 +8,8 @@ use Rattle.tables.proofs.totals.sums.Tie as tie
 right-requires : tie.Need-right-requires
 right-requires c κs = search needs
 
-total-requires : tie.Need-total-requires
-total-requires c κs = search needs
+point-requires : tie.Need-point-requires
+point-requires c κs = search needs
 
 same-length : tie.Need-same-length
 same-length c = search needs
@@ -19,4 +19,4 @@ unfolding sumsText
 returns c = search filled-beside
 
 pub sums-spec : {M : Type 1} → statement M
-sums-spec = tie.close (tie.spec right-requires total-requires same-length returns)
+sums-spec = tie.close (tie.spec right-requires point-requires same-length returns)

@@ -19,7 +19,7 @@ unfolding size
 size-append [] ys = omega arith
 size-append (x ∷ xs) ys = omega (arith, size-append xs ys)
 
-length-join : (fs : Record) → 1 ≤ length fs → length (join fs) + 1 ≡ size fs
+pub length-join : (fs : Record) → 1 ≤ length fs → length (join fs) + 1 ≡ size fs
 unfolding join size
 length-join [] h = absurd (let z : ⊥ = omega arith in z)
 length-join (f ∷ []) h = omega arith
