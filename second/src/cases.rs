@@ -18,6 +18,9 @@ const LARGE_CASES: [u64; 3] = [250, 500, 750];
 /// The case with this number has a block that is longer than any file may be.
 const LARGE_BLOCK_CASE: u64 = 1000;
 
+/// The case with this number totals a channel that adds up to as much as one can.
+const LARGEST_TOTAL_CASE: u64 = 1250;
+
 /// The refusals that a file's content can be aimed at, each in turn, those with many ways to earn them more often.
 const AIMS: [u64; 16] = [2, 3, 4, 5, 6, 7, 8, 9, 6, 10, 11, 12, 13, 7, 6, 9];
 
@@ -39,6 +42,9 @@ pub fn case(seed: u64, index: u64) -> Vec<u8> {
     }
     if index == LARGE_BLOCK_CASE {
         return blocks::large(chance);
+    }
+    if index == LARGEST_TOTAL_CASE {
+        return requests::case("total 0", &files::largest_total(chance));
     }
     let round = index / ROUND;
     // Which one of a sweep: another seed begins elsewhere.
@@ -72,7 +78,7 @@ pub fn case(seed: u64, index: u64) -> Vec<u8> {
 mod tests {
     use super::*;
     use crate::probe;
-    use crate::refusal::TOTAL_TOO_LARGE;
+    use crate::refusal::LAST;
 
     #[test]
     fn a_run_gives_every_refusal_that_can_be_reached_and_no_bad_case() {
@@ -80,11 +86,11 @@ mod tests {
         let tally = probe::run(&input, &mut std::io::sink()).unwrap();
         let lines = tally.lines();
         assert!(!lines.contains("bad case"), "{lines}");
-        for number in 1..TOTAL_TOO_LARGE {
+        for number in 1..=LAST {
             assert!(tally.all.refusals(number) > 0, "refusal {number} never given\n{lines}");
         }
         assert!(tally.blocks.accepted > 0);
-        for number in 1..TOTAL_TOO_LARGE {
+        for number in 1..=LAST {
             let can_come = BLOCK_AIMS.contains(&number);
             assert_eq!(tally.blocks.refusals(number) > 0, can_come, "refusal {number} of a block\n{lines}");
         }

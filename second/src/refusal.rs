@@ -28,10 +28,9 @@ pub const NO_SUCH_NUMBER: u64 = 14;
 pub const LENT_TOO_SHORT: u64 = 15;
 /// Also an interval length that is none, of a block on its own.
 pub const DAY_UNFIT: u64 = 16;
-pub const TOTAL_TOO_LARGE: u64 = 17;
 
-/// The highest refusal number.
-pub const LAST: u64 = 17;
+/// The highest refusal number. (17 was struck: no total of a file reaches 2^64.)
+pub const LAST: u64 = 16;
 
 impl Refusal {
     /// A refusal that means no place in the file: place, record and field are 0.

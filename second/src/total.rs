@@ -1,10 +1,11 @@
 //! Totalling one channel.
 
 use crate::check::read_file;
-use crate::refusal::{Refusal, NO_SUCH_NUMBER, TOTAL_TOO_LARGE};
+use crate::refusal::{Refusal, NO_SUCH_NUMBER};
 
-pub fn total(file: &[u8], channel: usize) -> Result<u64, Refusal> {
+/// The exact total, held wider than any total is: that it is below 2^64 is not taken for granted here.
+pub fn total(file: &[u8], channel: usize) -> Result<u128, Refusal> {
     let content = read_file(file)?;
     let channel = content.channels.get(channel).ok_or(Refusal::without_place(NO_SUCH_NUMBER))?;
-    u64::try_from(channel.total).map_err(|_| Refusal::without_place(TOTAL_TOO_LARGE))
+    Ok(channel.total)
 }

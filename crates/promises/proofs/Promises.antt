@@ -60,13 +60,13 @@ module _ (κs : Lfts 1) (a : Dens κs total-kinds.ps) (x : resT total-kinds.r κ
       go (inl g) = inl (first (now (a .0)) n q k i .0 g)
       go (inr g) = inr g
 
-  -- 02, request 7: "17 never occurs"
-  pub never-17 : (q k i : ℕ) → totalledAs x ≡ refused 17 q k i → ⊥
-  never-17 q k i r = go (total-refusal (now (a .0)) (a .1 .0) 17 q k i (sym p ∙ r))
+  -- 02, request 7: "17 never occurs", for no number above 14 does
+  pub total-numbers : (n q k i : ℕ) → totalledAs x ≡ refused n q k i → n ≤ 14
+  total-numbers n q k i r = go (total-refusal (now (a .0)) (a .1 .0) n q k i (sym p ∙ r))
     where
-      go : (checkOf (now (a .0)) ≡ refused 17 q k i) ⊎ (refused 17 q k i ≡ refusal 14) → ⊥
-      go (inl g) = omega (arith, check-number (now (a .0)) 17 q k i g)
-      go (inr g) = let z : _≡_ {A = ℕ} 17 14 = cc in omega arith
+      go : (checkOf (now (a .0)) ≡ refused n q k i) ⊎ (refused n q k i ≡ refusal 14) → n ≤ 14
+      go (inl g) = omega (arith, check-number (now (a .0)) n q k i g)
+      go (inr g) = let z : n ≡ 14 = cc in omega arith
 
   module _ (v c d : ℕ) (h : InFormat (now (a .0)) v c d) where
     -- a channel's total is what the grammar has it add up to, and 64 bits hold it

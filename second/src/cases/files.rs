@@ -242,15 +242,38 @@ pub fn large(chance: &mut Chance, which: usize) -> Vec<u8> {
 }
 
 fn file_of_length(chance: &mut Chance, length: usize) -> Vec<u8> {
+    full_file(chance, length, b"30", 2_000, |chance, date| {
+        let note = words::note(chance);
+        day(chance, 48, date, &note.fields())
+    })
+}
+
+/// A file of the largest length with one channel, whose values are the largest that eight bytes hold with their comma:
+/// none adds up to more for its bytes.
+pub fn largest_total(chance: &mut Chance) -> Vec<u8> {
+    full_file(chance, LONGEST_FILE, b"5", 2_500, |chance, date| {
+        let mut row = day(chance, 288, date, &[b"A".to_vec(), Vec::new(), Vec::new()]);
+        row[2..290].fill(b"9999999".to_vec());
+        row
+    })
+}
+
+/// A file of one channel, filled with days that are no longer than `most_bytes`, and to its length with orders.
+fn full_file(
+    chance: &mut Chance,
+    length: usize,
+    interval_length: &[u8],
+    most_bytes: usize,
+    day_on: impl Fn(&mut Chance, u32) -> Row,
+) -> Vec<u8> {
     const END: &[u8] = b"900\r\n";
     let mut head = row(chance, Kind::R200, 0);
-    head[8] = b"30".to_vec();
+    head[8] = interval_length.to_vec();
     let mut bytes = record_bytes(&header(chance, b"NEM12"));
     bytes.extend(record_bytes(&head));
     let mut date = 19_000_101;
-    while bytes.len() + 2_000 < length {
-        let note = words::note(chance);
-        bytes.extend(record_bytes(&day(chance, 48, date, &note.fields())));
+    while bytes.len() + most_bytes < length {
+        bytes.extend(record_bytes(&day_on(chance, date)));
         date = words::next_date(date).expect("the file is full before the calendar ends");
     }
     fill_with_orders(&mut bytes, length - END.len());
@@ -284,6 +307,7 @@ mod tests {
     use super::*;
     use crate::check::check;
     use crate::refusal::FILE_TOO_LONG;
+    use crate::total::total;
 
     #[test]
     fn files_meant_to_be_accepted_are_accepted() {
@@ -303,5 +327,15 @@ mod tests {
         let above = large(chance, 1);
         assert_eq!(above.len(), LONGEST_FILE + 1);
         assert_eq!(check(&above).map_err(|refusal| refusal.number), Err(FILE_TOO_LONG));
+    }
+
+    #[test]
+    fn the_largest_total_is_below_2_to_the_64() {
+        let file = largest_total(&mut Chance::for_case(5, 0));
+        assert_eq!(file.len(), LONGEST_FILE);
+        let days = check(&file).expect("it is accepted").days as u128;
+        let total = total(&file, 0).expect("it has a channel");
+        assert_eq!(total, days * 288 * 9_999_999_000_000);
+        assert!(1 << 60 < total && total < 1 << 64);
     }
 }
