@@ -60,7 +60,7 @@ adding-end file x e m i acc y h r =
     let q : i ≡ m = omega (arith, r .few) in
     let n : m - i ≡ 0 = omega arith in
     let t : sum (valuesFrom (m - i) i (fields (part file x e))) ≡ 0 = rw n in
-    record { is = omega (arith, r .left); small = rw q at (r .small); rest = rw q at (r .rest) }
+    record { is = omega (arith, r .left); rest = rw q at (r .rest) }
 
 pub adding-fits : (file : List ℕ) (x e m i acc y v : ℕ) → m ≤ 16 → Adding file x e m i acc y → i < m → v < 10 ^ 13 → Fits w64 (acc + v)
 adding-fits file x e m i acc y v h r l sv = omega (arith, r .small)

@@ -1,5 +1,5 @@
 -- Sums of values from a place of the file on, for the contracts of the inner functions.
-use Prim.Native.Nat.{ℕ, _*_, _^_, _≤_}
+use Prim.Native.Nat.{ℕ}
 use mathlib.Core.Path.{_≡_}
 use mathlib.Core.List.{List}
 use lib.ListN.{drop}
@@ -12,7 +12,6 @@ use Rattle.day.specs.Places.{valuesFrom}
 -- the values of m fields from place x on come to v, and the field behind them starts at y
 pub record Adds (file : List ℕ) (x e m v y : ℕ) : Type 0 where
   pub is : v ≡ sum (valuesFrom m 0 (fields (part file x e)))
-  pub small : v ≤ m * 10 ^ 13
   pub rest : Rest file (fields (part file x e)) x m y e
 
 -- the values of the days from place p on, up to the next channel

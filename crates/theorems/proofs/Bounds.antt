@@ -19,7 +19,7 @@ use Rattle.format.specs.Block.{fitValue}
 use Rattle.format.specs.declared.Rule.{Rule}
 use Rattle.format.specs.declared.Rule.the-variants.{Value}
 use Rattle.format.proofs.Total.{values-fit, sum-most}
-use Rattle.theorems.specs.Grammar.{Each, Record, join, text, Meets, IsRecord, Block, IsBlock, Channel, IsChannel, Reading, IsReading, Content, nem12, nem13, IsContent, blocksThen, channelsThen, readingsThen, contentThen, InFormatUpTo, InFormat}
+use Rattle.theorems.specs.Grammar.{Each, Record, join, text, Meets, IsRecord, Block, IsBlock, Channel, IsChannel, Reading, Content, nem12, nem13, IsContent, blocksThen, channelsThen, readingsThen, contentThen, InFormatUpTo, InFormat}
 use Rattle.theorems.specs.Days.{blockValues, channelValues, readingValues, values, totals}
 use Rattle.theorems.proofs.Lists.{each-if}
 use Rattle.theorems.proofs.Sizes.{size, length-join}

@@ -1,5 +1,5 @@
 -- `sums::add_values` meets its contract. Assumes nothing.
-use Prim.Native.Nat.{_+_, _≤_, _-_, _<_, _^_}
+use Prim.Native.Nat.{_+_, _≤_, _-_}
 use Rattle.sums.proofs.Sums.{sum-on, sum-rest, sum-fits, sum-end, end-fits}
 use Rattle.day.specs.Places.{valuesFrom}
 use Rattle.format.specs.Cut.{fields}
