@@ -13,16 +13,21 @@ use Rattle.ground.proofs.Digits.{all-append}
 use Rattle.ground.proofs.Tests.{and-true}
 use Rattle.format.specs.Bytes.{areAll}
 use Rattle.format.specs.Numbers.{isNumber, numberOf, decimals, valueOf}
-use Rattle.format.specs.Cut.{field}
+use Rattle.format.specs.Cut.{lines, field}
 use Rattle.format.specs.Records.{rowOf, obeys, intervalsIn, millionths, valuesIn, quantityField, quantityIn}
+use Rattle.format.specs.Answers.{accepted}
+use Rattle.format.specs.File.{checkOf}
+use Rattle.format.specs.Total.{totalsFrom}
 use Rattle.format.specs.Block.{fitValue}
 use Rattle.format.specs.declared.Rule.{Rule}
 use Rattle.format.specs.declared.Rule.the-variants.{Value}
 use Rattle.format.proofs.Total.{values-fit, sum-most}
 use Rattle.theorems.specs.Grammar.{Each, Record, join, text, Meets, IsRecord, Block, IsBlock, Channel, IsChannel, Reading, Content, nem12, nem13, IsContent, blocksThen, channelsThen, readingsThen, contentThen, InFormatUpTo, InFormat}
-use Rattle.theorems.specs.Days.{blockValues, channelValues, readingValues, values, totals}
+use Rattle.theorems.specs.Days.{blockValues, channelValues, readingValues, values, valueCount, totals}
 use Rattle.theorems.proofs.Lists.{each-if}
 use Rattle.theorems.proofs.Sizes.{size, length-join}
+use Rattle.theorems.proofs.Format.{format}
+use Rattle.theorems.proofs.Days.{channel-totals}
 
 -- ---- "A value takes at least two bytes with its comma"
 
@@ -70,10 +75,6 @@ blocks-size n (b ∷ bs) t h =
       text-more (b .extra) more,
       blocks-size n bs t (h .1),
     )
-
--- how many values there are
-abbrev pub valueCount : Content → ℕ
-valueCount x = sum (map length (values x))
 
 channels-size : (cs : List Channel) (t : List Record) → Each IsChannel cs → 2 * sum (map length (channelValues cs)) + length (text t) ≤ length (text (channelsThen cs t))
 unfolding text
@@ -156,3 +157,7 @@ pub totals-fit : (file : List ℕ) (v c d : ℕ) (h : InFormat file v c d) → E
 totals-fit file v c d h =
     each-if (λ t. t ≤ valueCount (h .content) * 10 ^ 13) (λ t. t < 2 ^ 64) (λ t l. omega (arith, two-bytes _ file v c d h)) (totals (h .content))
     (totals-most (valueCount (h .content)) (values (h .content)) (content-fit (h .content)) (omega arith))
+
+-- as a reading finds them in an accepted file
+pub every-total : (file : List ℕ) (v c d : ℕ) → checkOf file ≡ accepted (v ∷ c ∷ d ∷ []) → Each (λ t. t < 2 ^ 64) (totalsFrom (lines file))
+every-total file v c d e = let h = format file v c d .0 e in rw (channel-totals file v c d h) (totals-fit file v c d h)

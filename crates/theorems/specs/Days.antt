@@ -139,5 +139,9 @@ abbrev pub values : Content → List (List ℕ)
 values (nem12 cs) = channelValues cs
 values (nem13 rs) = readingValues rs
 
+-- how many they are in all
+abbrev pub valueCount : Content → ℕ
+valueCount x = sum (map length (values x))
+
 abbrev pub totals : Content → List ℕ
 totals x = map sum (values x)
