@@ -111,17 +111,13 @@ module _ (file : List ℕ) (p n i a e m v y acc whole : ℕ) (fs : List (List �
   sum-fits l = omega (arith, sum-on)
 
 -- the last turn, over the n - i values that are left
-module _ (file : List ℕ) (p n i a e v y acc whole : ℕ) (fs : List (List ℕ)) (g : i ≤ n) (s : Rest file fs p i a e) (d : Adds file a e (n - i) v y)
-    (inv : acc + sum (valuesFrom (n - i) i fs) ≡ whole) where
-  pub sum-end : acc + v ≡ whole
-  unfolding valuesFrom
-  sum-end =
-      let m : n - (i + (n - i)) ≡ 0 = omega arith in
-      let t : sum (valuesFrom (n - (i + (n - i))) (i + (n - i)) fs) ≡ 0 = rw m in
-      omega (arith, sum-on file p n i a e (n - i) v y acc whole fs (omega arith) g s d inv)
-
-  pub end-fits : whole < 2 ^ 64 → Fits w64 (acc + v)
-  end-fits l = omega (arith, sum-end)
+pub sum-end : (file : List ℕ) (p n i a e v y acc whole : ℕ) (fs : List (List ℕ)) → i ≤ n → Rest file fs p i a e → Adds file a e (n - i) v y
+    → acc + sum (valuesFrom (n - i) i fs) ≡ whole → acc + v ≡ whole
+unfolding valuesFrom
+sum-end file p n i a e v y acc whole fs g s d inv =
+    let m : n - (i + (n - i)) ≡ 0 = omega arith in
+    let t : sum (valuesFrom (n - (i + (n - i))) (i + (n - i)) fs) ≡ 0 = rw m in
+    omega (arith, sum-on file p n i a e (n - i) v y acc whole fs (omega arith) g s d inv)
 
 -- a field that is not there adds nothing
 nothing : millionths [] ≡ 0

@@ -1,34 +1,23 @@
 -- What the walker hands out at a place: made of what the pass over the record found, and read back by a caller. Assumes nothing.
-use Prim.Native.Nat.{ℕ, suc, _+_, _-_, _≤_, _<_}
+use Prim.Native.Nat.{ℕ, _+_, _-_, _≤_, _<_}
 use mathlib.Core.Path.{_≡_, refl, sym, _∙_, subst}
-use mathlib.Core.List.{List, [], _∷_}
-use mathlib.Core.Bool.{Bool, true, false, cond}
+use mathlib.Core.List.{List}
+use mathlib.Core.Bool.{Bool, true, false}
 use native.Mathlib.Omega.{arith}
 use lib.ListN.{length, take, drop, drop-of-length-le}
 use lib.Dec.{ltb, eqb}
 use borrow.Author.Tests.{ltb-true, ltb-false, eqb-true, eqb-false}
-use Rattle.ground.specs.Lists.{spanOf, other, part}
+use Rattle.ground.specs.Lists.{spanOf, part}
 use Rattle.ground.proofs.Spans.{part-take, part-length, span-le}
 use Rattle.format.specs.Bytes.{plain}
-use Rattle.format.specs.Cut.{rest, lines, onField, fields}
-use Rattle.format.proofs.Cut.{fields-some}
+use Rattle.format.specs.Cut.{rest, lines, fields}
+use Rattle.format.proofs.Cut.{fields-some, count-most}
 use Rattle.lines.specs.Places.{lineLen, LineEnd, Looked}
 use Rattle.lines.proofs.Ends.{line-at, line-none, line-more, line-room, line-long}
 use Rattle.lines.specs.declared.Found.{Found}
 use Rattle.walker.specs.declared.Record.{Record}
 use Rattle.walker.specs.declared.Record.the-variants.{At, None}
 use Rattle.walker.specs.Handed.{recordAt}
-
--- at most one field more than bytes
-fields-few : (s : List ℕ) → length (fields s) ≤ length s + 1
-unfolding fields
-fields-few [] = omega arith
-fields-few (b ∷ s) = go (other 44 b) (fields s) (fields-few s)
-  where
-    go : (t : Bool) (fs : List (List ℕ)) → length fs ≤ length s + 1 → length (cond t (onField b fs) ([] ∷ fs)) ≤ suc (length s) + 1
-    go true [] h = omega arith
-    go true (f ∷ fs) h = omega arith
-    go false fs h = omega arith
 
 module _ (file : List ℕ) (at : ℕ) where
   -- ---- made: a place behind the file's end, no CR LF, a record
@@ -80,7 +69,7 @@ module _ (file : List ℕ) (at : ℕ) where
         ends = l;
         order = omega arith;
         within = omega (arith, w);
-        few = omega (arith, fields-few (part file at stop), part-length file at stop (omega (arith, w, l .within)));
+        few = omega (arith, count-most (part file at stop), part-length file at stop (omega (arith, w, l .within)));
         first = refl;
         count = omega (arith, fields-some (part file at stop));
       }

@@ -1,6 +1,6 @@
 -- `sums::add_values` meets its contract. Assumes nothing.
 use Prim.Native.Nat.{_+_, _≤_, _-_}
-use Rattle.sums.proofs.Sums.{sum-on, sum-rest, sum-fits, sum-end, end-fits}
+use Rattle.sums.proofs.Sums.{sum-on, sum-rest, sum-fits, sum-end}
 use Rattle.day.specs.Places.{valuesFrom}
 use Rattle.format.specs.Cut.{fields}
 use Rattle.ground.specs.Lists.{part, sum}
@@ -8,7 +8,7 @@ use Rattle.lines.proofs.Cuts.{rest-whole}
 use Rattle.lines.specs.Places.{Rest}
 use borrow.Author.Needs.{needs}
 use mathlib.Core.Path.{_≡_}
-use native.Mathlib.Nat.{sub-zero}
+use native.Mathlib.Nat.{sub-zero, le-refl}
 use native.Mathlib.Omega.{arith}
 use Rattle.sums.proofs.add_values.Statement.{statement}
 use Rattle.sums.proofs.add_values.Tie as tie
@@ -47,7 +47,7 @@ singly-requires : tie.Need-singly-requires Inv-loop μ-loop
 singly-requires c κs = (omega arith, omega arith, omega arith)
 
 add-result : tie.Need-add-result Inv-loop μ-loop
-add-result c = search (end-fits, c .before .singly .ensures)
+add-result c = let inv = c .before .before .before .loop .inv in sum-fits _ _ _ _ _ _ _ _ _ _ _ _ (le-refl _) (inv .0) (inv .1) (c .before .singly .ensures) (inv .2) (c .before .before .before .before .before .pre .2)
 
 returns : tie.Need-returns Inv-loop μ-loop
 returns c = search sum-end
