@@ -1,7 +1,7 @@
 -- What the contract of each public entry promises of a file that is in the format, and where it refuses. Said of what a caller learns of the function, which
 -- the tool makes of the clauses in its source. Assumes nothing.
 use mathlib.Core.Path.{_≡_, sym, ap, ap₂, _∙_, subst}
-use mathlib.Core.Logic.{_↔_, _⊎_, inl, inr}
+use mathlib.Core.Logic.{_↔_, _⊎_, inl, inr, ⊎-elim}
 use mathlib.Core.Bool.{true}
 use mathlib.Core.List.{List, [], _∷_, _++_, map}
 use Prim.Native.Nat.{ℕ, _≤_, _<_}
@@ -54,19 +54,13 @@ module _ (κs : Lfts 1) (a : Dens κs check-kinds.ps) (x : resT check-kinds.r κ
 module _ (κs : Lfts 1) (a : Dens κs total-kinds.ps) (x : resT total-kinds.r κs .Denot) (e : AtExit (endedOf 1 total-kinds.ps total-kinds.r) κs) (p : total-reads.Learnt κs a x e) where
   -- whatever the file is: it is refused by 01's refusal of the file, or by 14
   pub total-refuses : (n q k i : ℕ) → totalledAs x ≡ refused n q k i → GivenTo (now (a .0)) n q k i ⊎ (refused n q k i ≡ refusal 14)
-  total-refuses n q k i r = go (total-refusal (now (a .0)) (a .1 .0) n q k i (sym p ∙ r))
-    where
-      go : (checkOf (now (a .0)) ≡ refused n q k i) ⊎ (refused n q k i ≡ refusal 14) → GivenTo (now (a .0)) n q k i ⊎ (refused n q k i ≡ refusal 14)
-      go (inl g) = inl (first (now (a .0)) n q k i .0 g)
-      go (inr g) = inr g
+  total-refuses n q k i r = ⊎-elim (λ g. inl (first (now (a .0)) n q k i .0 g)) (λ g. inr g) (total-refusal (now (a .0)) (a .1 .0) n q k i (sym p ∙ r))
 
   -- 02, request 7: "17 never occurs", for no number above 14 does
   pub total-numbers : (n q k i : ℕ) → totalledAs x ≡ refused n q k i → n ≤ 14
-  total-numbers n q k i r = go (total-refusal (now (a .0)) (a .1 .0) n q k i (sym p ∙ r))
-    where
-      go : (checkOf (now (a .0)) ≡ refused n q k i) ⊎ (refused n q k i ≡ refusal 14) → n ≤ 14
-      go (inl g) = omega (arith, check-number (now (a .0)) n q k i g)
-      go (inr g) = let z : n ≡ 14 = cc in omega arith
+  total-numbers n q k i r =
+      ⊎-elim (λ g. omega (arith, check-number (now (a .0)) n q k i g)) (λ g. let z : n ≡ 14 = cc in omega arith)
+      (total-refusal (now (a .0)) (a .1 .0) n q k i (sym p ∙ r))
 
   module _ (v c d : ℕ) (h : InFormat (now (a .0)) v c d) where
     -- a channel's total is what the grammar has it add up to, and 64 bits hold it
