@@ -18,7 +18,7 @@ const LARGE_CASES: [u64; 3] = [250, 500, 750];
 /// The case with this number has a block that is longer than any file may be.
 const LARGE_BLOCK_CASE: u64 = 1000;
 
-/// The case with this number totals a channel that adds up to as much as one can.
+/// The case with this number totals a channel that adds up to nearly as much as one can.
 const LARGEST_TOTAL_CASE: u64 = 1250;
 
 /// The refusals that a file's content can be aimed at, each in turn, those with many ways to earn them more often.

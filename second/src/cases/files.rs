@@ -249,7 +249,7 @@ fn file_of_length(chance: &mut Chance, length: usize) -> Vec<u8> {
 }
 
 /// A file of the largest length with one channel, whose values are the largest that eight bytes hold with their comma:
-/// none adds up to more for its bytes.
+/// none of another shape adds up to more for its bytes. Some 2,500 bytes at the most are left to orders.
 pub fn largest_total(chance: &mut Chance) -> Vec<u8> {
     full_file(chance, LONGEST_FILE, b"5", 2_500, |chance, date| {
         let mut row = day(chance, 288, date, &[b"A".to_vec(), Vec::new(), Vec::new()]);
