@@ -1,6 +1,7 @@
 // Numbers that are dates and times.
 ghost use mathlib.Core.Path.{_≡_};
-ghost use Rattle.format.specs.Dates.{isLeap, daysInMonth, isDate, isTime};
+ghost use Prim.Native.Nat.{_<_, _^_};
+ghost use Rattle.format.specs.Dates.{isLeap, daysInMonth, isDate, dayAfter, isTime, isReadTime};
 
 fn is_leap(y: u64) -> bool
     ensures { λ r. ⌜ r ≡ isLeap y ⌝ }
@@ -63,6 +64,22 @@ pub fn is_date(t: u64) -> bool
     d <= days_in(y, m)
 }
 
+// The next date, as a number too: for 21991231 it is 22000101.
+pub fn day_after(t: u64) -> u64
+    requires { ⌜ t < 10 ^ 14 ⌝ }
+    ensures { λ r. ⌜ r ≡ dayAfter t ⌝ }
+{
+    let y = t / 10000;
+    let m = t / 100 % 100;
+    if t % 100 < days_in(y, m) {
+        return t + 1;
+    }
+    if m < 12 {
+        return (t / 100 + 1) * 100 + 1;
+    }
+    (y + 1) * 10000 + 101
+}
+
 // A number that is a date and a time of day, yyyymmddhhmmss.
 pub fn is_time(t: u64) -> bool
     ensures { λ r. ⌜ r ≡ isTime t ⌝ }
@@ -77,4 +94,14 @@ pub fn is_time(t: u64) -> bool
         return false;
     }
     is_date(t / 1000000)
+}
+
+// A number that is such a time, or the end of the last date.
+pub fn is_read_time(t: u64) -> bool
+    ensures { λ r. ⌜ r ≡ isReadTime t ⌝ }
+{
+    if is_time(t) {
+        return true;
+    }
+    t == 22000101000000
 }

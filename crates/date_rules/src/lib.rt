@@ -2,12 +2,13 @@
 pub mod calendar;
 
 use calendar::is_date;
+use calendar::is_read_time;
 use calendar::is_time;
 use format::Number;
 use leaf::digits::digits;
 ghost use mathlib.Core.Path.{_≡_};
 ghost use Prim.Native.Nat.{_<_, _^_};
-ghost use Rattle.format.specs.Dates.{isMinute, dateOf, timeOf, createdOf, nextReadOf, loadOf, readTimeOf};
+ghost use Rattle.format.specs.Dates.{isMinute, dateOf, timeOf, createdOf, nextReadOf, loadOf, takenOf, readTimeOf};
 
 // yyyymmddhhmm.
 fn is_minute(t: u64) -> bool
@@ -84,6 +85,21 @@ pub fn load_time(f: &[u8]) -> Number
     time(f)
 }
 
+fn taken(f: &[u8]) -> Number
+    ensures { λ r. ⌜ r ≡ takenOf (now (f .entry)) ⌝ }
+{
+    let x = digits(f, 14, 14);
+    match x {
+        Number::Is(t) => {
+            if is_read_time(t) {
+                return Number::Is(t);
+            }
+            Number::Bad
+        }
+        Number::Bad => Number::Bad,
+    }
+}
+
 // The 500's.
 pub fn read_time(f: &[u8]) -> Number
     ensures { λ r. ⌜ r ≡ readTimeOf (now (f .entry)) ⌝ }
@@ -91,5 +107,5 @@ pub fn read_time(f: &[u8]) -> Number
     if f.len() == 0 {
         return Number::Is(0);
     }
-    time(f)
+    taken(f)
 }

@@ -1,16 +1,22 @@
 -- The cases of the tests, as a return of the code has them. Assumes nothing.
-use Prim.Native.Nat.{ℕ, _+_, _-_}
-use mathlib.Core.Path.{_≡_, sym, _∙_}
+use Prim.Native.Nat.{ℕ, _+_, _-_, _*_, _/_, _%_, _≤_}
+use mathlib.Core.Path.{_≡_, refl, sym, _∙_}
 use mathlib.Core.List.{List}
 use mathlib.Core.Bool.{Bool, true, false}
+use native.Mathlib.Omega.{arith}
 use lib.ListN.{length, take, drop}
 use lib.Dec.{eqb}
 use borrow.Author.Tests.{eq-eqb, ne-eqb}
 use Rattle.ground.specs.Lists.{same}
+use Rattle.ground.proofs.Cases.{same-or}
+use Rattle.ground.proofs.Tests.{and-false, and-all, or-false}
+use Rattle.format.specs.Dates.{dayAfter}
 use Rattle.format.specs.Quality.{sameMark}
 use Rattle.format.specs.Order.{mayCome}
+use Rattle.format.specs.Faults.{onDay}
 use Rattle.format.specs.declared.Tag.{Tag}
 use Rattle.follows.specs.Tests.{markOf, expectedAs, between}
+use Rattle.format.proofs.Dates.{after-later}
 use Rattle.format.proofs.States.{no-kind}
 use Rattle.format.proofs.MarkText.{flags-differ, methods-differ, reasons-differ, texts-compared}
 use Rattle.follows.proofs.Expected.{is-100, is-200, is-300, is-400, is-500, is-250, is-550, is-900}
@@ -55,6 +61,30 @@ module _ (x k : ℕ) where
       sym (no-kind (expectedAs x) k (ne-eqb _ _ a) (ne-eqb _ _ b) (ne-eqb _ _ c) (ne-eqb _ _ d) (ne-eqb _ _ e) (ne-eqb _ _ f) (ne-eqb _ _ g) (ne-eqb _ _ h))
 
 pub ruleset may = (may-100, may-200, may-300, may-400, may-500, may-250, may-550, may-900, may-200-first, may-900-day, may-none)
+
+-- ---- a read time
+
+module _ (date time : ℕ) where
+  pub not-midnight : (time % 1000000 ≡ 0 → ⊥) → eqb (time / 1000000) date ≡ onDay date time
+  unfolding onDay
+  not-midnight h =
+      rw (ne-eqb time 0 (λ e. h (omega arith)), ne-eqb _ _ h, ne-eqb time (dayAfter date * 1000000) (λ e. h (omega arith)), and-all, or-false)
+
+  pub not-given : time ≡ 0 → true ≡ onDay date time
+  unfolding onDay
+  not-given e = rw (eq-eqb _ _ e)
+
+  module _ (m : time % 1000000 ≡ 0) (g : time ≡ 0 → ⊥) where
+    pub at-midnight : {a : ℕ} → a ≡ dayAfter date → eqb a (time / 1000000) ≡ onDay date time
+    unfolding onDay
+    at-midnight {a} e =
+        rw (ne-eqb _ _ g, eq-eqb _ _ m, and-false, ← e)
+        (same-or a (time / 1000000)
+        (λ h. eq-eqb _ _ h ∙ sym (eq-eqb time (a * 1000000) (omega arith)))
+        (λ n. ne-eqb _ _ n ∙ sym (ne-eqb time (a * 1000000) (λ h. n (omega arith)))))
+
+    pub not-after : time / 1000000 ≤ date → false ≡ onDay date time
+    not-after l = sym (ne-eqb (dayAfter date) (time / 1000000) (λ e. let h = after-later date in omega arith)) ∙ at-midnight refl
 
 -- ---- two marks
 

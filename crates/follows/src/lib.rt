@@ -1,4 +1,5 @@
-// Tests on numbers: what may come, an open cover, a 400's intervals, a read time's date, two marks.
+// Tests on numbers: what may come, an open cover, a 400's intervals, a read time's day, two marks.
+use date_rules::calendar::day_after;
 use format::Tag;
 use leaf::bytes::same_bytes;
 ghost use mathlib.Core.Path.{_≡_};
@@ -80,14 +81,22 @@ pub fn goes_on(next: usize, n: usize, a: usize, b: usize) -> bool
     b <= n
 }
 
-// A read time, if given, has the date.
+// A read time, if given, has the date and is not its midnight, or is the midnight that ends it.
 pub fn on_day(date: u64, time: u64) -> bool
     ensures { λ r. ⌜ r ≡ onDay date time ⌝ }
 {
     if time == 0 {
         return true;
     }
-    time / 1000000 == date
+    let day = time / 1000000;
+    if time % 1000000 != 0 {
+        return day == date;
+    }
+    // No day is its own day after. And an earlier date than one that a time has is so small that its day after is a number too.
+    if day <= date {
+        return false;
+    }
+    day_after(date) == day
 }
 
 // Two marks of the file are the same: flag, method, reason and the description's bytes.

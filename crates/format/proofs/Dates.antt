@@ -1,12 +1,14 @@
--- What the tests of a date and of a time say, as facts about numbers.
+-- What the tests of a date and of a time say, as facts about numbers, and which date the day after is.
 -- Assumes nothing.
-use mathlib.Core.Path.{_≡_, sym}
+use mathlib.Core.Path.{_≡_, refl, sym}
 use mathlib.Core.Bool.{Bool, true, false}
-use Prim.Native.Nat.{ℕ, _/_, _%_, _≤_, _<_}
-use lib.Dec.{leb}
-use borrow.Author.Tests.{leb-true, ltb-true, le-leb, lt-ltb}
+use Prim.Native.Nat.{ℕ, _+_, _*_, _/_, _%_, _≤_, _<_}
+use native.Mathlib.Omega.{arith}
+use lib.Dec.{leb, ltb}
+use borrow.Author.Tests.{leb-true, ltb-true, ltb-false, le-leb, lt-ltb, le-ltb}
+use Rattle.ground.proofs.Cases.{by}
 use Rattle.ground.proofs.Tests.{and-true, and-end}
-use Rattle.format.specs.Dates.{isLeap, daysInMonth, isDay, isDate, isTime}
+use Rattle.format.specs.Dates.{isLeap, daysInMonth, isDay, isDate, dayAfter, isTime}
 
 pub record Day (y m d : ℕ) : Type 0 where
   pub from : 1900 ≤ y
@@ -62,3 +64,37 @@ module _ (y m : ℕ) {b : Bool} (e : b ≡ isLeap y) (f : m ≡ 2) where
   pub days-short : b ≡ false → 28 ≡ daysInMonth y m
   unfolding daysInMonth
   days-short t = rw (f, ← e, t)
+
+-- ---- the day after, where the month has e days
+
+module _ (t : ℕ) {e : ℕ} (q : e ≡ daysInMonth (t / 10000) (t / 100 % 100)) where
+  pub after-day : t % 100 < e → t + 1 ≡ dayAfter t
+  unfolding dayAfter
+  after-day h = rw (← q, lt-ltb _ _ h) (omega arith)
+
+  pub after-month : e ≤ t % 100 → t / 100 % 100 < 12 → (t / 100 + 1) * 100 + 1 ≡ dayAfter t
+  unfolding dayAfter
+  after-month h l = rw (← q, le-ltb _ _ h, lt-ltb _ _ l) (omega arith)
+
+  pub after-year : e ≤ t % 100 → 12 ≤ t / 100 % 100 → (t / 10000 + 1) * 10000 + 101 ≡ dayAfter t
+  unfolding dayAfter
+  after-year h l = rw (← q, le-ltb _ _ h, le-ltb _ _ l) (omega arith)
+
+-- what holds of each of them
+pub after-cases : (t : ℕ) (P : ℕ → Type 0)
+    → (t % 100 < daysInMonth (t / 10000) (t / 100 % 100) → P (t + 1))
+    → (daysInMonth (t / 10000) (t / 100 % 100) ≤ t % 100 → t / 100 % 100 < 12 → P ((t / 100 + 1) * 100 + 1))
+    → (daysInMonth (t / 10000) (t / 100 % 100) ≤ t % 100 → 12 ≤ t / 100 % 100 → P ((t / 10000 + 1) * 10000 + 101))
+    → P (dayAfter t)
+after-cases t P a b c =
+    by (ltb (t % 100) (daysInMonth (t / 10000) (t / 100 % 100)))
+    (λ e. let h = ltb-true _ _ e in rw (← after-day t refl h) (a h))
+    (λ e.
+    let h = ltb-false _ _ e in
+    by (ltb (t / 100 % 100) 12)
+    (λ f. let l = ltb-true _ _ f in rw (← after-month t refl h l) (b h l))
+    (λ f. let l = ltb-false _ _ f in rw (← after-year t refl h l) (c h l)))
+
+-- it is later, of every number
+pub after-later : (t : ℕ) → t < dayAfter t
+after-later t = after-cases t (λ u. t < u) (λ h. omega arith) (λ h l. omega arith) (λ h l. omega arith)

@@ -12,7 +12,7 @@ use Rattle.ground.specs.Digits.{isDigit}
 use Rattle.format.specs.Bytes.{isCapital, isLetter, isAlnum, endSpace, isText, areAll}
 use Rattle.format.specs.Texts.{isNmi, isSuffix, isStream, isParty, isConfiguration, isRegister, isSerial, isUnit, isServiceOrder, isDescription, isDirection, isTransCode, versionOf}
 use Rattle.format.specs.Numbers.{numberOf, leadingZero, smallOf, intervalOf, isLength, lengthOf, intervalsOf, reasonOf, fractionOf, valueOf, areDigits, isRead, isIndexRead}
-use Rattle.format.specs.Dates.{isLeap, daysInMonth, isDay, isDate, isTime, isMinute, dateOf, timeOf, createdOf, nextReadOf, loadOf, readTimeOf}
+use Rattle.format.specs.Dates.{isLeap, daysInMonth, isDay, isDate, dayAfter, isTime, isMinute, dateOf, timeOf, createdOf, nextReadOf, loadOf, isReadTime, takenOf, readTimeOf}
 use Rattle.format.specs.Quality.{standsAlone, takesMethod, qualityOf, needsReason, across, sameMark}
 use Rattle.format.specs.Cut.{lines, fields, startOf}
 use Rattle.format.specs.Records.{isKind, indicatorOf, kindIn, rowOf, countOf, ruleOf, obeys, versionIn, intervalsIn, dateIn, firstIn, lastIn, readTimeIn, qualitiesOf, markAt, agrees}
@@ -67,12 +67,14 @@ pub record Refusals : Type 0 where
   pub r11 : checkOf (varied ("400,1,48,A,," ∷ [])) ≡ refused 11 210 3 0
   -- the descriptions differ
   pub r11-not : checkOf (varied ("400,1,24,A,,x" ∷ "400,25,48,A,,y" ∷ [])) ≡ accepted (12 ∷ 1 ∷ 1 ∷ [])
-  pub r12 : checkOf (varied ("400,1,31,A,," ∷ "400,32,48,E52,," ∷ "500,O,,20040102000000," ∷ [])) ≡ refused 12 248 5 4
+  -- the day's own midnight, and the next one
+  pub r12 : checkOf (varied ("400,1,31,A,," ∷ "400,32,48,E52,," ∷ "500,O,,20040101000000," ∷ [])) ≡ refused 12 248 5 4
+  pub r12-not : checkOf (varied ("400,1,31,A,," ∷ "400,32,48,E52,," ∷ "500,O,,20040102000000," ∷ [])) ≡ accepted (12 ∷ 1 ∷ 1 ∷ [])
   pub r13 : checkOf (thirteen ++ 32 ∷ []) ≡ refused 13 144 3 0
   pub none : checkOf thirteen ≡ accepted (13 ∷ 1 ∷ 0 ∷ [])
 
 pub refusals : Refusals
-unfolding spanOf same isDigit isCapital isLetter isAlnum endSpace isText areAll isNmi isSuffix isStream isParty isConfiguration isRegister isSerial isUnit isServiceOrder isDescription isDirection isTransCode versionOf numberOf leadingZero smallOf intervalOf isLength lengthOf intervalsOf reasonOf fractionOf valueOf areDigits isRead isIndexRead isLeap daysInMonth isDay isDate isTime isMinute dateOf timeOf createdOf nextReadOf loadOf readTimeOf standsAlone takesMethod qualityOf needsReason across sameMark lines fields startOf isKind indicatorOf kindIn rowOf countOf ruleOf obeys versionIn intervalsIn dateIn firstIn lastIn readTimeIn qualitiesOf markAt agrees isVaried alikeWith afterOf isOpen faultIn brokenIn isNotLater covers isOff isAlike onDay isElsewhere faultAt faultOf walkOf checkOf
+unfolding spanOf same isDigit isCapital isLetter isAlnum endSpace isText areAll isNmi isSuffix isStream isParty isConfiguration isRegister isSerial isUnit isServiceOrder isDescription isDirection isTransCode versionOf numberOf leadingZero smallOf intervalOf isLength lengthOf intervalsOf reasonOf fractionOf valueOf areDigits isRead isIndexRead isLeap daysInMonth isDay isDate dayAfter isTime isMinute dateOf timeOf createdOf nextReadOf loadOf isReadTime takenOf readTimeOf standsAlone takesMethod qualityOf needsReason across sameMark lines fields startOf isKind indicatorOf kindIn rowOf countOf ruleOf obeys versionIn intervalsIn dateIn firstIn lastIn readTimeIn qualitiesOf markAt agrees isVaried alikeWith afterOf isOpen faultIn brokenIn isNotLater covers isOff isAlike onDay isElsewhere faultAt faultOf walkOf checkOf
 refusals =
     record {
       r1 = λ file h. rw (lt-ltb _ _ h);
@@ -91,6 +93,7 @@ refusals =
       r11 = refl;
       r11-not = refl;
       r12 = refl;
+      r12-not = refl;
       r13 = refl;
       none = refl;
     }

@@ -1,11 +1,11 @@
--- 01's settled cases: each row is closed by computation. Assumes nothing.
+-- The settled cases of 01 and 02: each row is closed by computation. Assumes nothing.
 use mathlib.Core.Path.{refl}
 use Rattle.ground.specs.Lists.{spanOf, same}
 use Rattle.ground.specs.Digits.{isDigit}
 use Rattle.format.specs.Bytes.{isCapital, isLetter, isAlnum, endSpace, isText, areAll}
-use Rattle.format.specs.Texts.{isNmi, isSuffix, isStream, isParty, isConfiguration, isRegister, isSerial, isUnit, isDescription, versionOf}
-use Rattle.format.specs.Numbers.{numberOf, leadingZero, smallOf, intervalOf, isLength, lengthOf, intervalsOf, reasonOf, fractionOf, valueOf}
-use Rattle.format.specs.Dates.{isLeap, daysInMonth, isDay, isDate, isTime, isMinute, dateOf, timeOf, createdOf, nextReadOf, loadOf}
+use Rattle.format.specs.Texts.{isNmi, isSuffix, isStream, isParty, isConfiguration, isRegister, isSerial, isUnit, isServiceOrder, isDescription, isTransCode, versionOf}
+use Rattle.format.specs.Numbers.{numberOf, leadingZero, smallOf, intervalOf, isLength, lengthOf, intervalsOf, reasonOf, fractionOf, valueOf, isIndexRead}
+use Rattle.format.specs.Dates.{isLeap, daysInMonth, isDay, isDate, dayAfter, isTime, isMinute, dateOf, timeOf, createdOf, nextReadOf, loadOf, isReadTime, takenOf, readTimeOf}
 use Rattle.format.specs.Quality.{standsAlone, takesMethod, qualityOf, needsReason, across, sameMark}
 use Rattle.format.specs.Cut.{lines, fields, startOf}
 use Rattle.format.specs.Records.{isKind, indicatorOf, kindIn, rowOf, countOf, ruleOf, obeys, versionIn, intervalsIn, dateIn, firstIn, lastIn, readTimeIn, qualitiesOf, markAt, agrees}
@@ -15,7 +15,7 @@ use Rattle.format.specs.File.{walkOf, checkOf}
 use Rattle.format.specs.Settled.{Settled}
 
 pub settled : Settled
-unfolding spanOf same isDigit isCapital isLetter isAlnum endSpace isText areAll isNmi isSuffix isStream isParty isConfiguration isRegister isSerial isUnit isDescription versionOf numberOf leadingZero smallOf intervalOf isLength lengthOf intervalsOf reasonOf fractionOf valueOf isLeap daysInMonth isDay isDate isTime isMinute dateOf timeOf createdOf nextReadOf loadOf standsAlone takesMethod qualityOf needsReason across sameMark lines fields startOf isKind indicatorOf kindIn rowOf countOf ruleOf obeys versionIn intervalsIn dateIn firstIn lastIn readTimeIn qualitiesOf markAt agrees isVaried alikeWith afterOf isOpen faultIn brokenIn isNotLater covers isOff isAlike onDay isElsewhere faultAt faultOf walkOf checkOf
+unfolding spanOf same isDigit isCapital isLetter isAlnum endSpace isText areAll isNmi isSuffix isStream isParty isConfiguration isRegister isSerial isUnit isServiceOrder isDescription isTransCode versionOf numberOf leadingZero smallOf intervalOf isLength lengthOf intervalsOf reasonOf fractionOf valueOf isIndexRead isLeap daysInMonth isDay isDate dayAfter isTime isMinute dateOf timeOf createdOf nextReadOf loadOf isReadTime takenOf readTimeOf standsAlone takesMethod qualityOf needsReason across sameMark lines fields startOf isKind indicatorOf kindIn rowOf countOf ruleOf obeys versionIn intervalsIn dateIn firstIn lastIn readTimeIn qualitiesOf markAt agrees isVaried alikeWith afterOf isOpen faultIn brokenIn isNotLater covers isOff isAlike onDay isElsewhere faultAt faultOf walkOf checkOf
 settled =
     record {
       held = refl;
@@ -35,4 +35,5 @@ settled =
       covered = refl;
       gap = refl;
       past-the-end = refl;
+      midnight = refl;
     }

@@ -1,7 +1,7 @@
 -- 01, Fields: "Dates: real Gregorian dates, year 1900 to 2199 (H). Times: hh 00 to 23, mm and ss 00 to 59. 12 digits in the 100 record, 14 elsewhere.
 -- Next read date, load time and read time may be empty; other dates and times may not." In A day: "a date or time [is held] as the decimal number
--- its digits write, 0 if empty."
-use Prim.Native.Nat.{ℕ, _*_, _/_, _%_}
+-- its digits write, 0 if empty." And 02, 1, of a 500's read time.
+use Prim.Native.Nat.{ℕ, _+_, _*_, _/_, _%_}
 use mathlib.Core.List.{List}
 use mathlib.Core.Bool.{Bool, cond, not, _&&_, _||_}
 use lib.Dec.{leb, ltb, eqb}
@@ -21,6 +21,19 @@ isDay y m d = leb 1900 y && leb y 2199 && leb 1 m && leb m 12 && leb 1 d && leb 
 -- yyyymmdd
 unfoldable pub isDate : ℕ → Bool
 isDate t = isDay (t / 10000) (t / 100 % 100) (t % 100)
+
+abbrev pub dateAs : ℕ → ℕ → ℕ → ℕ
+dateAs y m d = y * 10000 + m * 100 + d
+
+-- the next day of the month, or the first of the next month, or of the next year
+unfoldable pub dayAfter : ℕ → ℕ
+dayAfter t =
+    let y = t / 10000 in
+    let m = t / 100 % 100 in
+    let d = t % 100 in
+    cond (ltb d (daysInMonth y m)) (dateAs y m (d + 1))
+    (cond (ltb m 12) (dateAs y (m + 1) 1)
+    (dateAs (y + 1) 1 1))
 
 -- yyyymmddhhmmss
 unfoldable pub isTime : ℕ → Bool
@@ -46,6 +59,18 @@ nextReadOf s = orEmpty 0 dateOf s
 unfoldable pub loadOf : List ℕ → Number
 loadOf s = orEmpty 0 timeOf s
 
+-- 00:00:00 of the day after the last date
+abbrev pub lastEnd : ℕ
+lastEnd = 22000101000000
+
+-- 02, 1: "A 500's field rule lets 22000101000000 through too."
+unfoldable pub isReadTime : ℕ → Bool
+isReadTime t = isTime t || eqb t lastEnd
+
+-- one that is given
+unfoldable pub takenOf : List ℕ → Number
+takenOf s = that isReadTime (numberOf 14 14 s)
+
 -- the 500's
 unfoldable pub readTimeOf : List ℕ → Number
-readTimeOf s = orEmpty 0 timeOf s
+readTimeOf s = orEmpty 0 takenOf s

@@ -1,12 +1,13 @@
 -- 01, Refusal numbers, the table from 3 to 12, one definition each, and their order: "In one record: 2, 3, 10, 4, 5, 6 (leftmost field), 7 (leftmost
 -- quality), 8 or 9, 11 or 12." A fault's place counts from the record's start; the walk over the file adds the rest.
-use Prim.Native.Nat.{ℕ, _+_, _/_}
+use Prim.Native.Nat.{ℕ, _+_, _*_, _/_, _%_}
 use mathlib.Core.List.{List, [], _∷_}
 use mathlib.Core.Bool.{Bool, cond, not, _&&_, _||_}
 use lib.ListN.{length}
 use lib.Dec.{leb, ltb, eqb}
 use Rattle.ground.specs.Lists.{spanOf}
 use Rattle.format.specs.Bytes.{plain}
+use Rattle.format.specs.Dates.{dayAfter}
 use Rattle.format.specs.Cut.{fields, startOf}
 use Rattle.format.specs.Records.{kindIn, countOf, ruleOf, obeys, dateField, dateIn, firstField, firstIn, lastIn, readTimeField, readTimeIn, qualitiesOf, markAt, agrees}
 use Rattle.format.specs.Order.{Due, mayCome, inVaried, alikeWith}
@@ -86,9 +87,9 @@ isAlike st k fs = eqb k 400 && (eqb (lastIn fs) (st .n) && alikeWith st fs)
 abbrev pub f11 : Due → ℕ → List (List ℕ) → Fault
 f11 st k fs = stop (isAlike st k fs) 11 0 0
 
--- "read time's date differs": "A read time, if given, has the date of its 300 record"
+-- "read time's date differs", as 02, 1 mends it: "a read time has the 300's date with a time other than 00:00:00, or is 00:00:00 of the day after"; "if given"
 unfoldable pub onDay : ℕ → ℕ → Bool
-onDay date time = eqb time 0 || eqb (time / 1000000) date
+onDay date time = eqb time 0 || (eqb (time / 1000000) date && not (eqb (time % 1000000) 0)) || eqb time (dayAfter date * 1000000)
 
 unfoldable pub isElsewhere : Due → ℕ → List (List ℕ) → Bool
 isElsewhere st k fs = eqb k 500 && not (onDay (st .date) (readTimeIn fs))

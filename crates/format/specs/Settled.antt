@@ -1,4 +1,4 @@
--- 01, Settled cases: "Those with a star are proved together as rows of one statement about the definitions."
+-- 01, Settled cases: "Those with a star are proved together as rows of one statement about the definitions." And the case that 02, 1 prints.
 use Prim.Native.Nat.{ℕ}
 use Prim.Native.String.{String}
 use mathlib.Core.Path.{_≡_}
@@ -18,15 +18,15 @@ abbrev pub records : List String → List ℕ
 records [] = []
 records (r ∷ rs) = bytes r ++ 13 ∷ 10 ∷ records rs
 
--- a file with one half-hour V day, with these 400s under it
+-- a file with one half-hour day: its 300, and the records under it
+abbrev pub oneDay : String → List String → List ℕ
+oneDay day rs =
+    records ("100,NEM12,200401011200,MDP1,RETAILER" ∷ "200,NEM1234567,E1,1,E1,N1,METER1,kWh,30," ∷ day ∷ []) ++ records rs ++ records ("900" ∷ [])
+
+-- one with a V day, with these 400s under it
 abbrev pub varied : List String → List ℕ
 varied rs =
-    records
-    ("100,NEM12,200401011200,MDP1,RETAILER"
-    ∷ "200,NEM1234567,E1,1,E1,N1,METER1,kWh,30,"
-    ∷ "300,20040101,1,1,1,1,1,1,1,1,1,1,1,1,1,1,1,1,1,1,1,1,1,1,1,1,1,1,1,1,1,1,1,1,1,1,1,1,1,1,1,1,1,1,1,1,1,1,1,1,V,,,20040102010203,"
-    ∷ [])
-    ++ records rs ++ records ("900" ∷ [])
+    oneDay "300,20040101,1,1,1,1,1,1,1,1,1,1,1,1,1,1,1,1,1,1,1,1,1,1,1,1,1,1,1,1,1,1,1,1,1,1,1,1,1,1,1,1,1,1,1,1,1,1,1,1,V,,,20040102010203," rs
 
 pub record Settled : Type 0 where
   pub held : valueOf decimals (bytes "17.461") ≡ Is 17461000
@@ -48,3 +48,9 @@ pub record Settled : Type 0 where
   pub gap : checkOf (varied ("400,1,31,A,," ∷ "400,33,48,E52,," ∷ [])) ≡ refused 9 228 4 2
   -- record 3 starts at 210
   pub past-the-end : checkOf (varied ("400,1,49,A,," ∷ [])) ≡ refused 9 214 3 2
+  -- 02, 1: "a read at 20031221000000 belongs to 20031220"
+  pub midnight :
+      checkOf
+      (oneDay "300,20031220,1,1,1,1,1,1,1,1,1,1,1,1,1,1,1,1,1,1,1,1,1,1,1,1,1,1,1,1,1,1,1,1,1,1,1,1,1,1,1,1,1,1,1,1,1,1,1,1,A,,,20031221003500,"
+      ("500,O,,20031221000000," ∷ []))
+      ≡ accepted (12 ∷ 1 ∷ 1 ∷ [])

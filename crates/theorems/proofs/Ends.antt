@@ -18,7 +18,7 @@ use Rattle.ground.proofs.Digits.{digit-not, all-map}
 use Rattle.format.specs.Bytes.{isCapital, isLetter, isAlnum, endSpace, isText, areAll}
 use Rattle.format.specs.Texts.{isNmi, isSuffix, isStream, isParty, isConfiguration, isRegister, isSerial, isUnit, isServiceOrder, isDescription, isDirection, isTransCode, versionOf}
 use Rattle.format.specs.Numbers.{isNumber, numberIn, that, orEmpty, numberOf, smallOf, leadingZero, intervalOf, lengthOf, isLength, noReason, reasonOf, point, before, behind, times, fractionOf, amount, decimals, valueOf, areDigits, isRead, isIndexRead}
-use Rattle.format.specs.Dates.{isDate, isTime, isMinute, dateOf, timeOf, createdOf, nextReadOf, loadOf, readTimeOf}
+use Rattle.format.specs.Dates.{isDate, isTime, isMinute, dateOf, timeOf, createdOf, nextReadOf, loadOf, isReadTime, takenOf, readTimeOf}
 use Rattle.format.specs.Quality.{standsAlone, takesMethod, noMethod, withMethod, qualityOf, isGraded}
 use Rattle.format.specs.Records.{isKind, indicatorOf, kindIn, rowOf, obeys}
 use Rattle.format.specs.declared.Number.{Number}
@@ -127,6 +127,10 @@ date-tidy s h = number-tidy 8 8 s (of-that isDate (numberOf 8 8 s) h)
 time-tidy : (s : List ℕ) → isNumber (timeOf s) ≡ true → endSpace s ≡ false
 unfolding timeOf
 time-tidy s h = number-tidy 14 14 s (of-that isTime (numberOf 14 14 s) h)
+
+taken-tidy : (s : List ℕ) → isNumber (takenOf s) ≡ true → endSpace s ≡ false
+unfolding takenOf
+taken-tidy s h = number-tidy 14 14 s (of-that isReadTime (numberOf 14 14 s) h)
 
 amount-parts : (x y : Number) → isNumber (amount x y) ≡ true → (isNumber x ≡ true) × (isNumber y ≡ true)
 amount-parts (Is w) (Is m) h = (refl, refl)
@@ -298,7 +302,7 @@ service-order k f h = text-tidy 0 15 f h
 
 read-time : Tidy ReadTime
 unfolding obeys readTimeOf
-read-time k f h = empty-tidy 0 timeOf f (time-tidy f) h
+read-time k f h = empty-tidy 0 takenOf f (taken-tidy f) h
 
 index-read : Tidy IndexRead
 unfolding obeys isIndexRead

@@ -4,6 +4,7 @@ pub mod Sizes
 pub mod Ends
 pub mod Across
 pub mod Rows
+pub mod Calendar
 pub mod Says
 pub mod Apart
 pub mod Told

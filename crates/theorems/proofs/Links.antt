@@ -1,8 +1,8 @@
 -- The fault of one record is the first entry of the table, in 01's order, that is given of it: link by link. Assumes nothing.
-use Prim.Native.Nat.{ℕ, zero, suc, _+_, _/_, _≤_, _<_}
+use Prim.Native.Nat.{ℕ, zero, suc, _+_, _≤_, _<_}
 use mathlib.Core.Path.{_≡_, refl, sym, _∙_, subst}
 use mathlib.Core.Logic.{inl, inr}
-use mathlib.Core.Bool.{Bool, true, false, true≢false, not, _&&_, _||_}
+use mathlib.Core.Bool.{Bool, true, false, true≢false, not, _&&_}
 use mathlib.Core.List.{List, [], _∷_}
 use native.Mathlib.Omega.{arith}
 use lib.ListN.{length, getD, take, length-take}
@@ -24,6 +24,7 @@ use Rattle.theorems.specs.Grammar.{Record, Together}
 use Rattle.theorems.specs.First.{Entry, Leftmost, entry3, entry10, entry4, entry5, entry6, entry7, entry8, entry9, entry11, entry12, inOrder, Never, None, First}
 use Rattle.theorems.proofs.Ends.{all-at}
 use Rattle.theorems.proofs.Across.{agrees-together, together-agrees}
+use Rattle.theorems.proofs.Calendar.{none-on, on-within, within-on}
 
 -- ---- a link of the chain and its entry
 
@@ -122,19 +123,19 @@ module _ (st : Due) (k n : ℕ) (fs : Record) where
       (λ t o i g. true≢false (let z : true ≡ false = (rw (eq-eqb _ _ (g .0), eq-eqb _ _ (g .1), g .2) at t) in z))
 
   link-12 : Link (f12 st k fs) (entry12 st k n fs)
-  unfolding isElsewhere onDay
+  unfolding isElsewhere
   link-12 =
       test-link (isElsewhere st k fs) (startOf 3 fs) 4 (entry12 st k n fs)
       (λ t.
       let a = and-true (eqb k 500) (not (onDay (st .date) (readTimeIn fs))) t in
-      let b : (eqb (readTimeIn fs) 0 || eqb (readTimeIn fs / 1000000) (st .date)) ≡ false = not-true _ (a .1) in (
+      let b : onDay (st .date) (readTimeIn fs) ≡ false = not-true _ (a .1) in (
         eqb-true _ _ (a .0),
-        λ e. true≢false (let z : true ≡ false = (rw (eq-eqb _ _ e) at b) in z),
-        λ e. by (eqb (readTimeIn fs) 0) (λ u. true≢false (let z : true ≡ false = (rw u at b) in z)) (λ u. true≢false (let z : true ≡ false = (rw (u, eq-eqb _ _ e) at b) in z)),
+        λ e. true≢false (let z : onDay (st .date) 0 ≡ false = (rw e at b) in sym (none-on (st .date)) ∙ z),
+        λ w. true≢false (sym (within-on _ _ w) ∙ b),
         refl,
         refl,
       ))
-      (λ t o i g. true≢false (let z : true ≡ false = (rw (eq-eqb _ _ (g .0), ne-eqb _ _ (g .1), ne-eqb _ _ (g .2)) at t) in z))
+      (λ t o i g. let z : not (onDay (st .date) (readTimeIn fs)) ≡ false = rw (eq-eqb _ _ (g .0)) at t in g .2 (on-within _ _ (g .1) (not-false _ z)))
 
 -- ---- 6
 

@@ -1,28 +1,27 @@
 -- What the rules of single fields bring with them: a date and a time are not 0, a version is 12 or 13, a 200 has intervals. Assumes nothing.
-use Prim.Native.Nat.{ℕ, _/_, _%_, _≤_}
+use Prim.Native.Nat.{ℕ, _≤_}
 use mathlib.Core.Path.{_≡_, refl, sym, _∙_}
 use mathlib.Core.Logic.{_⊎_, inl, inr}
-use mathlib.Core.Bool.{Bool, true, false, true≢false, false≢true, _||_}
+use mathlib.Core.Bool.{Bool, true, false, true≢false, false≢true}
 use mathlib.Core.List.{List}
 use native.Mathlib.Omega.{arith}
 use lib.ListN.{length}
 use lib.Dec.{eqb}
-use borrow.Author.Tests.{eqb-true, eqb-false, eq-eqb, ne-eqb}
+use borrow.Author.Tests.{eqb-true, eqb-false, ne-eqb}
 use Rattle.ground.specs.Lists.{same}
 use Rattle.ground.specs.Text.{bytes}
-use Rattle.ground.proofs.Tests.{or-other, or-right}
 use Rattle.ground.proofs.Cases.{by}
 use Rattle.format.specs.Texts.{versionOf}
 use Rattle.format.specs.Numbers.{isNumber, numberIn, that, numberOf, smallOf, isLength, lengthOf, intervalsOf}
-use Rattle.format.specs.Dates.{isLeap, daysInMonth, isDay, isDate, isTime, dateOf, timeOf, readTimeOf}
+use Rattle.format.specs.Dates.{isDay, isDate, isTime, dateOf, isReadTime, takenOf, readTimeOf}
 use Rattle.format.specs.Cut.{field}
 use Rattle.format.specs.Records.{rowOf, obeys, versionIn, intervalsIn, dateIn, readTimeIn}
 use Rattle.format.specs.Faults.{onDay}
 use Rattle.format.specs.declared.Number.{Number}
 use Rattle.format.proofs.Numbers.{that-holds}
-use Rattle.format.proofs.Dates.{day-is}
 use Rattle.theorems.specs.Grammar.{Record, IsRecord, Extra}
 use Rattle.theorems.proofs.Rows.{meets-at}
+use Rattle.theorems.proofs.Calendar.{last-date, none-on, on-within, within-on}
 
 -- a number that passes a test which 0 does not pass
 that-some : (p : ℕ → Bool) (x : Number) → p 0 ≡ false → isNumber (that p x) ≡ true → 1 ≤ numberIn (that p x)
@@ -39,20 +38,9 @@ pub date-some : (n : ℕ) (fs : Record) → IsRecord 300 n fs → 1 ≤ dateIn f
 unfolding rowOf obeys dateIn dateOf isDate isDay
 date-some n fs h = that-some isDate (numberOf 8 8 (field 1 fs)) refl (meets-at 300 (rowOf 300 n) fs 1 (h .meets) (omega arith))
 
-month-most : (y m : ℕ) → daysInMonth y m ≤ 31
-unfolding daysInMonth
-month-most y m =
-    by (eqb m 2)
-    (λ e. rw e (by (isLeap y) (λ f. rw f (omega arith)) (λ f. rw f (omega arith))))
-    (λ e. rw e (by (eqb m 4 || eqb m 6 || eqb m 9 || eqb m 11) (λ f. rw f (omega arith)) (λ f. rw f (omega arith))))
-
--- there is a last one
 pub date-most : (n : ℕ) (fs : Record) → IsRecord 300 n fs → dateIn fs ≤ 21991231
-unfolding rowOf obeys dateIn dateOf isDate
-date-most n fs h =
-    let t : ℕ = dateIn fs in
-    let w = day-is (t / 10000) (t / 100 % 100) (t % 100) (that-holds isDate (numberOf 8 8 (field 1 fs)) (meets-at 300 (rowOf 300 n) fs 1 (h .meets) (omega arith))) in
-    omega (arith, w .to, w .last, w .end, month-most (t / 10000) (t / 100 % 100))
+unfolding rowOf obeys dateIn dateOf
+date-most n fs h = last-date (dateIn fs) (that-holds isDate (numberOf 8 8 (field 1 fs)) (meets-at 300 (rowOf 300 n) fs 1 (h .meets) (omega arith)))
 
 -- ---- a 200's intervals
 
@@ -88,29 +76,21 @@ version-13 fs h n =
 module _ (t : ℕ) (fs : Record) (h : IsRecord 500 0 fs) where
   -- it is given exactly when it is not 0
   time-some : 1 ≤ length (field 3 fs) → 1 ≤ readTimeIn fs
-  unfolding rowOf obeys readTimeIn readTimeOf timeOf isTime isDate isDay
+  unfolding rowOf obeys readTimeIn readTimeOf takenOf isReadTime isTime isDate isDay
   time-some l =
       let e : eqb (length (field 3 fs)) 0 ≡ false = ne-eqb (length (field 3 fs)) 0 (λ z. omega arith) in
       let p : isNumber (readTimeOf (field 3 fs)) ≡ true = meets-at 500 (rowOf 500 0) fs 3 (h .meets) (omega arith) in
-      rw e (that-some isTime (numberOf 14 14 (field 3 fs)) refl (rw e at p))
+      rw e (that-some isReadTime (numberOf 14 14 (field 3 fs)) refl (rw e at p))
 
   time-none : length (field 3 fs) ≡ 0 → readTimeIn fs ≡ 0
   unfolding readTimeIn readTimeOf
   time-none e = rw e
 
   pub on-day : onDay t (readTimeIn fs) ≡ true → Extra t fs
-  unfolding onDay
-  on-day d = (
-    h,
-    λ l. let s : 1 ≤ readTimeIn fs = time-some l in
-        eqb-true _ _ (or-other (eqb (readTimeIn fs) 0) (eqb (readTimeIn fs / 1000000) t) d (ne-eqb (readTimeIn fs) 0 (λ z. omega arith))),
-  )
+  on-day d = (h, λ l. on-within t (readTimeIn fs) (λ z. omega (arith, time-some l)) d)
 
 pub day-on : (t : ℕ) (fs : Record) → Extra t fs → onDay t (readTimeIn fs) ≡ true
-unfolding onDay
 day-on t fs h =
     by (eqb (length (field 3 fs)) 0)
-    (λ e. rw (time-none t fs (h .0) (eqb-true _ _ e)))
-    (λ e.
-    let n : length (field 3 fs) ≡ 0 → ⊥ = eqb-false _ _ e in
-    or-right (eqb (readTimeIn fs) 0) (eqb (readTimeIn fs / 1000000) t) (eq-eqb _ _ (h .1 (omega arith))))
+    (λ e. rw (time-none t fs (h .0) (eqb-true _ _ e)) (none-on t))
+    (λ e. within-on t (readTimeIn fs) (h .1 (let n : length (field 3 fs) ≡ 0 → ⊥ = eqb-false _ _ e in omega arith)))

@@ -1,6 +1,6 @@
 -- The first fault, as 01's section Refusal numbers has it: for each number from 3 to 12 when it is "given" and at which "place", one entry each; their order,
 -- "In one record: 2, 3, 10, 4, 5, 6 (leftmost field), 7 (leftmost quality), 8 or 9, 11 or 12"; and when a check of a whole file gives which number.
-use Prim.Native.Nat.{ℕ, zero, suc, _+_, _/_, _≤_, _<_}
+use Prim.Native.Nat.{ℕ, zero, suc, _+_, _≤_, _<_}
 use mathlib.Core.Path.{_≡_}
 use mathlib.Core.Logic.{_≢_, _⊎_}
 use mathlib.Core.List.{List, [], _∷_}
@@ -13,7 +13,7 @@ use Rattle.format.specs.Records.{kindIn, countOf, ruleOf, obeys, dateIn, firstI
 use Rattle.format.specs.Order.{mayCome, inVaried, isEnd, Due, begun, alikeWith}
 use Rattle.format.specs.Faults.{size}
 use Rattle.format.specs.File.{after}
-use Rattle.theorems.specs.Grammar.{Record, Together}
+use Rattle.theorems.specs.Grammar.{Record, Together, Within}
 use Rattle.theorems.specs.Places.{placeOf, past, stateAt}
 
 -- ---- the table
@@ -77,11 +77,11 @@ module _ (st : Due) (k n : ℕ) (fs : Record) where
   abbrev pub entry11 : Entry
   entry11 = record { number = 11; given = λ o i. (k ≡ 400) × (lastIn fs ≡ st .n) × (alikeWith st fs ≡ true) × (o ≡ 0) × (i ≡ 0) }
 
-  -- "read time's date differs": read time field
+  -- "read time's date differs", as 02, 1 mends it: read time field
   abbrev pub entry12 : Entry
   entry12 = record {
     number = 12;
-    given = λ o i. (k ≡ 500) × (readTimeIn fs ≢ 0) × (readTimeIn fs / 1000000 ≢ st .date) × (o ≡ startOf 3 fs) × (i ≡ 4);
+    given = λ o i. (k ≡ 500) × (readTimeIn fs ≢ 0) × (Within (st .date) (readTimeIn fs) → ⊥) × (o ≡ startOf 3 fs) × (i ≡ 4);
   }
 
 -- ---- their order

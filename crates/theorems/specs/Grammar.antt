@@ -1,15 +1,16 @@
 -- The format as a grammar: what a file is made of, in the words of 01's sections Records, Fields and A day, and the bytes that this writes. It says
 -- nothing of how a file is read: no refusal, no order of tests, no place, no state. What a single field may hold is cited from the meaning (`rowOf`,
 -- `obeys`), and so is what one field says (`dateIn`, `firstIn`, ..).
-use Prim.Native.Nat.{ℕ, _+_, _/_, _≤_, _<_}
+use Prim.Native.Nat.{ℕ, _+_, _*_, _/_, _%_, _≤_, _<_}
 use mathlib.Core.Path.{_≡_}
-use mathlib.Core.Logic.{_≢_}
+use mathlib.Core.Logic.{_≢_, _⊎_}
 use mathlib.Core.List.{List, [], _∷_, _++_}
 use mathlib.Core.Bool.{true, false}
 use lib.ListN.{length}
 use Rattle.ground.specs.Lists.{all}
 use Rattle.format.specs.Bytes.{fieldByte, endSpace}
 use Rattle.format.specs.Numbers.{noReason}
+use Rattle.format.specs.Dates.{dayAfter}
 use Rattle.format.specs.Quality.{flagS, flagF, flagV, Mark}
 use Rattle.format.specs.Cut.{field}
 use Rattle.format.specs.Records.{kindIn, rowOf, obeys, versionIn, intervalsIn, dateIn, firstIn, lastIn, readTimeIn, qualitiesOf, markAt, markIn}
@@ -94,9 +95,13 @@ Marked m rs = Each (λ r. markIn r ≡ m) rs
 abbrev pub Alike : List Record → Type 0
 Alike rs = (m : Mark) × Marked m rs
 
--- a 500 under a day of the date t: "A read time, if given, has the date of its 300 record."
+-- 02, 1, of the date t: a read time x "has the 300's date with a time other than 00:00:00, or is 00:00:00 of the day after"
+abbrev pub Within : ℕ → ℕ → Type 0
+Within t x = ((x / 1000000 ≡ t) × (x % 1000000 ≢ 0)) ⊎ (x ≡ dayAfter t * 1000000)
+
+-- a 500 under a day of the date t: its read time, "if given", is within that day
 abbrev pub Extra : ℕ → Record → Type 0
-Extra t fs = IsRecord 500 0 fs × (1 ≤ length (field 3 fs) → readTimeIn fs / 1000000 ≡ t)
+Extra t fs = IsRecord 500 0 fs × (1 ≤ length (field 3 fs) → Within t (readTimeIn fs))
 
 -- a day of n intervals
 pub record IsBlock (n : ℕ) (b : Block) : Type 0 where

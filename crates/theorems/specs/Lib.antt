@@ -1,4 +1,5 @@
 pub mod Grammar
+pub mod Calendar
 pub mod Places
 pub mod Beginnings
 pub mod First

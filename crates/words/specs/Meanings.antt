@@ -1,4 +1,4 @@
--- What a refusal's number means: 01, Refusal numbers, in words for a person. 02, request 7, struck 17.
+-- What a refusal's number means: 01, Refusal numbers, in words for a person. 02 struck 17 (request 7) and mended 12 (request 1).
 use Prim.Native.Nat.{ℕ}
 use mathlib.Core.List.{List, _++_}
 use Rattle.ground.specs.Text.{bytes}
@@ -18,7 +18,7 @@ meanings =
     ++ bytes "the 400 does not go on where the last one ended, or ends too early or too late;"
     ++ bytes "the 400s of a V day end before its last interval;"
     ++ bytes "all intervals of the V day are alike, so it should not be V;"
-    ++ bytes "the read time has another date than its 300;"
+    ++ bytes "the read time is not within its 300's day, from 00:00:01 to 00:00:00 of the day after;"
     ++ bytes "bytes behind the 900 record;"
     ++ bytes "no such day or channel;"
     ++ bytes "a lent list or the room is too short;"

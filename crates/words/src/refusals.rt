@@ -18,7 +18,7 @@ pub fn meaning(page: &mut [u8], at: usize, number: u64) -> usize
         the 400 does not go on where the last one ended, or ends too early or too late;\
         the 400s of a V day end before its last interval;\
         all intervals of the V day are alike, so it should not be V;\
-        the read time has another date than its 300;\
+        the read time is not within its 300's day, from 00:00:01 to 00:00:00 of the day after;\
         bytes behind the 900 record;\
         no such day or channel;\
         a lent list or the room is too short;\

@@ -9,12 +9,12 @@ returns : tie.Need-returns
 unfolding readTimeOf
 returns c = search (empty-is, empty-not)
 
-time-requires : tie.Need-time-requires
-time-requires c κs = search needs
+taken-requires : tie.Need-taken-requires
+taken-requires c κs = search needs
 
 returns-2 : tie.Need-returns-2
 unfolding readTimeOf
 returns-2 c = search (empty-is, empty-not)
 
 pub read-time-spec : {M : Type 1} → statement M
-read-time-spec = tie.close (tie.spec returns time-requires returns-2)
+read-time-spec = tie.close (tie.spec returns taken-requires returns-2)
