@@ -1,4 +1,5 @@
-// The settled cases of document 01 that are not proved as rows of a statement: each is run, and its file 'stdout' has what 01 says of it.
+// The settled cases of document 01, and of document 02's requests, that are not proved as rows of a statement: each is run, and its file 'stdout' has
+// what the documents say of it.
 use format::DayHead;
 use format::Written;
 use page::answers;
@@ -17,12 +18,16 @@ fn say(page: &mut [u8], at: usize) {
     io::write_all(libc::STDOUT_FILENO, part(page, 0, p));
 }
 
-// What a case is called, and what the check answers of its file.
+// Behind what a case is called, what the check answers of its file.
+fn answered(page: &mut [u8], at: usize, file: &[u8]) {
+    let p = put(page, at, b": ");
+    let q = answers::checked(page, p, check(file));
+    say(page, q);
+}
+
 fn checked(page: &mut [u8], name: &[u8], file: &[u8]) {
     let p = put(page, 0, name);
-    let q = put(page, p, b": ");
-    let r = answers::checked(page, q, check(file));
-    say(page, r);
+    answered(page, p, file);
 }
 
 // ---- files with one half-hour channel
@@ -61,6 +66,46 @@ fn day_case(page: &mut [u8], name: &[u8], date: &[u8], quality: &[u8], records: 
     checked(page, name, part(&file, 0, n));
 }
 
+// ---- read times
+
+// A day of quality A, and under it a 500 that was read at this time.
+fn read_case(date: &[u8], time: &[u8]) {
+    let mut page = io::buffer();
+    let mut file = io::buffer();
+    let p = file_of(&mut file, date, b"A", b"500,O,,");
+    let q = put(&mut file, p, time);
+    let n = put(&mut file, q, b",\r\n900\r\n");
+    let a = put(&mut page, 0, date);
+    let b = put(&mut page, a, b" read at ");
+    let c = put(&mut page, b, time);
+    answered(&mut page, c, part(&file, 0, n));
+}
+
+fn midnights() {
+    read_case(b"20031220", b"20031220000001");
+    read_case(b"20031220", b"20031220235959");
+    read_case(b"20031220", b"20031220000000");
+    read_case(b"20031220", b"20031221000001");
+    read_case(b"20031220", b"20031219235959");
+    read_case(b"21991231", b"22000101000000");
+    read_case(b"21991230", b"22000101000000");
+    read_case(b"21991231", b"22000101000001");
+}
+
+// 28 February of common years and of leap years, a month's end and a year's.
+fn days_after() {
+    read_case(b"20030228", b"20030301000000");
+    read_case(b"20040228", b"20040229000000");
+    read_case(b"20040228", b"20040301000000");
+    read_case(b"20040229", b"20040301000000");
+    read_case(b"20000228", b"20000229000000");
+    read_case(b"20000228", b"20000301000000");
+    read_case(b"21000228", b"21000301000000");
+    read_case(b"21000228", b"21000229000000");
+    read_case(b"20030930", b"20031001000000");
+    read_case(b"20031231", b"20040101000000");
+}
+
 // ---- the sample 250
 
 fn sample(page: &mut [u8], file: &[u8]) {
@@ -72,11 +117,12 @@ fn sample(page: &mut [u8], file: &[u8]) {
 
 // ---- the day that is written whole
 
-// The answer, and behind its line the block.
-fn block(page: &mut [u8], x: Written, room: &[u8]) {
-    let p = put(page, 0, b"the day written whole: ");
-    let q = answers::written(page, p, x);
-    say(page, q);
+// What a case is called, the answer, and behind its line the block.
+fn block(page: &mut [u8], name: &[u8], x: Written, room: &[u8]) {
+    let p = put(page, 0, name);
+    let q = put(page, p, b": ");
+    let r = answers::written(page, q, x);
+    say(page, r);
     match x {
         Written::Block { bytes, records: _ } => {
             io::write_all(libc::STDOUT_FILENO, part(room, 0, bytes));
@@ -110,11 +156,19 @@ fn bytes(before: u8, behind: u8) -> [u8; 48]
     list
 }
 
-fn written_in(page: &mut [u8], values: &[u64], flags: &[u8], methods: &[u8], room: &mut [u8]) {
+fn written_in(
+    page: &mut [u8],
+    name: &[u8],
+    update: u64,
+    values: &[u64],
+    flags: &[u8],
+    methods: &[u8],
+    room: &mut [u8],
+) {
     let day = DayHead {
         date: 20030922,
         length: 30,
-        update: 20030922092231,
+        update,
         load: 0,
     };
     let reasons = [65535u16; 48];
@@ -130,15 +184,25 @@ fn written_in(page: &mut [u8], values: &[u64], flags: &[u8], methods: &[u8], roo
         b"",
         room,
     );
-    block(page, x, room);
+    block(page, name, x, room);
 }
 
-fn written(page: &mut [u8]) {
+fn written(page: &mut [u8], name: &[u8], update: u64) {
     let values = values();
     let flags = bytes(b'A', b'E');
     let methods = bytes(255, 52);
     let mut room = io::buffer();
-    written_in(page, &values, &flags, &methods, &mut room);
+    written_in(page, name, update, &values, &flags, &methods, &mut room);
+}
+
+// What only a read time may be.
+fn not_a_read(page: &mut [u8]) {
+    checked(
+        page,
+        b"a 250 read at 22000101000000",
+        b"100,NEM13,200301011534,MDP1,Retailer1\r\n250,1234567890,1141,01,11,11,METSERG6,E,000021.2,22000101000000,A,,,000534.5,20040201100030,E64,77,,343.5,kWh,20040509,20040202125010,20040203000130\r\n900\r\n",
+    );
+    written(page, b"a day updated at 22000101000000", 22000101000000);
 }
 
 fn dates(page: &mut [u8]) {
@@ -177,5 +241,8 @@ fn main() {
         &mut page,
         b"100,NEM13,200301011534,MDP1,Retailer1\r\n250,1234567890,1141,01,11,11,METSERG6,E,000021.2,20031001103230,A,,,000534.5,20040201100030,E64,77,,343.5,kWh,20040509,20040202125010,20040203000130\r\n900\r\n",
     );
-    written(&mut page);
+    written(&mut page, b"the day written whole", 20030922092231);
+    midnights();
+    days_after();
+    not_a_read(&mut page);
 }
