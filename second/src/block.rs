@@ -31,6 +31,7 @@ pub fn check_block(block: &[u8], length: u32) -> Result<BlockRead, Refusal> {
 mod tests {
     use super::*;
     use crate::check::LONGEST_FILE;
+    use crate::settled::settled_read_times;
 
     const CHANNEL_30: &str = "200,VABD000163,E1Q1,1,E1,N1,METSER123,kWh,30,20040120\r\n";
     const COVER: &str = "400,1,31,A,,\r\n400,32,48,E52,,\r\n";
@@ -295,11 +296,31 @@ mod tests {
     #[test]
     fn read_times_are_held_to_the_blocks_own_date() {
         for (day, records) in complete_days() {
-            assert!(check_block(format!("{day}500,S,,20030501235959,\r\n").as_bytes(), 30).is_ok());
-            for read_time in ["20030430235959", "20030502000001", "20020501120000"] {
+            for read_time in ["20030501235959", "20030502000000"] {
+                assert_eq!(accepted(&format!("{day}500,S,,{read_time},\r\n"), 30).records, records + 1, "{read_time}");
+            }
+            for read_time in ["20030430235959", "20030501000000", "20030502000001", "20020501120000"] {
                 let block = format!("{day}500,S,,{read_time},\r\n");
                 assert_eq!(refused(&block), refusal_at(&block, read_time, 12, records, 4), "{read_time}");
             }
+        }
+    }
+
+    #[test]
+    fn a_day_ends_with_midnight_of_the_day_after() {
+        for (date, read_time, number) in settled_read_times() {
+            let block = day_of(48, date, "A,,") + &format!("500,S,,{read_time},12.5\r\n500,N,,,\r\n");
+            let refusal = number.map(|number| refusal_at(&block, &format!("{read_time},12.5"), number, 1, 4));
+            assert_eq!(check_block(block.as_bytes(), 30).err(), refusal, "{date} {read_time:?}");
+        }
+    }
+
+    #[test]
+    fn no_other_time_is_the_end_of_the_last_day() {
+        let day = day_of(48, "21991231", "A,,");
+        for (from, to, field) in [("20030502153445,", "22000101000000,", 54), (",\r\n", ",22000101000000\r\n", 55)] {
+            let block = day.replace(from, to);
+            assert_eq!(refused(&block), refusal_at(&block, "22000101000000", 6, 0, field));
         }
     }
 }

@@ -5,6 +5,8 @@ mod blocks;
 mod chance;
 mod damage;
 mod files;
+#[cfg(test)]
+mod midnights;
 mod requests;
 mod sweep;
 mod words;
@@ -22,13 +24,13 @@ const LARGE_BLOCK_CASE: u64 = 1000;
 const LARGEST_TOTAL_CASE: u64 = 1250;
 
 /// The refusals that a file's content can be aimed at, each in turn, those with many ways to earn them more often.
-const AIMS: [u64; 16] = [2, 3, 4, 5, 6, 7, 8, 9, 6, 10, 11, 12, 13, 7, 6, 9];
+const AIMS: [u64; 17] = [2, 3, 4, 5, 6, 7, 8, 9, 6, 10, 11, 12, 13, 7, 6, 9, 12];
 
 /// The refusals that a block on its own can be aimed at, likewise.
-const BLOCK_AIMS: [u64; 16] = [2, 3, 4, 5, 6, 7, 9, 10, 11, 12, 16, 4, 10, 2, 16, 11];
+const BLOCK_AIMS: [u64; 17] = [2, 3, 4, 5, 6, 7, 9, 10, 11, 12, 16, 4, 10, 2, 16, 11, 12];
 
 /// Cases come in rounds of this many. In each round so many files are aimed at refusals, and so many sweep the fields.
-const ROUND: u64 = 34;
+const ROUND: u64 = 35;
 const AIMED_PER_ROUND: u64 = 4;
 const SWEPT_PER_ROUND: u64 = 9;
 /// So many blocks sweep theirs.
@@ -51,18 +53,19 @@ pub fn case(seed: u64, index: u64) -> Vec<u8> {
     let swept = |per_round: u64, place: u64| seed.wrapping_add(round * per_round + place);
     match index % ROUND {
         0..=2 => requests::for_accepted_file(&files::accepted(chance).bytes(), chance),
-        3..=5 => requests::for_file(&damage::damaged(chance, &files::accepted), chance),
-        place @ 6..=9 => {
-            let turn = round * AIMED_PER_ROUND + (place - 6);
+        3..=4 => requests::for_file(&damage::damaged(chance, &files::accepted), chance),
+        place @ 5..=8 => {
+            let turn = round * AIMED_PER_ROUND + (place - 5);
             let aim = AIMS[turn as usize % AIMS.len()];
             requests::for_file(&aimed::bytes_for(chance, &files::accepted, aim), chance)
         }
-        10..=11 => requests::for_file(&damage::tangled(chance, &files::accepted), chance),
-        place @ 12..=20 => {
-            let turn = swept(SWEPT_PER_ROUND, place - 12);
+        9..=10 => requests::for_file(&damage::tangled(chance, &files::accepted), chance),
+        place @ 11..=19 => {
+            let turn = swept(SWEPT_PER_ROUND, place - 11);
             requests::for_file(&sweep::file_with_field(chance, turn), chance)
         }
-        21 => requests::for_file(&sweep::file_with_order(chance, swept(1, 0)), chance),
+        20 => requests::for_file(&sweep::file_with_order(chance, swept(1, 0)), chance),
+        21 => requests::for_file(&sweep::file_with_read_time(chance, swept(1, 0)), chance),
         22..=23 => writes::fit(chance),
         24..=25 => writes::unfit(chance),
         26 => writes::with_several_faults(chance),
@@ -70,7 +73,8 @@ pub fn case(seed: u64, index: u64) -> Vec<u8> {
         28 => blocks::damaged(chance),
         29 => blocks::aimed(chance, BLOCK_AIMS[round as usize % BLOCK_AIMS.len()]),
         30 => blocks::with_order(chance, swept(1, 0)),
-        place => blocks::with_field(chance, swept(SWEPT_BLOCKS_PER_ROUND, place - 31)),
+        31 => blocks::with_read_time(chance, swept(1, 0)),
+        place => blocks::with_field(chance, swept(SWEPT_BLOCKS_PER_ROUND, place - 32)),
     }
 }
 

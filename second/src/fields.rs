@@ -12,6 +12,9 @@ pub const VALUE_LIMIT: u64 = 10_000_000_000_000;
 
 pub const LONGEST_DESCRIPTION: usize = 240;
 
+/// The end of the last day that a file may hold. Its date is none that may stand, but a read may be taken then.
+pub const END_OF_LAST_DAY: &[u8] = b"22000101000000";
+
 /// The rule of one field in a record's layout.
 #[derive(Clone, Copy, Debug, PartialEq, Eq)]
 pub enum Rule {
@@ -31,6 +34,8 @@ pub enum Rule {
     DateOrEmpty,
     Time,
     TimeOrEmpty,
+    /// When a day's read was taken, if that is said. It alone may be the end of the last day.
+    ReadTime,
     Value,
     /// The quality of a whole day, which alone may be `V`.
     DayQuality,
@@ -70,6 +75,7 @@ impl Rule {
             Rule::DateOrEmpty => field.is_empty() || is_date(field),
             Rule::Time => is_time(field),
             Rule::TimeOrEmpty => field.is_empty() || is_time(field),
+            Rule::ReadTime => Rule::TimeOrEmpty.allows_content(field) || field == END_OF_LAST_DAY,
             Rule::Value => value(field).is_some(),
             Rule::DayQuality => quality(field).is_some(),
             Rule::Quality => quality(field).is_some_and(|quality| quality.flag != b'V'),
@@ -111,16 +117,32 @@ pub fn decimal(digits: &[u8]) -> u64 {
 // --- Dates and times ---
 
 pub fn is_date(field: &[u8]) -> bool {
-    field.len() == 8 && all_digits(field) && is_real_date(decimal(field))
+    field.len() == 8 && all_digits(field) && is_real_date(decimal(field) as u32)
 }
 
 /// Whether CCYYMMDD, read as one number, is a Gregorian date of the years 1900 to 2199.
-pub fn is_real_date(date: u64) -> bool {
-    let (year, month, day) = (date / 10_000, date / 100 % 100, date % 100);
+pub fn is_real_date(date: u32) -> bool {
+    let (year, month, day) = year_month_day(date);
     (1900..=2199).contains(&year) && (1..=12).contains(&month) && (1..=days_in_month(year, month)).contains(&day)
 }
 
-fn days_in_month(year: u64, month: u64) -> u64 {
+fn year_month_day(date: u32) -> (u32, u32, u32) {
+    (date / 10_000, date / 100 % 100, date % 100)
+}
+
+/// The date of the day after this one. Behind 21991231 it is 22000101, which is no date that a file may hold.
+pub fn day_after(date: u32) -> u32 {
+    let (year, month, day) = year_month_day(date);
+    if day < days_in_month(year, month) {
+        date + 1
+    } else if month < 12 {
+        year * 10_000 + (month + 1) * 100 + 1
+    } else {
+        (year + 1) * 10_000 + 101
+    }
+}
+
+pub fn days_in_month(year: u32, month: u32) -> u32 {
     match month {
         2 if is_leap_year(year) => 29,
         2 => 28,
@@ -129,7 +151,7 @@ fn days_in_month(year: u64, month: u64) -> u64 {
     }
 }
 
-fn is_leap_year(year: u64) -> bool {
+fn is_leap_year(year: u32) -> bool {
     match (year % 4, year % 100, year % 400) {
         (_, _, 0) => true,
         (_, 0, _) => false,
@@ -149,6 +171,13 @@ fn is_file_time(field: &[u8]) -> bool {
 /// The 14 digits of all other times: a date, hours, minutes and seconds.
 pub fn is_time(field: &[u8]) -> bool {
     field.len() == 14 && all_digits(field) && is_file_time(&field[..12]) && decimal(&field[12..14]) <= 59
+}
+
+/// Whether a time of 14 digits belongs to the day of this date. A day ends with 00:00:00 of the day after it, and so
+/// its own 00:00:00 belongs to the day before.
+pub fn belongs_to_day(time: u64, date: u32) -> bool {
+    let (date_of_time, clock) = (time / 1_000_000, time % 1_000_000);
+    date_of_time == u64::from(if clock == 0 { day_after(date) } else { date })
 }
 
 // --- Numbers ---

@@ -47,7 +47,7 @@ pub fn layout(kind: Kind, n: usize) -> Vec<Rule> {
             rules
         }
         Kind::R400 => vec![Indicator, IntervalNumber, IntervalNumber, Quality, Reason, Description],
-        Kind::R500 => vec![Indicator, TransCode, ServiceOrder, TimeOrEmpty, ReadOrEmpty],
+        Kind::R500 => vec![Indicator, TransCode, ServiceOrder, ReadTime, ReadOrEmpty],
         Kind::R250 => {
             let mut rules = vec![Indicator, Nmi, Configuration, Register, Suffix, DataStream, Serial, Direction];
             for _previous_and_current in 0..2 {

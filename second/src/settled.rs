@@ -2,7 +2,7 @@
 
 use crate::check::{check, Summary};
 use crate::day::{read_day, LentLists};
-use crate::fields::{is_date, quality, value, Quality, Rule, NO_METHOD};
+use crate::fields::{day_after, is_date, is_real_date, quality, value, Quality, Rule, END_OF_LAST_DAY, NO_METHOD};
 use crate::notes::NO_REASON;
 use crate::refusal::Refusal;
 use crate::total::total;
@@ -71,6 +71,35 @@ fn dates_are_real_ones_of_1900_to_2199() {
     for date in ["21000229", "20030229", "19000229", "18991231", "22000101", "20030431", "20031301", "20030100", ""] {
         assert!(!is_date(date.as_bytes()), "{date}");
     }
+}
+
+#[test]
+fn the_day_after_is_the_least_later_date() {
+    let mut date = 19000101;
+    while date != 21991231 {
+        let after = day_after(date);
+        assert_eq!((date + 1..=after).find(|later| is_real_date(*later)), Some(after), "{date}");
+        date = after;
+    }
+    assert_eq!(day_after(date), 22000101);
+}
+
+#[test]
+fn a_read_time_alone_may_be_the_end_of_the_last_day() {
+    for read_time in ["", "19000101000000", "20031220000000", "21991231235959", "22000101000000"] {
+        assert!(Rule::ReadTime.allows(read_time.as_bytes()), "{read_time}");
+    }
+    for read_time in [
+        "22000101000001", "22000101235959", "22000102000000", "22000100000000", "22000101240000", "2200010100000",
+        "220001010000000", "022000101000000", "220001010000", "22000101", " 22000101000000", "22000101000000 ",
+        "20030229000000", "20031220240000", " ",
+    ] {
+        assert!(!Rule::ReadTime.allows(read_time.as_bytes()), "{read_time}");
+    }
+    for rule in [Rule::Time, Rule::TimeOrEmpty] {
+        assert!(!rule.allows(END_OF_LAST_DAY), "{rule:?}");
+    }
+    assert!(!Rule::FileTime.allows(b"220001010000"));
 }
 
 #[test]
@@ -260,14 +289,6 @@ fn dates_rise_within_one_200() {
 }
 
 #[test]
-fn a_read_time_has_the_date_of_its_day() {
-    let day = day_30("20030501", "A,,");
-    assert!(is_accepted(&channel_file(&format!("{day}500,S,,20030501235959,12.5\r\n500,N,,,\r\n"))));
-    let file = channel_file(&format!("{day}500,S,,20030430235959,\r\n"));
-    assert_eq!(refused(&file), refusal_at(&file, "20030430235959", 12, 3, 4));
-}
-
-#[test]
 fn records_stand_in_their_order() {
     let day = day_30("20030501", "A,,");
     let order_550 = "550,N,,A,\r\n";
@@ -307,6 +328,92 @@ fn the_sample_250_passes_with_its_own_quantity() {
     assert_eq!(check(file.as_bytes()), Ok(Summary { version: 13, channels: 1, days: 0 }));
     assert_eq!(total(file.as_bytes(), 0), Ok(343_500_000));
     assert_eq!(total(file.as_bytes(), 1), Err(Refusal::without_place(14)));
+}
+
+// --- Read times ---
+
+/// A date, with read times that belong to its day, ones that don't (12), and ones that are none (6).
+type ReadTimes = (&'static str, &'static [&'static str], &'static [&'static str], &'static [&'static str]);
+
+const READ_TIMES: [ReadTimes; 18] = [
+    (
+        "20031220",
+        &["", "20031221000000", "20031220000001", "20031220235959"],
+        &["20031220000000", "20031221000001", "20031219235959", "20031222000000", "20031219000000", "20041221000000"],
+        &["20031220240000", "20031220"],
+    ),
+    (
+        "21991231",
+        &["22000101000000", "21991231000001", "21991231235959"],
+        &["21991231000000", "21991230235959", "19000101000000"],
+        &["22000101000001", "22000101235959", "22000102000000", "22000100000000", "21991232000000", "21991301000000"],
+    ),
+    ("21991230", &["21991231000000"], &["22000101000000", "21991230000000", "21991231000001"], &["22000101000001"]),
+    ("19000101", &["19000102000000", "19000101000001"], &["19000101000000", "22000101000000"], &["18991231235959"]),
+    // February of common years.
+    ("20030228", &["20030301000000"], &["20030228000000", "20030302000000", "20030301000001"], &["20030229000000"]),
+    ("19000228", &["19000301000000"], &["19000228000000", "19000302000000", "19000301000001"], &["19000229000000"]),
+    ("21000228", &["21000301000000"], &["21000228000000", "21000302000000", "21000301000001"], &["21000229000000"]),
+    // February of leap years.
+    ("20040228", &["20040229000000"], &["20040228000000", "20040301000000", "20040229000001"], &[]),
+    ("20000228", &["20000229000000"], &["20000228000000", "20000301000000", "20000229000001"], &[]),
+    ("20040229", &["20040301000000"], &["20040229000000", "20040302000000", "20040301000001"], &["20040230000000"]),
+    ("20000229", &["20000301000000"], &["20000229000000", "20000302000000", "20000301000001"], &["20000230000000"]),
+    // Ends of months and years.
+    ("20030430", &["20030501000000"], &["20030430000000", "20030502000000", "20030501000001"], &["20030431000000"]),
+    ("20031130", &["20031201000000"], &["20031130000000", "20031202000000", "20031201000001"], &["20031131000000"]),
+    ("20030131", &["20030201000000"], &["20030131000000", "20030202000000", "20030201000001"], &["20030132000000"]),
+    ("20030731", &["20030801000000"], &["20030731000000", "20030802000000", "20030801000001"], &["20030732000000"]),
+    ("20031231", &["20040101000000"], &["20031231000000", "20030101000000", "20040102000000"], &["20031301000000"]),
+    ("19991231", &["20000101000000"], &["19991231000000", "19990101000000", "20000101000001"], &["19991232000000"]),
+    ("20991231", &["21000101000000"], &["20991231000000", "20990101000000", "21000201000000"], &["20991301000000"]),
+];
+
+/// Each settled read time under its date, with the number of its refusal if it has one.
+pub fn settled_read_times() -> Vec<(&'static str, &'static str, Option<u64>)> {
+    let mut rows = Vec::new();
+    for (date, belonging, outside, broken) in READ_TIMES {
+        for (read_times, refusal) in [(belonging, None), (outside, Some(12)), (broken, Some(6))] {
+            rows.extend(read_times.iter().map(|read_time| (date, *read_time, refusal)));
+        }
+    }
+    rows
+}
+
+#[test]
+fn a_day_ends_with_midnight_of_the_day_after() {
+    for (date, read_time, number) in settled_read_times() {
+        let order = format!("500,S,,{read_time},12.5\r\n");
+        let file = channel_file(&format!("{}{order}500,N,,,\r\n", day_30(date, "A,,")));
+        let refusal = number.map(|number| refusal_at(&file, &format!("{read_time},12.5"), number, 3, 4));
+        assert_eq!(check(file.as_bytes()).err(), refusal, "{date} {read_time:?}");
+    }
+}
+
+#[test]
+fn a_midnight_between_two_days_belongs_to_the_first() {
+    let (first, second) = (day_30("20030501", "A,,"), day_30("20030502", "A,,"));
+    let order = "500,S,,20030502000000,\r\n";
+    assert!(is_accepted(&channel_file(&format!("{first}{order}{second}"))));
+    let file = channel_file(&format!("{first}{second}{order}"));
+    assert_eq!(refused(&file), refusal_at(&file, "20030502000000", 12, 4, 4));
+}
+
+#[test]
+fn no_other_time_is_the_end_of_the_last_day() {
+    let day = day_30("21991231", "A,,");
+    for (from, to, field) in [("20030502153445,", "22000101000000,", 54), (",\r\n", ",22000101000000\r\n", 55)] {
+        let file = channel_file(&day.replace(from, to));
+        assert_eq!(refused(&file), refusal_at(&file, "22000101000000", 6, 2, field));
+    }
+    for (time, field) in
+        [("20031001103230", 10), ("20040201100030", 15), ("20040202125010", 22), ("20040203000130", 23)]
+    {
+        let file = format!("{HEADER_13}{}{END}", SAMPLE_250.replace(time, "22000101000000"));
+        assert_eq!(refused(&file), refusal_at(&file, "22000101000000", 6, 1, field));
+    }
+    let file = channel_file(&day).replace("200301011534", "220001010000");
+    assert_eq!(refused(&file), refusal_at(&file, "220001010000", 6, 0, 3));
 }
 
 // --- Reading a day ---
@@ -451,11 +558,13 @@ fn writing_asks_in_its_order() {
 
 #[test]
 fn unfit_days() {
-    let faults: [fn(&mut WriteTest); 19] = [
+    let faults: [fn(&mut WriteTest); 21] = [
         |day| day.head.date = 20030229,
         |day| day.head.date = 22000101,
         |day| day.head.update = 20030922240000,
+        |day| day.head.update = 22000101000000,
         |day| day.head.load = 1,
+        |day| day.head.load = 22000101000000,
         |day| day.flags[5] = b'V',
         |day| day.methods[5] = 14,
         |day| day.flags[5] = b'E',

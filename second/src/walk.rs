@@ -4,7 +4,7 @@ use crate::fields;
 use crate::notes::Note;
 use crate::records::{kind_of, layout, quality_fields, Kind, Record};
 use crate::refusal::{
-    Refusal, COVER_BROKEN, COVER_INCOMPLETE, DATE_NOT_LATER, DAY_ALL_ALIKE, FIELD_BREAKS_RULE, READ_DATE_DIFFERS,
+    Refusal, COVER_BROKEN, COVER_INCOMPLETE, DATE_NOT_LATER, DAY_ALL_ALIKE, FIELD_BREAKS_RULE, READ_OUTSIDE_DAY,
     RECORD_OUT_OF_PLACE, RULE_ACROSS_BROKEN, WRONG_FIELD_COUNT,
 };
 
@@ -247,9 +247,8 @@ impl<'a> Walk<'a> {
 
     fn take_order(&mut self, record: &Record) -> Result<(), Refusal> {
         let read_time = record.decimal(4);
-        let read_date = read_time / 1_000_000;
-        if read_time != 0 && read_date != u64::from(self.day().date) {
-            return Err(record.refuse_field(READ_DATE_DIFFERS, 4));
+        if read_time != 0 && !fields::belongs_to_day(read_time, self.day().date) {
+            return Err(record.refuse_field(READ_OUTSIDE_DAY, 4));
         }
         self.place = Place::InDay;
         Ok(())

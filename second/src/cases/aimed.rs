@@ -5,6 +5,7 @@ use super::chance::Chance;
 use super::damage;
 use super::files::{self, rules_of, Draft, Make, Row};
 use super::words::{self, number_word, Word};
+use crate::fields::decimal;
 use crate::records::{kind_of, Kind};
 
 pub fn bytes_for(chance: &mut Chance, make: Make, aim: u64) -> Vec<u8> {
@@ -36,7 +37,7 @@ fn draft_for(chance: &mut Chance, make: Make, aim: u64) -> Draft {
         9 => cover_broken(chance, make),
         10 => cover_incomplete(chance, make),
         11 => day_all_alike(chance, make),
-        12 => read_date_differs(chance, make),
+        12 => read_outside_day(chance, make),
         _ => unreachable!("no content is aimed at refusal {aim}"),
     }
 }
@@ -254,7 +255,7 @@ fn further_cover(chance: &mut Chance, n: usize) -> Row {
 
 /// Another interval number: near to the one that stands there, or at an edge of some day.
 fn near_interval(chance: &mut Chance, from: &[u8], n: usize) -> Word {
-    let from = crate::fields::decimal(from) as usize;
+    let from = decimal(from) as usize;
     let numbers = [from + 1, from.saturating_sub(1), 0, 1, n, n + 1, 48, 49, 96, 97, 288, 289, 9999];
     loop {
         let number = chance.pick(&numbers);
@@ -285,10 +286,11 @@ fn day_all_alike(chance: &mut Chance, make: Make) -> Draft {
     draft
 }
 
-fn read_date_differs(chance: &mut Chance, make: Make) -> Draft {
+fn read_outside_day(chance: &mut Chance, make: Make) -> Draft {
     let mut draft = files::made_with(chance, make, |draft| !draft.places_of(Kind::R500).is_empty());
     let orders = draft.places_of(Kind::R500);
     let place = chance.pick(&orders);
-    draft.rows[place][3] = number_word(words::time(chance));
+    let date = decimal(draft.date_before(place).expect("500s stand under a day")) as u32;
+    draft.rows[place][3] = number_word(words::read_time_outside(chance, date));
     draft
 }

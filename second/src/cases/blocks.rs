@@ -55,6 +55,12 @@ pub fn with_order(chance: &mut Chance, turn: u64) -> Vec<u8> {
     case(minutes, &sweep::block_with_order(chance, n, turn))
 }
 
+/// A block with each read time near to each date at an edge in turn.
+pub fn with_read_time(chance: &mut Chance, turn: u64) -> Vec<u8> {
+    let (minutes, n) = some_length(chance);
+    case(minutes, &sweep::block_with_read_time(chance, n, turn))
+}
+
 // --- Aimed blocks ---
 
 /// A block aimed at one refusal.
@@ -131,10 +137,8 @@ mod tests {
 
     /// The interval length and the bytes of a `block` case.
     fn parts(case: &[u8]) -> (u32, &[u8]) {
-        let line_end = case.iter().position(|byte| *byte == b'\n').expect("a line");
-        let line = std::str::from_utf8(&case[..line_end]).expect("words");
-        let minutes = line.split(' ').nth(1).expect("an interval length");
-        (minutes.parse().expect("a number"), &case[line_end + 1..case.len() - 1])
+        let (words, bytes) = requests::words_and_bytes(case);
+        (words[1].parse().expect("an interval length"), bytes)
     }
 
     /// What the block's refusal would be if it stood in a file behind a header and a 200.
@@ -190,6 +194,7 @@ mod tests {
             compare_with_file(&aimed(chance, BLOCK_AIMS[index as usize % BLOCK_AIMS.len()]));
             compare_with_file(&with_field(chance, index));
             compare_with_file(&with_order(chance, index));
+            compare_with_file(&with_read_time(chance, index));
         }
     }
 }

@@ -187,7 +187,7 @@ pub fn tangled(chance: &mut Chance, make: Make) -> Vec<u8> {
 }
 
 fn tangle(chance: &mut Chance, draft: &mut Draft, place: usize) {
-    let earlier_date = draft.rows[..place].iter().rev().find(|row| row[0] == b"300").map(|row| row[1].clone());
+    let earlier_date = draft.date_before(place).cloned();
     let row = &mut draft.rows[place];
     let kind_before = kind_of(&row[0]);
     // Where all fields keep their rules, the later questions are reached.

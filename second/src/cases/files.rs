@@ -25,6 +25,11 @@ impl Draft {
     pub fn places_of(&self, kind: Kind) -> Vec<usize> {
         (0..self.rows.len()).filter(|place| kind_of(&self.rows[*place][0]) == Some(kind)).collect()
     }
+
+    /// The date of the last day that begins before this place.
+    pub fn date_before(&self, place: usize) -> Option<&Word> {
+        self.rows[..place].iter().rev().find(|row| row[0] == b"300").map(|row| &row[1])
+    }
 }
 
 /// The rules of a row's fields, as far as its indicator is one and it is long enough.
@@ -102,13 +107,18 @@ fn channel(chance: &mut Chance) -> Vec<Row> {
         _ => (30, 48),
     };
     let days = if n == 48 && chance.one_in(12) { chance.between(3, 9) } else { chance.between(1, 2) };
-    let mut head = row(chance, Kind::R200, 0);
-    head[8] = number_word(minutes);
-    let mut rows = vec![head];
+    let mut rows = vec![channel_head(chance, minutes)];
     for date in words::rising_dates(chance, days) {
         rows.extend(day_block(chance, n, date));
     }
     rows
+}
+
+/// A 200 of this interval length.
+pub fn channel_head(chance: &mut Chance, minutes: u32) -> Row {
+    let mut head = row(chance, Kind::R200, 0);
+    head[8] = number_word(minutes);
+    head
 }
 
 /// A day block on its own, of a date in any year that may stand.
@@ -117,7 +127,7 @@ pub fn block(chance: &mut Chance, n: usize) -> Draft {
     Draft { rows: day_block(chance, n, date) }
 }
 
-fn day_block(chance: &mut Chance, n: usize, date: u32) -> Vec<Row> {
+pub fn day_block(chance: &mut Chance, n: usize, date: u32) -> Vec<Row> {
     let mut rows = if chance.one_in(2) {
         let note = words::note(chance);
         vec![day(chance, n, date, &note.fields())]
@@ -198,10 +208,10 @@ fn stretch_ends(chance: &mut Chance, n: usize, fewest: usize) -> Vec<usize> {
     ends
 }
 
-/// A 500 whose read time, if it has one, is on this date.
-pub fn order(chance: &mut Chance, date: u32) -> Row {
+/// A 500 whose read time, if it has one, belongs to the day of this date.
+fn order(chance: &mut Chance, date: u32) -> Row {
     let mut order = row(chance, Kind::R500, 0);
-    order[3] = if chance.one_in(3) { Vec::new() } else { number_word(words::time_on(chance, date)) };
+    order[3] = if chance.one_in(3) { Vec::new() } else { number_word(words::read_time(chance, date)) };
     order
 }
 
@@ -242,7 +252,7 @@ pub fn large(chance: &mut Chance, which: usize) -> Vec<u8> {
 }
 
 fn file_of_length(chance: &mut Chance, length: usize) -> Vec<u8> {
-    full_file(chance, length, b"30", 2_000, |chance, date| {
+    full_file(chance, length, 30, 2_000, |chance, date| {
         let note = words::note(chance);
         day(chance, 48, date, &note.fields())
     })
@@ -251,7 +261,7 @@ fn file_of_length(chance: &mut Chance, length: usize) -> Vec<u8> {
 /// A file of the largest length with one channel, whose values are the largest that eight bytes hold with their comma:
 /// none of another shape adds up to more for its bytes. Some 2,500 bytes at the most are left to orders.
 pub fn largest_total(chance: &mut Chance) -> Vec<u8> {
-    full_file(chance, LONGEST_FILE, b"5", 2_500, |chance, date| {
+    full_file(chance, LONGEST_FILE, 5, 2_500, |chance, date| {
         let mut row = day(chance, 288, date, &[b"A".to_vec(), Vec::new(), Vec::new()]);
         row[2..290].fill(b"9999999".to_vec());
         row
@@ -262,15 +272,13 @@ pub fn largest_total(chance: &mut Chance) -> Vec<u8> {
 fn full_file(
     chance: &mut Chance,
     length: usize,
-    interval_length: &[u8],
+    minutes: u32,
     most_bytes: usize,
     day_on: impl Fn(&mut Chance, u32) -> Row,
 ) -> Vec<u8> {
     const END: &[u8] = b"900\r\n";
-    let mut head = row(chance, Kind::R200, 0);
-    head[8] = interval_length.to_vec();
     let mut bytes = record_bytes(&header(chance, b"NEM12"));
-    bytes.extend(record_bytes(&head));
+    bytes.extend(record_bytes(&channel_head(chance, minutes)));
     let mut date = 19_000_101;
     while bytes.len() + most_bytes < length {
         bytes.extend(record_bytes(&day_on(chance, date)));

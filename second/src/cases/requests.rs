@@ -66,3 +66,11 @@ pub fn case(request: &str, bytes: &[u8]) -> Vec<u8> {
     case.push(b'\n');
     case
 }
+
+/// The words of a case's line, and the bytes behind it.
+#[cfg(test)]
+pub fn words_and_bytes(case: &[u8]) -> (Vec<&str>, &[u8]) {
+    let line_end = case.iter().position(|byte| *byte == b'\n').expect("a line");
+    let line = std::str::from_utf8(&case[..line_end]).expect("words");
+    (line.split(' ').collect(), &case[line_end + 1..case.len() - 1])
+}

@@ -1,11 +1,12 @@
-//! Sweeps: every field with every content that is interesting there, and every kind of record at every place in the
-//! order of records, one after another, in files and in blocks on their own. A long run leaves none of them out.
+//! Sweeps: every field with every content that is interesting there, every kind of record at every place in the order
+//! of records, and every date at an edge with every read time near to it, one after another, in files and in blocks on
+//! their own. A long run leaves none of them out.
 
 use super::chance::Chance;
 use super::damage;
 use super::files::{self, Draft, Make, Row};
 use super::words::{self, Word};
-use crate::fields::Rule;
+use crate::fields::{decimal, Rule};
 use crate::records::{layout, Kind};
 use crate::write::record_bytes;
 
@@ -17,6 +18,11 @@ const KINDS_OF_BLOCK: [Kind; 3] = [Kind::R300, Kind::R400, Kind::R500];
 
 /// A step that shares no divisor with the number of things swept, so that a short run is spread over them too.
 const STEP: u64 = 367;
+
+/// Which of so many things has its turn.
+fn which(turn: u64, count: usize) -> usize {
+    (turn.wrapping_mul(STEP) % count as u64) as usize
+}
 
 // --- Fields ---
 
@@ -52,8 +58,7 @@ pub fn block_with_field(chance: &mut Chance, n: usize, turn: u64) -> Vec<u8> {
 
 fn with_field(chance: &mut Chance, make: Make, kinds: &[Kind], turn: u64) -> Vec<u8> {
     let mut targets = targets(kinds);
-    let which = turn.wrapping_mul(STEP) % targets.len() as u64;
-    let target = targets.swap_remove(which as usize);
+    let target = targets.swap_remove(which(turn, targets.len()));
     let mut draft = files::made_with(chance, make, |draft| !draft.places_of(target.kind).is_empty());
     let rows = draft.places_of(target.kind);
     let row = &mut draft.rows[chance.pick(&rows)];
@@ -82,8 +87,7 @@ fn leads(chance: &mut Chance) -> Vec<Vec<Row>> {
         header[1] = version.to_vec();
         header
     });
-    let mut channel = files::row(chance, Kind::R200, 0);
-    channel[8] = b"30".to_vec();
+    let channel = files::channel_head(chance, 30);
     let accumulation = files::accumulation(chance);
     let order_13 = files::row(chance, Kind::R550, 0);
     let end = files::row(chance, Kind::R900, 0);
@@ -145,7 +149,7 @@ fn next_rows(chance: &mut Chance, n: usize) -> Vec<Row> {
 /// A file with one kind of record at one place in the order, and a 900 behind it.
 pub fn file_with_order(chance: &mut Chance, turn: u64) -> Vec<u8> {
     let (leads, next_rows) = (leads(chance), next_rows(chance, 48));
-    let which = (turn.wrapping_mul(STEP) % (leads.len() * next_rows.len()) as u64) as usize;
+    let which = which(turn, leads.len() * next_rows.len());
     let mut rows = leads[which / next_rows.len()].clone();
     rows.push(next_rows[which % next_rows.len()].clone());
     rows.push(files::row(chance, Kind::R900, 0));
@@ -167,10 +171,49 @@ fn block_ends(chance: &mut Chance, n: usize) -> Vec<Vec<u8>> {
 /// A block of n intervals that has one thing behind one place in the order, and ends there.
 pub fn block_with_order(chance: &mut Chance, n: usize, turn: u64) -> Vec<u8> {
     let (leads, ends) = (leads_of_block(chance, n), block_ends(chance, n));
-    let which = (turn.wrapping_mul(STEP) % (leads.len() * ends.len()) as u64) as usize;
+    let which = which(turn, leads.len() * ends.len());
     let mut bytes = Draft { rows: leads[which / ends.len()].clone() }.bytes();
     bytes.extend(&ends[which % ends.len()]);
     bytes
+}
+
+// --- Read times ---
+
+/// Each date at an edge with each read time near to it.
+fn dates_with_read_times() -> Vec<(u32, u64)> {
+    let near = |date: u32| words::read_times_near(date).into_iter().map(move |time| (date, time));
+    let mut pairs: Vec<(u32, u64)> = words::EDGE_DATES.into_iter().flat_map(near).collect();
+    for date in [words::LAST_DATE - 1, words::LAST_DATE] {
+        pairs.extend(words::TIMES_AROUND_CALENDAR_END.map(|time| (date, decimal(time.as_bytes()))));
+    }
+    pairs.sort_unstable();
+    pairs.dedup();
+    pairs
+}
+
+/// A day block of n intervals that is accepted but for the read time of its last 500, if that isn't.
+fn rows_with_read_time(chance: &mut Chance, n: usize, turn: u64) -> Vec<Row> {
+    let pairs = dates_with_read_times();
+    let (date, read_time) = pairs[which(turn, pairs.len())];
+    let mut rows = files::day_block(chance, n, date);
+    let mut order = files::row(chance, Kind::R500, n);
+    order[3] = words::number_word(read_time);
+    rows.push(order);
+    rows
+}
+
+pub fn block_with_read_time(chance: &mut Chance, n: usize, turn: u64) -> Vec<u8> {
+    Draft { rows: rows_with_read_time(chance, n, turn) }.bytes()
+}
+
+/// A file that has such a block as its last day, under a 200 of its own.
+pub fn file_with_read_time(chance: &mut Chance, turn: u64) -> Vec<u8> {
+    let mut draft = files::nem12(chance);
+    let mut rows = vec![files::channel_head(chance, 30)];
+    rows.extend(rows_with_read_time(chance, 48, turn));
+    let end = draft.rows.len() - 1;
+    draft.rows.splice(end..end, rows);
+    draft.bytes()
 }
 
 #[cfg(test)]
@@ -197,6 +240,7 @@ mod tests {
             ("orders", orders, 1),
             ("fields of blocks", targets(&KINDS_OF_BLOCK).len(), SWEPT_BLOCKS_PER_ROUND),
             ("orders of blocks", orders_of_block, 1),
+            ("read times", dates_with_read_times().len(), 1),
         ] {
             assert!(count as u64 <= rounds * per_round, "{count} {what} to sweep");
             assert!(share_no_divisor(count as u64, STEP), "{count} {what}");

@@ -1,7 +1,7 @@
 //! The contents of single fields: ones that keep their rules, and ones that are near to breaking them.
 
 use super::chance::Chance;
-use crate::fields::{is_real_date, Quality, Rule};
+use crate::fields::{belongs_to_day, day_after, days_in_month, decimal, is_real_date, Quality, Rule, END_OF_LAST_DAY};
 use crate::notes::{Note, NO_REASON};
 
 pub type Word = Vec<u8>;
@@ -51,29 +51,28 @@ fn participant(chance: &mut Chance) -> Word {
 
 // --- Dates and times ---
 
+/// The last date that a file may hold.
+pub const LAST_DATE: u32 = 21991231;
+
 /// Dates at the edges of years, months and the calendar.
-const EDGE_DATES: [u32; 14] = [
-    19000101, 19000228, 19000301, 19991231, 20000101, 20000228, 20000229, 20031231, 20040229, 20991231, 21000228,
-    21960229, 21991230, 21991231,
+pub const EDGE_DATES: [u32; 17] = [
+    19000101, 19000228, 19991231, 20000228, 20000229, 20030228, 20030430, 20030731, 20031231, 20040228, 20040229,
+    20991231, 21000228, 21960228, 21960229, 21991230, LAST_DATE,
 ];
 
 pub fn date(chance: &mut Chance) -> u32 {
-    if chance.one_in(4) {
+    if chance.one_in(3) {
         return chance.pick(&EDGE_DATES);
     }
-    loop {
-        let date = chance.between(1900, 2199) * 10_000 + chance.between(1, 12) * 100 + chance.between(1, 31);
-        if is_real_date(date as u64) {
-            return date as u32;
-        }
-    }
+    let (year, month) = (chance.between(1900, 2199) as u32, chance.between(1, 12) as u32);
+    let last_day = days_in_month(year, month);
+    let day = if chance.one_in(6) { last_day } else { chance.between(1, last_day as usize) as u32 };
+    year * 10_000 + month * 100 + day
 }
 
 /// The date of the next day, if it is one that a file may hold.
 pub fn next_date(date: u32) -> Option<u32> {
-    let next_month = date / 100 * 100 + 101;
-    let next_year = date / 10_000 * 10_000 + 10_101;
-    [date + 1, next_month, next_year].into_iter().find(|next| is_real_date(u64::from(*next)))
+    Some(day_after(date)).filter(|next| is_real_date(*next))
 }
 
 /// One date or more, each later than the one before it.
@@ -96,19 +95,68 @@ pub fn rising_dates(chance: &mut Chance, count: usize) -> Vec<u32> {
 fn clock(chance: &mut Chance) -> u64 {
     match chance.below(6) {
         0 => 0,
-        1 => 235_959,
+        1 => chance.pick(&[1, 235_959]),
         _ => (chance.below(24) * 10_000 + chance.below(60) * 100 + chance.below(60)) as u64,
     }
 }
 
-/// A time on this date, as one number of 14 digits.
-pub fn time_on(chance: &mut Chance, date: u32) -> u64 {
-    u64::from(date) * 1_000_000 + clock(chance)
+/// A date and a time of day as one number of 14 digits.
+pub fn time_at(date: u32, clock: u64) -> u64 {
+    u64::from(date) * 1_000_000 + clock
+}
+
+fn time_on(chance: &mut Chance, date: u32) -> u64 {
+    time_at(date, clock(chance))
 }
 
 pub fn time(chance: &mut Chance) -> u64 {
     let date = date(chance);
     time_on(chance, date)
+}
+
+/// A read time that belongs to the day of this date, often as its end.
+pub fn read_time(chance: &mut Chance, date: u32) -> u64 {
+    if chance.one_in(3) {
+        return time_at(day_after(date), 0);
+    }
+    loop {
+        let time = time_on(chance, date);
+        if belongs_to_day(time, date) {
+            return time;
+        }
+    }
+}
+
+/// Read times around the midnights at both ends of a day, and midnights that only a wrong calendar puts at its end.
+/// Not all are times: a number next to a date may be no date.
+pub fn read_times_near(date: u32) -> Vec<u64> {
+    let mut times = vec![
+        time_at(date - 1, 235_959),
+        time_at(date, 0),
+        time_at(date, 1),
+        time_at(date, 235_959),
+        time_at(day_after(date), 0),
+        time_at(day_after(date), 1),
+        time_at(day_after(day_after(date)), 0),
+        time_at(date + 1, 0),
+    ];
+    times.sort_unstable();
+    times.dedup();
+    times
+}
+
+/// A read time that keeps its rule and doesn't belong to the day of this date, mostly near to it.
+pub fn read_time_outside(chance: &mut Chance, date: u32) -> u64 {
+    loop {
+        let time = match chance.below(5) {
+            0 => time(chance),
+            1 => decimal(END_OF_LAST_DAY),
+            _ => chance.pick(&read_times_near(date)),
+        };
+        if Rule::ReadTime.allows(&number_word(time)) && !belongs_to_day(time, date) {
+            return time;
+        }
+    }
 }
 
 pub fn number_word(number: impl ToString) -> Word {
@@ -184,7 +232,7 @@ impl NoteWords {
     }
 
     fn keeps_rules_across(&self) -> bool {
-        let reason = if self.reason.is_empty() { NO_REASON } else { crate::fields::decimal(&self.reason) as u16 };
+        let reason = if self.reason.is_empty() { NO_REASON } else { decimal(&self.reason) as u16 };
         let quality = Quality { flag: self.quality[0], method: 0 };
         Note { quality, reason, description: &self.description, description_start: 0 }.keeps_rules_across()
     }
@@ -300,6 +348,8 @@ pub fn keeping(chance: &mut Chance, rule: Rule) -> Word {
             let word = number_word(time(chance));
             or_empty(chance, word)
         }
+        Rule::ReadTime if chance.one_in(8) => END_OF_LAST_DAY.to_vec(),
+        Rule::ReadTime => keeping(chance, Rule::TimeOrEmpty),
         Rule::Value => value_of_any_shape(chance),
         Rule::DayQuality | Rule::Quality => quality(chance),
         Rule::Reason => reason(chance),
@@ -338,6 +388,10 @@ const CLOCKS: [&str; 12] = [
     "000000", "235959", "240000", "236000", "235960", "126000", "120060", "1a0000", "12:000", "00000 ", "00000a",
     "995959",
 ];
+
+/// Times at the end of the last day and around it. That end may be a read time alone, and those behind it none.
+pub const TIMES_AROUND_CALENDAR_END: [&str; 5] =
+    ["21991231235959", "22000101000000", "22000101000001", "22000102000000", "22000100000000"];
 
 const VALUES: [&str; 34] = [
     "0", "00", "0000000", "00000000", "9999999", "10000000", "12345678", "9999999.999999", "9999999.9999999",
@@ -381,7 +435,7 @@ pub fn edges(rule: Rule) -> Vec<Word> {
         Rule::Version => words(&VERSIONS),
         Rule::Date | Rule::DateOrEmpty => words(&DATES),
         Rule::FileTime => times(4),
-        Rule::Time | Rule::TimeOrEmpty => times(6),
+        Rule::Time | Rule::TimeOrEmpty | Rule::ReadTime => times(6),
         Rule::Value => words(&VALUES),
         Rule::DayQuality | Rule::Quality => words(&QUALITIES),
         Rule::Reason => words(&REASONS),
@@ -419,13 +473,17 @@ fn lengths(longest: usize, others: &[u8]) -> Vec<Word> {
     words
 }
 
-/// Dates at noon, and times of one day, with as many digits behind the date as the rule has.
+/// Dates at noon, times of one day and times around the calendar's end, with as many digits behind the date as the
+/// rule has.
 fn times(digits: usize) -> Vec<Word> {
     let time = |date: &str, clock: &str| format!("{date}{}", &clock[..clock.len().min(digits)]).into_bytes();
     let mut words: Vec<Word> = DATES[..TELLING_DATES].iter().map(|date| time(date, "120000")).collect();
     words.extend(CLOCKS.iter().map(|clock| time("20030430", clock)));
+    words.extend(TIMES_AROUND_CALENDAR_END.map(|word| word.as_bytes()[..8 + digits].to_vec()));
     let others = ["", " ", "20030430", "20030430123", "2003043012345", "200304301234567", "20030430 12345"];
     words.extend(others.map(|word| word.as_bytes().to_vec()));
+    // The number that is the end of the last day, with a digit too many.
+    words.push(b"022000101000000".to_vec());
     // Right but for the number of digits, which is the other kind of time's.
     words.push(if digits == 4 { b"20030430120000".to_vec() } else { b"200304301200".to_vec() });
     words

@@ -2,7 +2,7 @@
 
 use super::chance::Chance;
 use super::words;
-use crate::fields::{intervals_in_day, NO_METHOD, VALUE_LIMIT};
+use crate::fields::{decimal, intervals_in_day, END_OF_LAST_DAY, NO_METHOD, VALUE_LIMIT};
 use crate::notes::NO_REASON;
 use crate::write::{compose, DayHead, DayLists};
 
@@ -161,7 +161,7 @@ fn lay(chance: &mut Chance, note: &words::NoteWords, text: &mut Vec<u8>) -> Sayi
     Saying {
         flag: quality.flag,
         method: quality.method,
-        reason: if note.reason.is_empty() { NO_REASON } else { crate::fields::decimal(&note.reason) as u16 },
+        reason: if note.reason.is_empty() { NO_REASON } else { decimal(&note.reason) as u16 },
         start,
         length: note.description.len(),
     }
@@ -256,10 +256,13 @@ fn spoilt_date(chance: &mut Chance) -> u32 {
 }
 
 fn spoilt_time(chance: &mut Chance) -> u64 {
-    match chance.below(4) {
+    match chance.below(6) {
         0 => u64::from(spoilt_date(chance)) * 1_000_000 + 120_000,
         1 => 20030922 * 1_000_000 + chance.pick(&[240_000, 236_000, 235_960, 999_999, 126_060, 235_959]),
         2 => chance.pick(&[1, 20030922, 200309220922, 200309220922310, 2003092209223, u64::MAX, u64::MAX / 10]),
+        // A read may be taken then, but no day is updated or loaded then.
+        3 => decimal(END_OF_LAST_DAY),
+        4 => decimal(chance.pick(&words::TIMES_AROUND_CALENDAR_END).as_bytes()),
         _ => chance.next(),
     }
 }
