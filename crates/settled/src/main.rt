@@ -108,10 +108,27 @@ fn days_after() {
 
 // ---- the sample 250
 
-fn sample(page: &mut [u8], file: &[u8]) {
-    checked(page, b"the sample 250 of section 5.3", file);
+// Its file, with this time of the previous read.
+fn thirteen(file: &mut [u8], time: &[u8]) -> usize {
+    let p = put(
+        file,
+        0,
+        b"100,NEM13,200301011534,MDP1,Retailer1\r\n250,1234567890,1141,01,11,11,METSERG6,E,000021.2,",
+    );
+    let q = put(file, p, time);
+    put(
+        file,
+        q,
+        b",A,,,000534.5,20040201100030,E64,77,,343.5,kWh,20040509,20040202125010,20040203000130\r\n900\r\n",
+    )
+}
+
+fn sample(page: &mut [u8]) {
+    let mut file = io::buffer();
+    let n = thirteen(&mut file, b"20031001103230");
+    checked(page, b"the sample 250 of section 5.3", part(&file, 0, n));
     let p = put(page, 0, b"its quantity: ");
-    let q = answers::totalled(page, p, total(file, 0));
+    let q = answers::totalled(page, p, total(part(&file, 0, n), 0));
     say(page, q);
 }
 
@@ -197,11 +214,9 @@ fn written(page: &mut [u8], name: &[u8], update: u64) {
 
 // What only a read time may be.
 fn not_a_read(page: &mut [u8]) {
-    checked(
-        page,
-        b"a 250 read at 22000101000000",
-        b"100,NEM13,200301011534,MDP1,Retailer1\r\n250,1234567890,1141,01,11,11,METSERG6,E,000021.2,22000101000000,A,,,000534.5,20040201100030,E64,77,,343.5,kWh,20040509,20040202125010,20040203000130\r\n900\r\n",
-    );
+    let mut file = io::buffer();
+    let n = thirteen(&mut file, b"22000101000000");
+    checked(page, b"a 250 read at 22000101000000", part(&file, 0, n));
     written(page, b"a day updated at 22000101000000", 22000101000000);
 }
 
@@ -237,10 +252,7 @@ fn main() {
     dates(&mut page);
     covers(&mut page);
     ends(&mut page);
-    sample(
-        &mut page,
-        b"100,NEM13,200301011534,MDP1,Retailer1\r\n250,1234567890,1141,01,11,11,METSERG6,E,000021.2,20031001103230,A,,,000534.5,20040201100030,E64,77,,343.5,kWh,20040509,20040202125010,20040203000130\r\n900\r\n",
-    );
+    sample(&mut page);
     written(&mut page, b"the day written whole", 20030922092231);
     midnights();
     days_after();
