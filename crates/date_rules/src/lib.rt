@@ -85,6 +85,7 @@ pub fn load_time(f: &[u8]) -> Number
     time(f)
 }
 
+// A 500's read time that is given.
 fn taken(f: &[u8]) -> Number
     ensures { λ r. ⌜ r ≡ takenOf (now (f .entry)) ⌝ }
 {
@@ -100,7 +101,7 @@ fn taken(f: &[u8]) -> Number
     }
 }
 
-// The 500's.
+// One that may be empty.
 pub fn read_time(f: &[u8]) -> Number
     ensures { λ r. ⌜ r ≡ readTimeOf (now (f .entry)) ⌝ }
 {

@@ -92,7 +92,7 @@ pub fn on_day(date: u64, time: u64) -> bool
     if time % 1000000 != 0 {
         return day == date;
     }
-    // No day is its own day after. And an earlier date than one that a time has is so small that its day after is a number too.
+    // The day after is later. And a date that is earlier than a time's is small enough for it to be asked.
     if day <= date {
         return false;
     }

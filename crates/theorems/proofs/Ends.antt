@@ -120,17 +120,9 @@ small-tidy m s h =
 empty-tidy : (v : ℕ) (rule : List ℕ → Number) (s : List ℕ) → (isNumber (rule s) ≡ true → endSpace s ≡ false) → isNumber (orEmpty v rule s) ≡ true → endSpace s ≡ false
 empty-tidy v rule s f h = by (eqb (length s) 0) (λ e. empty s e) (λ e. f (rw e at h))
 
-date-tidy : (s : List ℕ) → isNumber (dateOf s) ≡ true → endSpace s ≡ false
-unfolding dateOf
-date-tidy s h = number-tidy 8 8 s (of-that isDate (numberOf 8 8 s) h)
-
-time-tidy : (s : List ℕ) → isNumber (timeOf s) ≡ true → endSpace s ≡ false
-unfolding timeOf
-time-tidy s h = number-tidy 14 14 s (of-that isTime (numberOf 14 14 s) h)
-
-taken-tidy : (s : List ℕ) → isNumber (takenOf s) ≡ true → endSpace s ≡ false
-unfolding takenOf
-taken-tidy s h = number-tidy 14 14 s (of-that isReadTime (numberOf 14 14 s) h)
+-- so many digits, whose number passes a test
+that-tidy : (p : ℕ → Bool) (m : ℕ) (s : List ℕ) → isNumber (that p (numberOf m m s)) ≡ true → endSpace s ≡ false
+that-tidy p m s h = number-tidy m m s (of-that p (numberOf m m s) h)
 
 amount-parts : (x y : Number) → isNumber (amount x y) ≡ true → (isNumber x ≡ true) × (isNumber y ≡ true)
 amount-parts (Is w) (Is m) h = (refl, refl)
@@ -218,7 +210,7 @@ version k f h =
 
 created : Tidy Created
 unfolding obeys createdOf
-created k f h = number-tidy 12 12 f (of-that isMinute (numberOf 12 12 f) h)
+created k f h = that-tidy isMinute 12 f h
 
 party : Tidy Party
 unfolding obeys isParty
@@ -257,12 +249,12 @@ unfolding obeys lengthOf
 interval-length k f h = small-tidy 2 f (of-that isLength (smallOf 2 f) h)
 
 next-read : Tidy NextRead
-unfolding obeys nextReadOf
-next-read k f h = empty-tidy 0 dateOf f (date-tidy f) h
+unfolding obeys nextReadOf dateOf
+next-read k f h = empty-tidy 0 dateOf f (that-tidy isDate 8 f) h
 
 date : Tidy Date
-unfolding obeys
-date k f h = date-tidy f h
+unfolding obeys dateOf
+date k f h = that-tidy isDate 8 f h
 
 value : Tidy Value
 unfolding obeys
@@ -281,12 +273,12 @@ unfolding obeys isDescription
 description k f h = text-tidy 0 240 f h
 
 time : Tidy Time
-unfolding obeys
-time k f h = time-tidy f h
+unfolding obeys timeOf
+time k f h = that-tidy isTime 14 f h
 
 load : Tidy Load
-unfolding obeys loadOf
-load k f h = empty-tidy 0 timeOf f (time-tidy f) h
+unfolding obeys loadOf timeOf
+load k f h = empty-tidy 0 timeOf f (that-tidy isTime 14 f) h
 
 interval : Tidy Interval
 unfolding obeys intervalOf
@@ -301,8 +293,8 @@ unfolding obeys isServiceOrder
 service-order k f h = text-tidy 0 15 f h
 
 read-time : Tidy ReadTime
-unfolding obeys readTimeOf
-read-time k f h = empty-tidy 0 takenOf f (taken-tidy f) h
+unfolding obeys readTimeOf takenOf
+read-time k f h = empty-tidy 0 takenOf f (that-tidy isReadTime 14 f) h
 
 index-read : Tidy IndexRead
 unfolding obeys isIndexRead

@@ -1,6 +1,6 @@
--- The format as a grammar: what a file is made of, in the words of 01's sections Records, Fields and A day, and the bytes that this writes. It says
--- nothing of how a file is read: no refusal, no order of tests, no place, no state. What a single field may hold is cited from the meaning (`rowOf`,
--- `obeys`), and so is what one field says (`dateIn`, `firstIn`, ..).
+-- The format as a grammar: what a file is made of, in the words of 01's sections Records, Fields and A day and of 02, and the bytes that this writes. It
+-- says nothing of how a file is read: no refusal, no order of tests, no place, no state. What a single field may hold is cited from the meaning (`rowOf`,
+-- `obeys`), and so are what one field says (`dateIn`, `firstIn`, ..) and the day after a date (`dayAfter`).
 use Prim.Native.Nat.{ℕ, _+_, _*_, _/_, _%_, _≤_, _<_}
 use mathlib.Core.Path.{_≡_}
 use mathlib.Core.Logic.{_≢_, _⊎_}
