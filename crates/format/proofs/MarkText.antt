@@ -1,7 +1,7 @@
 -- Marks: the test that two are the same decides it, a fit mark's texts are read back by the rules of their fields, and none that is read back so
 -- is shorter. Assumes nothing.
 use Prim.Native.Nat.{ℕ, _+_, _≤_, _<_}
-use mathlib.Core.Path.{_≡_, refl, sym, ap, _∙_}
+use mathlib.Core.Path.{_≡_, refl, ap}
 use mathlib.Core.Bool.{Bool, true, false, cond, _&&_, false≢true}
 use mathlib.Core.Logic.{_≢_}
 use mathlib.Core.List.{List, [], _∷_}
@@ -17,7 +17,7 @@ use Rattle.ground.proofs.Same.{same-itself, same-sound}
 use Rattle.ground.proofs.Decimal.{decimal-below}
 use Rattle.ground.proofs.Digits.{length-padded}
 use Rattle.format.specs.Numbers.{numberOf}
-use Rattle.format.specs.Quality.{standsAlone, takesMethod, noMethod, withMethod, qualityOf, Mark, sameMark}
+use Rattle.format.specs.Quality.{ofIntervals, standsAlone, takesMethod, noMethod, withMethod, qualityOf, Mark, sameMark}
 use Rattle.format.specs.Block.{fitQuality, qualityText, reasonText, markText}
 use Rattle.format.specs.declared.Graded.{Graded}
 use Rattle.format.specs.declared.Graded.the-variants.{Of}
@@ -70,14 +70,18 @@ module _ (a b : Mark) where
 
 -- ---- a quality
 
--- what stands alone in a 400 is A, and has no method
-pub alone-is : (q : ℕ) → standsAlone 400 q ≡ true → q ≡ 65
+-- what stands alone is A, N or V
+pub alone-is : {X : Type 0} (k q : ℕ) → standsAlone k q ≡ true → (q ≡ 65 → X) → (q ≡ 78 → X) → (q ≡ 86 → X) → X
 unfolding standsAlone
-alone-is q e = same-or q 65 (λ h. h) (λ h. absurd (false≢true (sym (never (eqb q 86)) ∙ (rw (ne-eqb q 65 h) at e))))
-  where
-    never : (b : Bool) → (b && false) ≡ false
-    never true = refl
-    never false = refl
+alone-is k q e a n v =
+    same-or q 65 a
+    (λ f. same-or q 78 n
+    (λ g. same-or q 86 v (λ h. absurd (false≢true (rw (ne-eqb q 65 f, ne-eqb q 78 g, ne-eqb q 86 h) at e)))))
+
+-- what stands alone in a 400 does in every record that says the quality of intervals
+alone-in : (k q : ℕ) → ofIntervals k ≡ true → standsAlone 400 q ≡ true → standsAlone k q ≡ true
+unfolding standsAlone
+alone-in k q i t = alone-is 400 q t (λ e. rw e) (λ e. rw (e, i)) (λ e. absurd (false≢true (rw e at t)))
 
 -- E, F and S stand alone in no record
 pub method-flag : (k q : ℕ) → takesMethod q ≡ true → standsAlone k q ≡ false
@@ -96,19 +100,19 @@ pub quality-graded : (q m : ℕ) → m ≢ noMethod → qualityText q m ≡ q �
 unfolding qualityText
 quality-graded q m e = rw (ne-eqb m noMethod e)
 
-back-alone : (k q m : ℕ) → q ≡ 65 → m ≡ noMethod → qualityOf k (qualityText q m) ≡ Of q m
-unfolding qualityOf standsAlone
+back-alone : (k q m : ℕ) → standsAlone k q ≡ true → m ≡ noMethod → qualityOf k (qualityText q m) ≡ Of q m
+unfolding qualityOf
 back-alone k q m e d = rw (quality-alone q m d, e, d)
 
 back-graded : (k q m : ℕ) → takesMethod q ≡ true → m < 100 → qualityOf k (qualityText q m) ≡ Of q m
 unfolding qualityOf
 back-graded k q m t h = rw (quality-graded q m (λ e. omega arith), method-flag k q t, t, two-back m h)
 
-pub quality-back : (k q m : ℕ) → fitQuality q m ≡ true → qualityOf k (qualityText q m) ≡ Of q m
+pub quality-back : (k q m : ℕ) → ofIntervals k ≡ true → fitQuality q m ≡ true → qualityOf k (qualityText q m) ≡ Of q m
 unfolding fitQuality
-quality-back k q m f =
+quality-back k q m i f =
     by (standsAlone 400 q)
-    (λ t. back-alone k q m (alone-is q t) (eqb-true m noMethod (rw t at f)))
+    (λ t. back-alone k q m (alone-in k q i t) (eqb-true m noMethod (rw t at f)))
     (λ t. let g = and-true (takesMethod q) (ltb m 100) (rw t at f) in back-graded k q m (g .0) (ltb-true m 100 (g .1)))
 
 of-alone : (b : Bool) (x q m : ℕ) → cond b (Of x noMethod) Graded.Bad ≡ Of q m → (b ≡ true) × (m ≡ noMethod)

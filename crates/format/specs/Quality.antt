@@ -1,5 +1,6 @@
 -- 01, Fields: "Quality: `A` alone, or `E`, `F`, `S` with two digits, or in a 300 only `V` alone. Capitals only: these values are enumerated, so case
 -- counts." "Rules across fields: S and F need a reason. Reason 0 needs a description. V has neither. In a 250 this holds for previous and for current."
+-- 02, 6: "Some providers send `N`, with no method, for null data. Accept it in 300 and 400 records, not in a 250."
 use Prim.Native.Nat.{ℕ}
 use mathlib.Core.List.{List, []}
 use mathlib.Core.Bool.{Bool, true, false, cond, not, _&&_, _||_}
@@ -24,15 +25,22 @@ flagE = 69
 abbrev pub flagF : ℕ
 flagF = 70
 
+abbrev pub flagN : ℕ
+flagN = 78
+
 abbrev pub flagS : ℕ
 flagS = 83
 
 abbrev pub flagV : ℕ
 flagV = 86
 
--- the flags that stand alone in a record of the kind k: A, and in a 300 V
+-- the kinds of record that say the quality of intervals
+abbrev pub ofIntervals : ℕ → Bool
+ofIntervals k = eqb k 300 || eqb k 400
+
+-- the flags that stand alone in a record of the kind k: A, in a 300 and in a 400 N, and in a 300 V
 unfoldable pub standsAlone : ℕ → ℕ → Bool
-standsAlone k q = eqb q flagA || (eqb q flagV && eqb k 300)
+standsAlone k q = eqb q flagA || (eqb q flagN && ofIntervals k) || (eqb q flagV && eqb k 300)
 
 -- those that take a method
 unfoldable pub takesMethod : ℕ → Bool

@@ -1,4 +1,4 @@
--- 01, Settled cases: "Those with a star are proved together as rows of one statement about the definitions." And the case that 02, 1 prints.
+-- 01, Settled cases: "Those with a star are proved together as rows of one statement about the definitions." And cases of 02, 1 and 6.
 use Prim.Native.Nat.{ℕ}
 use Prim.Native.String.{String}
 use mathlib.Core.Path.{_≡_}
@@ -42,6 +42,11 @@ pub record Settled : Type 0 where
   pub e52 : (k : ℕ) → qualityOf k (bytes "E52") ≡ Of 69 52
   pub small-v : (k : ℕ) → qualityOf k (bytes "v") ≡ Graded.Bad
   pub a14 : (k : ℕ) → qualityOf k (bytes "A14") ≡ Graded.Bad
+  -- 02, 6: "`N`, with no method, for null data. Accept it in 300 and 400 records, not in a 250."
+  pub null-in-300 : qualityOf 300 (bytes "N") ≡ Of 78 255
+  pub null-in-400 : qualityOf 400 (bytes "N") ≡ Of 78 255
+  pub null-in-250 : qualityOf 250 (bytes "N") ≡ Graded.Bad
+  pub n14 : qualityOf 400 (bytes "N14") ≡ Graded.Bad
   -- record 4 starts at 224, and its quality at 234
   pub s14 : checkOf (varied ("400,1,24,A,," ∷ "400,25,48,S14,," ∷ [])) ≡ refused 7 234 4 4
   pub covered : checkOf (varied ("400,1,31,A,," ∷ "400,32,48,E52,," ∷ [])) ≡ accepted (12 ∷ 1 ∷ 1 ∷ [])

@@ -1,12 +1,16 @@
--- The cases of the rules across fields, one law for a return of the code.
+-- The cases of N alone and of the rules across fields, one law for a return of the code.
 -- Assumes nothing.
 use mathlib.Core.Path.{_≡_, refl}
 use mathlib.Core.Bool.{Bool, true, false, not, _&&_}
 use Prim.Native.Nat.{ℕ}
 use lib.Dec.{eqb}
 use borrow.Author.Tests.{ne-eqb}
-use Rattle.ground.proofs.Tests.{tests}
-use Rattle.format.specs.Quality.{needsReason, across}
+use Rattle.ground.proofs.Tests.{tests, or-false}
+use Rattle.format.specs.Quality.{ofIntervals, standsAlone, needsReason, across}
+
+pub alone-null : (k q : ℕ) {b : Bool} → q ≡ 78 → b ≡ ofIntervals k → b ≡ standsAlone k q
+unfolding standsAlone
+alone-null k q e h = rw (e, or-false) h
 
 module _ (flag reason described : ℕ) where
   pub across-v : flag ≡ 86 → reason ≡ 65535 → eqb described 0 ≡ across flag reason described

@@ -1,6 +1,16 @@
 // The flags of a quality.
 ghost use mathlib.Core.Path.{_≡_};
-ghost use Rattle.format.specs.Quality.{standsAlone, takesMethod, needsReason};
+ghost use Rattle.format.specs.Quality.{ofIntervals, standsAlone, takesMethod, needsReason};
+
+// A kind of record that says the quality of intervals.
+fn of_intervals(kind: u64) -> bool
+    ensures { λ r. ⌜ r ≡ ofIntervals kind ⌝ }
+{
+    if kind == 300 {
+        return true;
+    }
+    kind == 400
+}
 
 // A flag that stands without a method in a record of the kind.
 pub fn stands_alone(kind: u64, q: u8) -> bool
@@ -8,6 +18,9 @@ pub fn stands_alone(kind: u64, q: u8) -> bool
 {
     if q == 65 {
         return true;
+    }
+    if q == 78 {
+        return of_intervals(kind);
     }
     if q == 86 {
         return kind == 300;

@@ -3,9 +3,11 @@
 use format::DayHead;
 use format::Written;
 use page::answers;
+use page::days::day_line;
 use page::texts::part;
 use page::texts::put;
 use reading::check::check;
+use reading::read_day::read_day;
 use reading::total::total;
 use writing::write_day;
 ghost use mathlib.Core.Path.{_≡_};
@@ -40,8 +42,8 @@ fn channel(file: &mut [u8]) -> usize {
     )
 }
 
-// A day of a date and a quality, each of whose 48 values is 1.
-fn day(file: &mut [u8], at: usize, date: &[u8], quality: &[u8]) -> usize {
+// A day of a date and a mark (quality, reason and description), each of whose 48 values is 1.
+fn day(file: &mut [u8], at: usize, date: &[u8], mark: &[u8]) -> usize {
     let p = put(file, at, b"300,");
     let q = put(file, p, date);
     let r = put(
@@ -49,20 +51,20 @@ fn day(file: &mut [u8], at: usize, date: &[u8], quality: &[u8]) -> usize {
         q,
         b",1,1,1,1,1,1,1,1,1,1,1,1,1,1,1,1,1,1,1,1,1,1,1,1,1,1,1,1,1,1,1,1,1,1,1,1,1,1,1,1,1,1,1,1,1,1,1,1,",
     );
-    let s = put(file, r, quality);
-    put(file, s, b",,,20040102010203,\r\n")
+    let s = put(file, r, mark);
+    put(file, s, b",20040102010203,\r\n")
 }
 
 // The channel with a day and the records behind it.
-fn file_of(file: &mut [u8], date: &[u8], quality: &[u8], records: &[u8]) -> usize {
+fn file_of(file: &mut [u8], date: &[u8], mark: &[u8], records: &[u8]) -> usize {
     let p = channel(file);
-    let q = day(file, p, date, quality);
+    let q = day(file, p, date, mark);
     put(file, q, records)
 }
 
-fn day_case(page: &mut [u8], name: &[u8], date: &[u8], quality: &[u8], records: &[u8]) {
+fn day_case(page: &mut [u8], name: &[u8], date: &[u8], mark: &[u8], records: &[u8]) {
     let mut file = io::buffer();
-    let n = file_of(&mut file, date, quality, records);
+    let n = file_of(&mut file, date, mark, records);
     checked(page, name, part(&file, 0, n));
 }
 
@@ -72,7 +74,7 @@ fn day_case(page: &mut [u8], name: &[u8], date: &[u8], quality: &[u8], records: 
 fn read_case(date: &[u8], time: &[u8]) {
     let mut page = io::buffer();
     let mut file = io::buffer();
-    let p = file_of(&mut file, date, b"A", b"500,O,,");
+    let p = file_of(&mut file, date, b"A,,", b"500,O,,");
     let q = put(&mut file, p, time);
     let n = put(&mut file, q, b",\r\n900\r\n");
     let a = put(&mut page, 0, date);
@@ -108,33 +110,80 @@ fn days_after() {
 
 // ---- the sample 250
 
-// Its file, with this time of the previous read.
-fn thirteen(file: &mut [u8], time: &[u8]) -> usize {
+// Its file, with this time of the previous read, and these qualities of both.
+fn thirteen(file: &mut [u8], time: &[u8], previous: &[u8], current: &[u8]) -> usize {
     let p = put(
         file,
         0,
         b"100,NEM13,200301011534,MDP1,Retailer1\r\n250,1234567890,1141,01,11,11,METSERG6,E,000021.2,",
     );
     let q = put(file, p, time);
+    let r = put(file, q, b",");
+    let s = put(file, r, previous);
+    let t = put(file, s, b",,,000534.5,20040201100030,");
+    let u = put(file, t, current);
     put(
         file,
-        q,
-        b",A,,,000534.5,20040201100030,E64,77,,343.5,kWh,20040509,20040202125010,20040203000130\r\n900\r\n",
+        u,
+        b",77,,343.5,kWh,20040509,20040202125010,20040203000130\r\n900\r\n",
     )
 }
 
 fn sample(page: &mut [u8]) {
     let mut file = io::buffer();
-    let n = thirteen(&mut file, b"20031001103230");
+    let n = thirteen(&mut file, b"20031001103230", b"A", b"E64");
     checked(page, b"the sample 250 of section 5.3", part(&file, 0, n));
     let p = put(page, 0, b"its quantity: ");
     let q = answers::totalled(page, p, total(part(&file, 0, n), 0));
     say(page, q);
 }
 
-// ---- the day that is written whole
+// ---- days that are written whole
 
-// What a case is called, the answer, and behind its line the block.
+// Day 0 of the file.
+fn read(file: &[u8]) {
+    let mut page = io::buffer();
+    let mut values = [0u64; 48];
+    let mut flags = [0u8; 48];
+    let mut methods = [0u8; 48];
+    let mut reasons = [0u16; 48];
+    let mut starts = [0usize; 48];
+    let mut lengths = [0usize; 48];
+    let x = read_day(
+        file,
+        0,
+        &mut values,
+        &mut flags,
+        &mut methods,
+        &mut reasons,
+        &mut starts,
+        &mut lengths,
+    );
+    let p = put(&mut page, 0, b"read back: ");
+    let q = day_line(
+        &mut page,
+        p,
+        x,
+        &values,
+        &flags,
+        &methods,
+        &reasons,
+        &starts,
+        &lengths,
+    );
+    say(&mut page, q);
+}
+
+// What is read from a file with the channel and the block.
+fn read_back(block: &[u8]) {
+    let mut file = io::buffer();
+    let p = channel(&mut file);
+    let q = put(&mut file, p, block);
+    let n = put(&mut file, q, b"900\r\n");
+    read(part(&file, 0, n));
+}
+
+// What a case is called, the answer, and behind its line the block and what is read from it.
 fn block(page: &mut [u8], name: &[u8], x: Written, room: &[u8]) {
     let p = put(page, 0, name);
     let q = put(page, p, b": ");
@@ -143,12 +192,13 @@ fn block(page: &mut [u8], name: &[u8], x: Written, room: &[u8]) {
     match x {
         Written::Block { bytes, records: _ } => {
             io::write_all(libc::STDOUT_FILENO, part(room, 0, bytes));
+            read_back(part(room, 0, bytes));
         }
         Written::Refused(_) => {}
     }
 }
 
-// 3 of quality A, and from the twenty-first on 4 of E52.
+// 3, and from the twenty-first on 4.
 fn values() -> [u64; 48]
     ensures { λ r. ⌜ 48 ≡ length r ⌝ }
 {
@@ -204,10 +254,11 @@ fn written_in(
     block(page, name, x, room);
 }
 
-fn written(page: &mut [u8], name: &[u8], update: u64) {
+// A day whose first twenty intervals have a flag without a method, and the others a flag and a method.
+fn written(page: &mut [u8], name: &[u8], update: u64, before: u8, behind: u8, method: u8) {
     let values = values();
-    let flags = bytes(b'A', b'E');
-    let methods = bytes(255, 52);
+    let flags = bytes(before, behind);
+    let methods = bytes(255, method);
     let mut room = io::buffer();
     written_in(page, name, update, &values, &flags, &methods, &mut room);
 }
@@ -215,14 +266,126 @@ fn written(page: &mut [u8], name: &[u8], update: u64) {
 // What only a read time may be.
 fn not_a_read(page: &mut [u8]) {
     let mut file = io::buffer();
-    let n = thirteen(&mut file, b"22000101000000");
+    let n = thirteen(&mut file, b"22000101000000", b"A", b"E64");
     checked(page, b"a 250 read at 22000101000000", part(&file, 0, n));
-    written(page, b"a day updated at 22000101000000", 22000101000000);
+    written(
+        page,
+        b"a day updated at 22000101000000",
+        22000101000000,
+        b'A',
+        b'E',
+        52,
+    );
 }
 
+// ---- null data
+
+// A 300 with this mark.
+fn mark_case(mark: &[u8]) {
+    let mut page = io::buffer();
+    let p = put(&mut page, 0, b"a 300 of ");
+    let q = put(&mut page, p, mark);
+    let mut file = io::buffer();
+    let n = file_of(&mut file, b"20040101", mark, b"900\r\n");
+    answered(&mut page, q, part(&file, 0, n));
+}
+
+fn null_days() {
+    mark_case(b"N,,");
+    mark_case(b"N,77,");
+    mark_case(b"N,0,no meter");
+    mark_case(b"N,0,");
+    mark_case(b"N14,,");
+    mark_case(b"n,,");
+}
+
+// A V day whose 400s end with these marks: one of intervals 1 to 24, one of 25 to 48.
+fn runs_case(before: &[u8], behind: &[u8]) {
+    let mut page = io::buffer();
+    let a = put(&mut page, 0, b"400s of ");
+    let b = put(&mut page, a, before);
+    let c = put(&mut page, b, b" and ");
+    let d = put(&mut page, c, behind);
+    let mut file = io::buffer();
+    let p = file_of(&mut file, b"20040101", b"V,,", b"400,1,24,");
+    let q = put(&mut file, p, before);
+    let r = put(&mut file, q, b"\r\n400,25,48,");
+    let s = put(&mut file, r, behind);
+    let n = put(&mut file, s, b"\r\n900\r\n");
+    answered(&mut page, d, part(&file, 0, n));
+}
+
+fn null_runs() {
+    runs_case(b"A,,", b"N,,");
+    runs_case(b"N,,", b"A,,");
+    runs_case(b"N,,", b"N,77,");
+    runs_case(b"N,,", b"N,,");
+    runs_case(b"A,,", b"N14,,");
+    runs_case(b"A,,", b"n,,");
+    runs_case(b"A,,", b"N,0,");
+    let mut page = io::buffer();
+    day_case(
+        &mut page,
+        b"400,1,48,N,,",
+        b"20040101",
+        b"V,,",
+        b"400,1,48,N,,\r\n900\r\n",
+    );
+}
+
+// A 250 with these qualities.
+fn reads_case(previous: &[u8], current: &[u8]) {
+    let mut page = io::buffer();
+    let a = put(&mut page, 0, b"a 250 of ");
+    let b = put(&mut page, a, previous);
+    let c = put(&mut page, b, b" and ");
+    let d = put(&mut page, c, current);
+    let mut file = io::buffer();
+    let n = thirteen(&mut file, b"20031001103230", previous, current);
+    answered(&mut page, d, part(&file, 0, n));
+}
+
+fn null_reads() {
+    reads_case(b"N", b"E64");
+    reads_case(b"A", b"N");
+}
+
+// Its values count as they stand.
+fn null_total() {
+    let mut page = io::buffer();
+    let mut file = io::buffer();
+    let n = file_of(&mut file, b"20040101", b"N,,", b"900\r\n");
+    let p = put(&mut page, 0, b"the total of a day of N: ");
+    let q = answers::totalled(&mut page, p, total(part(&file, 0, n), 0));
+    say(&mut page, q);
+}
+
+fn null_written() {
+    let mut page = io::buffer();
+    written(
+        &mut page,
+        b"a day of A and N",
+        20030922092231,
+        b'A',
+        b'N',
+        255,
+    );
+    written(&mut page, b"a day of N", 20030922092231, b'N', b'N', 255);
+    written(
+        &mut page,
+        b"a day of A and N14",
+        20030922092231,
+        b'A',
+        b'N',
+        14,
+    );
+}
+
+// ---- 01's own
+
 fn dates(page: &mut [u8]) {
-    day_case(page, b"20040229", b"20040229", b"A", b"900\r\n");
-    day_case(page, b"20030229", b"20030229", b"A", b"900\r\n");
+    day_case(page, b"20040229", b"20040229", b"A,,", b"900\r\n");
+    day_case(page, b"20030229", b"20030229", b"A,,", b"900\r\n");
 }
 
 fn covers(page: &mut [u8]) {
@@ -230,21 +393,21 @@ fn covers(page: &mut [u8]) {
         page,
         b"1 to 31 and then a 500",
         b"20040101",
-        b"V",
+        b"V,,",
         b"400,1,31,A,,\r\n500,O,,,\r\n900\r\n",
     );
     day_case(
         page,
         b"400,1,48,A,,",
         b"20040101",
-        b"V",
+        b"V,,",
         b"400,1,48,A,,\r\n900\r\n",
     );
 }
 
 fn ends(page: &mut [u8]) {
     checked(page, b"the empty file", b"");
-    day_case(page, b"900,", b"20040101", b"A", b"900,\r\n");
+    day_case(page, b"900,", b"20040101", b"A,,", b"900,\r\n");
 }
 
 fn main() {
@@ -253,8 +416,20 @@ fn main() {
     covers(&mut page);
     ends(&mut page);
     sample(&mut page);
-    written(&mut page, b"the day written whole", 20030922092231);
+    written(
+        &mut page,
+        b"the day written whole",
+        20030922092231,
+        b'A',
+        b'E',
+        52,
+    );
     midnights();
     days_after();
     not_a_read(&mut page);
+    null_days();
+    null_runs();
+    null_reads();
+    null_total();
+    null_written();
 }

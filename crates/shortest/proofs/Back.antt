@@ -156,9 +156,9 @@ module _ (d : Day) (w : Whole d) where
       let q : List ℕ = qualityText (m .flag) (m .method) in
       let s : List ℕ = reasonText (m .reason) in
       let x : List ℕ = m .text in
-      let c : Carried 300 q s x = mark-carried 300 m f in
+      let c : Carried 300 q s x = mark-carried 300 m refl f in
       let no : isVaried (d .n) (top d w q s x c) ≡ false =
-      says d w q s x c .varied ∙ ap (λ (y : Mark). eqb (y .flag) 86) (mark-said 300 m f) ∙ ne-eqb (m .flag) 86 (no-v m f) in
+      says d w q s x c .varied ∙ ap (λ (y : Mark). eqb (y .flag) 86) (mark-said 300 m refl f) ∙ ne-eqb (m .flag) 86 (no-v m f) in
       record {
         block = record { top = top d w q s x c; runs = []; extra = [] };
         good = record {
@@ -170,7 +170,7 @@ module _ (d : Day) (w : Whole d) where
           unlike = λ e. absurd (true≢false (sym e ∙ no));
         };
         bytes-are = bytes-by d w q s x c [] (sym (uniform-top (d .marks) u)) (sym (uniform-tail (d .marks) u));
-        day = day-by d w q s x c [] (λ p. rw (no, says d w q s x c .mark, mark-said 300 m f) (ap (replicate (d .n)) k ∙ sym g));
+        day = day-by d w q s x c [] (λ p. rw (no, says d w q s x c .mark, mark-said 300 m refl f) (ap (replicate (d .n)) k ∙ sym g));
       }
 
   -- its longest runs are a cover that can be written

@@ -2,12 +2,12 @@
 use Prim.Native.Nat.{ℕ, zero, suc, _+_, _-_, _^_}
 use mathlib.Core.Path.{_≡_, refl, sym, ap, _∙_}
 use mathlib.Core.Logic.{_≢_}
-use mathlib.Core.Bool.{Bool, true, false, cond, _&&_, _||_, false≢true}
+use mathlib.Core.Bool.{Bool, true, false, cond, _||_, false≢true}
 use mathlib.Core.List.{List}
 use native.Mathlib.Omega.{arith}
 use lib.ListN.{length, getD, drop, replicate}
 use lib.Dec.{eqb, ltb}
-use borrow.Author.Tests.{eqb-true, eqb-false, ne-eqb, lt-ltb}
+use borrow.Author.Tests.{eqb-true, eqb-false, lt-ltb}
 use Rattle.ground.specs.Lists.{all}
 use Rattle.ground.proofs.Cases.{by, both}
 use Rattle.ground.proofs.Digits.{all-append}
@@ -27,7 +27,7 @@ use Rattle.format.specs.declared.Number.{Number}
 use Rattle.format.specs.declared.Number.the-variants.{Is, Bad}
 use Rattle.format.proofs.Numbers.{that-holds, under, under-is, number-under, small-under}
 use Rattle.format.proofs.Total.{values-fit}
-use Rattle.format.proofs.MarkText.{method-flag}
+use Rattle.format.proofs.MarkText.{alone-is, method-flag}
 use Rattle.passing.specs.Passes.{Passes}
 use Rattle.passing.proofs.Fit.{Fit, fine-fit}
 use Rattle.passing.proofs.Blocks.{headed}
@@ -70,11 +70,7 @@ Fits x = isGraded x ≡ true → flagIn x ≢ 86 → fitQuality (flagIn x) (meth
 
 fits-alone : (k c : ℕ) (b : Bool) → standsAlone k c ≡ true → Fits (cond b (Of c noMethod) Graded.Bad)
 unfolding fitQuality standsAlone
-fits-alone k c true a h n = let e : c ≡ 65 = eqb-true c 65 (or-left (eqb c 65) (eqb c 86 && eqb k 300) a (rw (ne-eqb c 86 n))) in rw e
-  where
-    or-left : (x y : Bool) → (x || y) ≡ true → y ≡ false → x ≡ true
-    or-left true y g z = refl
-    or-left false y g z = sym z ∙ g
+fits-alone k c true a h n = alone-is k c a (λ e. rw e) (λ e. rw e) (λ e. absurd (n e))
 fits-alone k c false a h n = absurd (false≢true h)
 
 fits-method : (c : ℕ) (x : Number) (b : Bool) → takesMethod c ≡ b → under 100 x → Fits (cond b (withMethod c x) Graded.Bad)

@@ -13,7 +13,7 @@ use Rattle.ground.proofs.Digits.{all-append, all-padded, all-dec}
 use Rattle.format.specs.Bytes.{fieldByte, endSpace, isText}
 use Rattle.format.specs.Texts.{isDescription}
 use Rattle.format.specs.Numbers.{reasonOf, noReason}
-use Rattle.format.specs.Quality.{standsAlone, takesMethod, noMethod, qualityOf, needsReason, across, Mark}
+use Rattle.format.specs.Quality.{ofIntervals, standsAlone, takesMethod, noMethod, qualityOf, needsReason, across, Mark}
 use Rattle.format.specs.Records.{agrees}
 use Rattle.format.specs.Block.{fitQuality, fitReason, fitMark, fractionText, valueText, qualityText, reasonText, loadText}
 use Rattle.format.proofs.NumberText.{reason-back}
@@ -56,7 +56,7 @@ flag-byte : (q m : ℕ) → fitQuality q m ≡ true → fieldByte q ≡ true
 unfolding fitQuality fieldByte takesMethod
 flag-byte q m h =
     by (standsAlone 400 q)
-    (λ t. rw (alone-is q t))
+    (λ t. alone-is 400 q t (λ e. rw e) (λ e. rw e) (λ e. rw e))
     (λ t. let w = and-true (takesMethod q) (ltb m 100) (rw t at h) in
     same-or q 69 (λ e. rw e) (λ e. same-or q 70 (λ f. rw f) (λ f. same-or q 83 (λ g. rw g) (λ g. absurd (false≢true (rw (ne-eqb q 69 e, ne-eqb q 70 f, ne-eqb q 83 g) at (w .0)))))))
 
@@ -92,17 +92,17 @@ fit-parts m h =
     let d = and-true (fitQuality (m .flag) (m .method)) (fitReason (m .reason)) (c .0) in
     record { quality = d .0; reason = d .1; described = c .1; bytes = b .1; together = a .1 }
 
-module _ (k : ℕ) (m : Mark) (h : fitMark m ≡ true) where
-  -- a fit mark's texts say the mark
+module _ (k : ℕ) (m : Mark) (i : ofIntervals k ≡ true) (h : fitMark m ≡ true) where
+  -- a fit mark's texts say the mark, in a record that says the quality of intervals
   pub mark-said : said k (qualityText (m .flag) (m .method)) (reasonText (m .reason)) (m .text) ≡ m
-  mark-said = let f = fit-parts m h in rw (quality-back k (m .flag) (m .method) (f .quality), reason-back (m .reason) (f .reason))
+  mark-said = let f = fit-parts m h in rw (quality-back k (m .flag) (m .method) i (f .quality), reason-back (m .reason) (f .reason))
 
   pub mark-carried : Carried k (qualityText (m .flag) (m .method)) (reasonText (m .reason)) (m .text)
   mark-carried =
       let f = fit-parts m h in
       record {
         marking = record {
-          graded = rw (quality-back k (m .flag) (m .method) (f .quality));
+          graded = rw (quality-back k (m .flag) (m .method) i (f .quality));
           reasoned = rw (reason-back (m .reason) (f .reason));
           described = f .described;
           bytes = f .bytes;

@@ -184,12 +184,12 @@ module _ (a k : ℕ) (m : Mark) (s : 1 ≤ k) (b : a + k < 10 ^ 4) (h : fitMark 
 
   pub written-mark : markIn (runWritten a (a + k) m) ≡ m
   written-mark =
-      run-says four (dec (a + 1)) (dec (a + k)) (qualityText (m .flag) (m .method)) (reasonText (m .reason)) (m .text) .mark ∙ mark-said 400 m h
+      run-says four (dec (a + 1)) (dec (a + k)) (qualityText (m .flag) (m .method)) (reasonText (m .reason)) (m .text) .mark ∙ mark-said 400 m refl h
 
   run-record : IsRecord 400 0 (runWritten a (a + k) m)
   unfolding rowOf obeys kindIn indicatorOf isKind numberOf areAll isDigit fieldByte qualitiesOf
   run-record =
-      let c = mark-carried 400 m h in
+      let c = mark-carried 400 m refl h in
       good-record 400 0 (Interval ∷ Interval ∷ Quality ∷ Reason ∷ Description ∷ []) four (dec (a + 1) ∷ dec (a + k) ∷ qualityText (m .flag) (m .method) ∷ reasonText (m .reason) ∷ m .text ∷ [])
       refl (λ z. omega arith) refl refl (
         dec-bytes (a + 1),

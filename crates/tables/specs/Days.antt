@@ -7,6 +7,7 @@ use lib.Dec.{eqb}
 use Rattle.ground.specs.Digits.{dec}
 use Rattle.ground.specs.Text.{bytes}
 use Rattle.format.specs.declared.DayHead.{DayHead}
+use Rattle.words.specs.Qualities.{qualityName}
 use Rattle.phrase.specs.Phrases.{twoText, dateText, clockText, timeText, cellText, rightText, pointText, beside}
 
 unfoldable pub datedText : ℕ → List ℕ
@@ -23,7 +24,7 @@ unfoldable pub titleText : DayHead → ℕ → List ℕ
 titleText d n = datedText (d .date) ++ intervalsText n (d .«length») ++ timeText (d .update) ++ loadedText (d .load)
 
 abbrev pub headings : List ℕ
-headings = bytes " no ends     value         quality  reason  description"
+headings = bytes " no ends     value         quality                 reason  description"
 
 -- when interval k from 1 ends, of n in a day: in minutes
 unfoldable pub endOf : ℕ → ℕ → ℕ
@@ -42,15 +43,18 @@ methodText method = cond (eqb method 255) [] (twoText method)
 unfoldable pub qualityText : ℕ → ℕ → ℕ → List ℕ
 qualityText flag method at = cellText 27 (flag ∷ []) at ++ methodText method
 
+unfoldable pub qualityNameText : ℕ → ℕ → List ℕ
+qualityNameText flag at = cellText 32 [] at ++ qualityName flag
+
 -- 65535 is no reason
 unfoldable pub reasonText : ℕ → ℕ → List ℕ
-reasonText code at = cond (eqb code 65535) [] (cellText 36 [] at ++ dec code)
+reasonText code at = cond (eqb code 65535) [] (cellText 51 [] at ++ dec code)
 
 unfoldable pub descriptionText : List ℕ → ℕ → List ℕ
-descriptionText t at = cond (eqb (length t) 0) [] (cellText 44 t at)
+descriptionText t at = cond (eqb (length t) 0) [] (cellText 59 t at)
 
 unfoldable pub markText : ℕ → ℕ → ℕ → List ℕ → ℕ → List ℕ
-markText flag method code t at = beside at (beside at (qualityText flag method at) (reasonText code)) (descriptionText t)
+markText flag method code t at = beside at (beside at (beside at (qualityText flag method at) (qualityNameText flag)) (reasonText code)) (descriptionText t)
 
 -- the line of interval k from 1, of n in its day
 unfoldable pub rowText : ℕ → ℕ → ℕ → ℕ → ℕ → ℕ → List ℕ → ℕ → List ℕ

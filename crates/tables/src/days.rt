@@ -9,10 +9,11 @@ use phrase::times::clock;
 use phrase::times::date;
 use phrase::times::time;
 use phrase::times::two;
+use words::qualities::name;
 ghost use mathlib.Core.Path.{_≡_};
 ghost use Prim.Native.Nat.{_≤_};
 ghost use Rattle.page.specs.Filled.{Filled};
-ghost use Rattle.tables.specs.Days.{datedText, intervalsText, loadedText, titleText, headings as Days·headings, endOf, endText, frontText, methodText, qualityText, reasonText, descriptionText, markText, rowText};
+ghost use Rattle.tables.specs.Days.{datedText, intervalsText, loadedText, titleText, headings as Days·headings, endOf, endText, frontText, methodText, qualityText, qualityNameText, reasonText, descriptionText, markText, rowText};
 
 // Where the columns of the table start, or, of numbers, end.
 const NUMBER: usize = 3;
@@ -23,9 +24,11 @@ const POINT: usize = 18;
 
 const QUALITY: usize = 27;
 
-const REASON: usize = 36;
+const QUALITY_NAME: usize = 32;
 
-const DESCRIPTION: usize = 44;
+const REASON: usize = 51;
+
+const DESCRIPTION: usize = 59;
 
 const NO_METHOD: u8 = 255;
 
@@ -75,7 +78,7 @@ pub fn headings(page: &mut [u8], at: usize) -> usize
     put(
         page,
         at,
-        b" no ends     value         quality  reason  description",
+        b" no ends     value         quality                 reason  description",
     )
 }
 
@@ -125,6 +128,13 @@ fn quality(page: &mut [u8], at: usize, flag: u8, method: u8) -> usize
     method_digits(page, p, method)
 }
 
+fn quality_name(page: &mut [u8], at: usize, flag: u8) -> usize
+    ensures { λ r. ⌜ Filled (now (page .entry)) at (qualityNameText flag at) r (now (page .exit)) ⌝ }
+{
+    let p = cell(page, at, QUALITY_NAME, b"");
+    name(page, p, flag)
+}
+
 fn reason(page: &mut [u8], at: usize, code: u16) -> usize
     ensures { λ r. ⌜ Filled (now (page .entry)) at (reasonText code at) r (now (page .exit)) ⌝ }
 {
@@ -148,8 +158,9 @@ fn mark(page: &mut [u8], at: usize, flag: u8, method: u8, code: u16, text: &[u8]
     ensures { λ r. ⌜ Filled (now (page .entry)) at (markText flag method code (now (text .entry)) at) r (now (page .exit)) ⌝ }
 {
     let p = quality(page, at, flag, method);
-    let q = reason(page, p, code);
-    description(page, q, text)
+    let q = quality_name(page, p, flag);
+    let r = reason(page, q, code);
+    description(page, r, text)
 }
 
 // Interval k from 1, of n in its day.

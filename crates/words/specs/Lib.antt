@@ -1,3 +1,4 @@
 pub mod Lists
 pub mod Names
 pub mod Meanings
+pub mod Qualities

@@ -1,4 +1,5 @@
-// What things of the format are called in words: the fields of each kind of record, and what a refusal's number means.
+// What things of the format are called in words: the fields of each kind of record, the qualities of an interval, and what a refusal's number means.
 pub mod fields;
 pub mod lists;
+pub mod qualities;
 pub mod refusals;
