@@ -27,6 +27,13 @@ fn answered(page: &mut [u8], at: usize, file: &[u8]) {
     say(page, q);
 }
 
+// Two texts with a third between them.
+fn pair(page: &mut [u8], at: usize, a: &[u8], between: &[u8], b: &[u8]) -> usize {
+    let p = put(page, at, a);
+    let q = put(page, p, between);
+    put(page, q, b)
+}
+
 fn checked(page: &mut [u8], name: &[u8], file: &[u8]) {
     let p = put(page, 0, name);
     answered(page, p, file);
@@ -77,10 +84,8 @@ fn read_case(date: &[u8], time: &[u8]) {
     let p = file_of(&mut file, date, b"A,,", b"500,O,,");
     let q = put(&mut file, p, time);
     let n = put(&mut file, q, b",\r\n900\r\n");
-    let a = put(&mut page, 0, date);
-    let b = put(&mut page, a, b" read at ");
-    let c = put(&mut page, b, time);
-    answered(&mut page, c, part(&file, 0, n));
+    let a = pair(&mut page, 0, date, b" read at ", time);
+    answered(&mut page, a, part(&file, 0, n));
 }
 
 fn midnights() {
@@ -140,7 +145,7 @@ fn sample(page: &mut [u8]) {
 
 // ---- days that are written whole
 
-// Day 0 of the file.
+// What is read of day 0 of the file.
 fn read(file: &[u8]) {
     let mut page = io::buffer();
     let mut values = [0u64; 48];
@@ -174,7 +179,7 @@ fn read(file: &[u8]) {
     say(&mut page, q);
 }
 
-// What is read from a file with the channel and the block.
+// The block in a file, read.
 fn read_back(block: &[u8]) {
     let mut file = io::buffer();
     let p = channel(&mut file);
@@ -303,16 +308,12 @@ fn null_days() {
 fn runs_case(before: &[u8], behind: &[u8]) {
     let mut page = io::buffer();
     let a = put(&mut page, 0, b"400s of ");
-    let b = put(&mut page, a, before);
-    let c = put(&mut page, b, b" and ");
-    let d = put(&mut page, c, behind);
+    let b = pair(&mut page, a, before, b" and ", behind);
     let mut file = io::buffer();
     let p = file_of(&mut file, b"20040101", b"V,,", b"400,1,24,");
-    let q = put(&mut file, p, before);
-    let r = put(&mut file, q, b"\r\n400,25,48,");
-    let s = put(&mut file, r, behind);
-    let n = put(&mut file, s, b"\r\n900\r\n");
-    answered(&mut page, d, part(&file, 0, n));
+    let q = pair(&mut file, p, before, b"\r\n400,25,48,", behind);
+    let n = put(&mut file, q, b"\r\n900\r\n");
+    answered(&mut page, b, part(&file, 0, n));
 }
 
 fn null_runs() {
@@ -337,12 +338,10 @@ fn null_runs() {
 fn reads_case(previous: &[u8], current: &[u8]) {
     let mut page = io::buffer();
     let a = put(&mut page, 0, b"a 250 of ");
-    let b = put(&mut page, a, previous);
-    let c = put(&mut page, b, b" and ");
-    let d = put(&mut page, c, current);
+    let b = pair(&mut page, a, previous, b" and ", current);
     let mut file = io::buffer();
     let n = thirteen(&mut file, b"20031001103230", previous, current);
-    answered(&mut page, d, part(&file, 0, n));
+    answered(&mut page, b, part(&file, 0, n));
 }
 
 fn null_reads() {
@@ -381,7 +380,7 @@ fn null_written() {
     );
 }
 
-// ---- 01's own
+// ---- dates, covers and ends
 
 fn dates(page: &mut [u8]) {
     day_case(page, b"20040229", b"20040229", b"A,,", b"900\r\n");
