@@ -31,7 +31,7 @@ pub fn check_block(block: &[u8], length: u32) -> Result<BlockRead, Refusal> {
 mod tests {
     use super::*;
     use crate::check::LONGEST_FILE;
-    use crate::settled::settled_read_times;
+    use crate::settled::{settled_read_times, NULL_DAYS};
 
     const CHANNEL_30: &str = "200,VABD000163,E1Q1,1,E1,N1,METSER123,kWh,30,20040120\r\n";
     const COVER: &str = "400,1,31,A,,\r\n400,32,48,E52,,\r\n";
@@ -268,6 +268,15 @@ mod tests {
         }
         let cover = v_day("400,1,24,A,,\r\n400,25,48,S14,,\r\n");
         assert_eq!(refused(&cover), refusal_at(&cover, "S14", 7, 2, 4));
+    }
+
+    #[test]
+    fn null_data_stands_alone_in_300s_and_400s() {
+        for (note, under, refusal) in NULL_DAYS {
+            let block = day_30(note) + under;
+            let refusal = refusal.map(|(number, record, field, part)| refusal_at(&block, part, number, record, field));
+            assert_eq!(check_block(block.as_bytes(), 30).err(), refusal, "{note} {under:?}");
+        }
     }
 
     #[test]

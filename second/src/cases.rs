@@ -7,6 +7,8 @@ mod damage;
 mod files;
 #[cfg(test)]
 mod midnights;
+#[cfg(test)]
+mod null_data;
 mod requests;
 mod sweep;
 mod words;
@@ -14,11 +16,12 @@ mod writes;
 
 use chance::Chance;
 
-/// The cases with these numbers have files at the limit of length and above it. There are few, as they are large.
-const LARGE_CASES: [u64; 3] = [250, 500, 750];
+/// The cases with these numbers have files at the limit of length and above it. There are few, as they are large. They
+/// and the next two stand where no sweep has a turn, as its turn would be lost.
+const LARGE_CASES: [u64; 3] = [250, 500, 745];
 
 /// The case with this number has a block that is longer than any file may be.
-const LARGE_BLOCK_CASE: u64 = 1000;
+const LARGE_BLOCK_CASE: u64 = 990;
 
 /// The case with this number totals a channel that adds up to nearly as much as one can.
 const LARGEST_TOTAL_CASE: u64 = 1250;
@@ -35,6 +38,8 @@ const AIMED_PER_ROUND: u64 = 4;
 const SWEPT_PER_ROUND: u64 = 9;
 /// So many blocks sweep theirs.
 const SWEPT_BLOCKS_PER_ROUND: u64 = 3;
+/// In one round of so many, the sweep of null data takes the place of an accepted file, a fit day and an accepted block.
+const NULL_DATA_EVERY: u64 = 2;
 
 /// One case, its line and its bytes.
 pub fn case(seed: u64, index: u64) -> Vec<u8> {
@@ -51,7 +56,10 @@ pub fn case(seed: u64, index: u64) -> Vec<u8> {
     let round = index / ROUND;
     // Which one of a sweep: another seed begins elsewhere.
     let swept = |per_round: u64, place: u64| seed.wrapping_add(round * per_round + place);
+    let null_turn = seed.wrapping_add(round / NULL_DATA_EVERY);
+    let has_null_turn = round % NULL_DATA_EVERY == 0;
     match index % ROUND {
+        0 if has_null_turn => requests::for_accepted_file(&sweep::file_with_null_data(chance, null_turn), chance),
         0..=2 => requests::for_accepted_file(&files::accepted(chance).bytes(), chance),
         3..=4 => requests::for_file(&damage::damaged(chance, &files::accepted), chance),
         place @ 5..=8 => {
@@ -66,9 +74,11 @@ pub fn case(seed: u64, index: u64) -> Vec<u8> {
         }
         20 => requests::for_file(&sweep::file_with_order(chance, swept(1, 0)), chance),
         21 => requests::for_file(&sweep::file_with_read_time(chance, swept(1, 0)), chance),
+        22 if has_null_turn => writes::with_null_data(chance, null_turn),
         22..=23 => writes::fit(chance),
         24..=25 => writes::unfit(chance),
         26 => writes::with_several_faults(chance),
+        27 if has_null_turn => blocks::with_null_data(chance, null_turn),
         27 => blocks::accepted(chance),
         28 => blocks::damaged(chance),
         29 => blocks::aimed(chance, BLOCK_AIMS[round as usize % BLOCK_AIMS.len()]),
@@ -97,6 +107,13 @@ mod tests {
         for number in 1..=LAST {
             let can_come = BLOCK_AIMS.contains(&number);
             assert_eq!(tally.blocks.refusals(number) > 0, can_come, "refusal {number} of a block\n{lines}");
+        }
+    }
+
+    #[test]
+    fn no_large_case_takes_the_turn_of_a_sweep() {
+        for index in [&LARGE_CASES[..], &[LARGE_BLOCK_CASE, LARGEST_TOTAL_CASE]].concat() {
+            assert!(matches!(index % ROUND, 1..=10 | 23..=26 | 28..=29), "case {index}");
         }
     }
 

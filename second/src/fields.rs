@@ -39,7 +39,10 @@ pub enum Rule {
     Value,
     /// The quality of a whole day, which alone may be `V`.
     DayQuality,
-    Quality,
+    /// The quality of a 400's intervals.
+    IntervalQuality,
+    /// The quality of a read in a 250, which alone may not be `N`.
+    ReadQuality,
     Reason,
     Description,
     IntervalNumber,
@@ -78,7 +81,8 @@ impl Rule {
             Rule::ReadTime => Rule::TimeOrEmpty.allows_content(field) || field == END_OF_LAST_DAY,
             Rule::Value => value(field).is_some(),
             Rule::DayQuality => quality(field).is_some(),
-            Rule::Quality => quality(field).is_some_and(|quality| quality.flag != b'V'),
+            Rule::IntervalQuality => quality(field).is_some_and(|quality| quality.flag != b'V'),
+            Rule::ReadQuality => Rule::IntervalQuality.allows_content(field) && field != b"N",
             Rule::Reason => field.is_empty() || plain_number(field, 3).is_some(),
             Rule::Description => field.len() <= LONGEST_DESCRIPTION,
             Rule::IntervalNumber => plain_number(field, 4).is_some(),
@@ -247,10 +251,10 @@ pub struct Quality {
     pub method: u8,
 }
 
-/// A quality as it may stand in a 300. Other records rule out `V` besides.
+/// A quality as it may stand in a 300. `V` may stand nowhere else; `N`, null data, in a 400 too, not in a 250.
 pub fn quality(field: &[u8]) -> Option<Quality> {
     match field {
-        [flag @ (b'A' | b'V')] => Some(Quality { flag: *flag, method: NO_METHOD }),
+        [flag @ (b'A' | b'N' | b'V')] => Some(Quality { flag: *flag, method: NO_METHOD }),
         [flag @ (b'E' | b'F' | b'S'), method @ ..] if method.len() == 2 && all_digits(method) => {
             Some(Quality { flag: *flag, method: decimal(method) as u8 })
         }

@@ -16,7 +16,7 @@ pub struct Note<'a> {
 }
 
 impl Note<'_> {
-    /// S and F need a reason; reason 0 needs a description; V has neither.
+    /// S and F need a reason; reason 0 needs a description; V has neither. They hold for N as for A.
     pub fn keeps_rules_across(&self) -> bool {
         let has_reason = self.reason != NO_REASON;
         let has_description = !self.description.is_empty();

@@ -469,6 +469,23 @@ mod tests {
     }
 
     #[test]
+    fn null_data_is_answered_by_its_letters_byte_and_no_method() {
+        let channel = "100,NEM12,200301011534,MDP1,Ret1\r\n200,VABD000163,E1Q1,1,E1,N1,MET,kWh,30,\r\n";
+        let values = "0.5,".repeat(48);
+        let cover = "400,1,47,A,,\r\n400,48,48,N,,\r\n";
+        let file = format!("{channel}300,20030501,{values}V,,,20030501153445,\r\n{cover}900\r\n");
+        let intervals = " 500000/65/255/65535/0/0".repeat(47) + " 500000/78/255/65535/0/0";
+        let length = file.len();
+        let expected = format!("accepted 20030501 48 20030501153445 0{intervals}\n");
+        assert_eq!(answers(&format!("day 0 48 {length}\n{file}\n")), expected);
+        assert_eq!(answers(&format!("total 0 {length}\n{file}\n")), "accepted 24000000\n");
+
+        let case = write_case("20030922 30 20030922092231 0 200 48 48 48 48 48 48 0", 48, &"3000000 ".repeat(48));
+        let block = format!("300,20030922,{}N,,,20030922092231,\r\n", "3,".repeat(48));
+        assert_eq!(answers(&case.replace("65 ", "78 ")), format!("accepted {} 1\n{block}", block.len()));
+    }
+
+    #[test]
     fn a_day_is_answered_on_one_line() {
         let values = "1.5,".repeat(48);
         let file = format!(

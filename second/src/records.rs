@@ -46,12 +46,12 @@ pub fn layout(kind: Kind, n: usize) -> Vec<Rule> {
             rules.extend([DayQuality, Reason, Description, Time, TimeOrEmpty]);
             rules
         }
-        Kind::R400 => vec![Indicator, IntervalNumber, IntervalNumber, Quality, Reason, Description],
+        Kind::R400 => vec![Indicator, IntervalNumber, IntervalNumber, IntervalQuality, Reason, Description],
         Kind::R500 => vec![Indicator, TransCode, ServiceOrder, ReadTime, ReadOrEmpty],
         Kind::R250 => {
             let mut rules = vec![Indicator, Nmi, Configuration, Register, Suffix, DataStream, Serial, Direction];
             for _previous_and_current in 0..2 {
-                rules.extend([Read, Time, Quality, Reason, Description]);
+                rules.extend([Read, Time, ReadQuality, Reason, Description]);
             }
             rules.extend([Value, Unit, DateOrEmpty, Time, TimeOrEmpty]);
             rules
@@ -63,7 +63,7 @@ pub fn layout(kind: Kind, n: usize) -> Vec<Rule> {
 
 /// The numbers of a layout's quality fields. Reason and description follow each of them.
 pub fn quality_fields(rules: &[Rule]) -> Vec<usize> {
-    let is_quality = |rule: &Rule| matches!(rule, Rule::DayQuality | Rule::Quality);
+    let is_quality = |rule: &Rule| matches!(rule, Rule::DayQuality | Rule::IntervalQuality | Rule::ReadQuality);
     (1..=rules.len()).filter(|number| is_quality(&rules[number - 1])).collect()
 }
 

@@ -1,6 +1,6 @@
 //! The settled cases of the rules, and the order of refusals, each with the answer that the rules' own words give.
 
-use crate::check::{check, Summary};
+use crate::check::{check, read_file, Summary};
 use crate::day::{read_day, LentLists};
 use crate::fields::{day_after, is_date, is_real_date, quality, value, Quality, Rule, END_OF_LAST_DAY, NO_METHOD};
 use crate::notes::NO_REASON;
@@ -106,11 +106,15 @@ fn a_read_time_alone_may_be_the_end_of_the_last_day() {
 fn qualities_are_enumerated() {
     assert_eq!(quality(b"E52"), Some(Quality { flag: b'E', method: 52 }));
     assert_eq!(quality(b"A"), Some(Quality { flag: b'A', method: NO_METHOD }));
-    for refused in ["v", "A14", "a", "E5", "E", "e52", "V14", "E521", ""] {
+    assert_eq!(quality(b"N"), Some(Quality { flag: 78, method: 255 }));
+    for refused in ["v", "A14", "a", "E5", "E", "e52", "V14", "E521", "", "n", "N14", "N00", "n14", "NN", "AN", "NV"] {
         assert_eq!(quality(refused.as_bytes()), None, "{refused}");
     }
-    assert!(Rule::DayQuality.allows(b"V"));
-    assert!(!Rule::Quality.allows(b"V"));
+    for (rule, allowed) in [(Rule::DayQuality, "ANV"), (Rule::IntervalQuality, "AN"), (Rule::ReadQuality, "A")] {
+        for letter in ["A", "N", "V"] {
+            assert_eq!(rule.allows(letter.as_bytes()), allowed.contains(letter), "{rule:?} {letter}");
+        }
+    }
 }
 
 #[test]
@@ -416,6 +420,118 @@ fn no_other_time_is_the_end_of_the_last_day() {
     assert_eq!(refused(&file), refusal_at(&file, "220001010000", 6, 0, 3));
 }
 
+// --- Null data ---
+
+/// A half-hour day: quality, reason and description in its 300, the records under it, and its refusal if it has one.
+/// That has its number, its record counted from the 300, its field, and the part of the day that stands at its place.
+type NullDay = (&'static str, &'static str, Option<(u64, usize, usize, &'static str)>);
+
+pub const NULL_DAYS: [NullDay; 40] = [
+    // In a 300. A reason may stand and need not, reason 0 needs a description.
+    ("N,,", "", None),
+    ("N,,why", "", None),
+    ("N,77,", "", None),
+    ("N,77,why", "", None),
+    ("N,0,why", "", None),
+    ("N,0,", "", Some((7, 0, 51, "N,0,"))),
+    ("N,00,", "", Some((6, 0, 52, "00,,2003"))),
+    // It stands alone, as a capital.
+    ("N14,,", "", Some((6, 0, 51, "N14"))),
+    ("N00,77,", "", Some((6, 0, 51, "N00"))),
+    ("N255,,", "", Some((6, 0, 51, "N255"))),
+    ("NN,,", "", Some((6, 0, 51, "NN"))),
+    ("n,,", "", Some((6, 0, 51, "n,,"))),
+    ("n,0,", "", Some((6, 0, 51, "n,0,"))),
+    ("N ,,", "", Some((6, 0, 51, "N ,,"))),
+    (" N,,", "", Some((6, 0, 51, " N,,"))),
+    // 400s stand under a V alone.
+    ("N,,", "400,1,48,N,,\r\n", Some((4, 1, 0, "400,1"))),
+    ("N,,", "400,1,20,N,,\r\n400,21,48,A,,\r\n", Some((4, 1, 0, "400,1"))),
+    ("N,,", "500,S,,,\r\n", None),
+    // In 400s, beside other qualities.
+    ("V,,", "400,1,20,A,,\r\n400,21,48,N,,\r\n", None),
+    ("V,,", "400,1,20,N,,\r\n400,21,48,A,,\r\n", None),
+    ("V,,", "400,1,47,A,77,why\r\n400,48,48,N,77,why\r\n", None),
+    ("V,,", "400,1,1,N,0,why\r\n400,2,48,A,0,why\r\n500,S,,,\r\n", None),
+    ("V,,", "400,1,20,N,,\r\n400,21,48,E52,,\r\n", None),
+    ("V,,", "400,1,20,S14,77,\r\n400,21,48,N,77,\r\n", None),
+    ("V,,", "400,1,20,N,,\r\n400,21,30,N,,\r\n400,31,48,A,,\r\n", None),
+    ("V,,", "400,1,20,A,,\r\n400,21,48,N14,,\r\n", Some((6, 2, 4, "N14"))),
+    ("V,,", "400,1,48,N14,,\r\n", Some((6, 1, 4, "N14"))),
+    ("V,,", "400,1,20,n,,\r\n", Some((6, 1, 4, "n,,"))),
+    ("V,,", "400,1,20,N ,,\r\n", Some((6, 1, 4, "N ,,"))),
+    ("V,,", "400,1,20,A,,\r\n400,21,48,N,0,\r\n", Some((7, 2, 4, "N,0,"))),
+    ("V,,", "400,1,48,N,0,\r\n", Some((7, 1, 4, "N,0,"))),
+    ("V,,", "400,1,20,N,,\r\n500,S,,,\r\n", Some((10, 2, 0, "500,S"))),
+    // Nothing but equal null data is no V day. Unequal null data is one.
+    ("V,,", "400,1,48,N,,\r\n", Some((11, 1, 0, "400,1"))),
+    ("V,,", "400,1,48,N,77,why\r\n", Some((11, 1, 0, "400,1"))),
+    ("V,,", "400,1,20,N,,\r\n400,21,48,N,,\r\n", Some((11, 2, 0, "400,21"))),
+    ("V,,", "400,1,20,N,0,why\r\n400,21,48,N,0,why\r\n", Some((11, 2, 0, "400,21"))),
+    ("V,,", "400,1,20,N,77,\r\n400,21,48,N,79,\r\n", None),
+    ("V,,", "400,1,20,N,,\r\n400,21,48,N,77,\r\n", None),
+    ("V,,", "400,1,20,N,,why\r\n400,21,48,N,,how\r\n", None),
+    ("V,,", "400,1,20,N,0,why\r\n400,21,48,N,,why\r\n", None),
+];
+
+#[test]
+fn null_data_stands_alone_in_300s_and_400s() {
+    for (note, under, refusal) in NULL_DAYS {
+        let file = channel_file(&format!("{}{under}", day_30("20030501", note)));
+        let refusal = refusal.map(|(number, record, field, part)| refusal_at(&file, part, number, record + 2, field));
+        assert_eq!(check(file.as_bytes()).err(), refusal, "{note} {under:?}");
+    }
+}
+
+#[test]
+fn null_data_stands_in_no_250() {
+    let file = |previous: &str, current: &str| {
+        let sample = SAMPLE_250.replace(",A,,,", &format!(",{previous},")).replace("E64,77,", current);
+        format!("{HEADER_13}{sample}{END}")
+    };
+    assert!(is_accepted(&file("A,,", "A,77,")));
+    // A field that breaks its rule is met before reason 0 without a description is.
+    for note in ["N,,", "N,77,", "N,,why", "N,0,why", "N,0,", "N14,,", "n,,"] {
+        let previous = file(note, "A,,");
+        assert_eq!(refused(&previous), refusal_at(&previous, note, 6, 1, 11), "{note}");
+        let current = file("A,,", note);
+        assert_eq!(refused(&current), refusal_at(&current, note, 6, 1, 16), "{note}");
+        let both = file(note, note);
+        assert_eq!(refused(&both), refusal_at(&both, note, 6, 1, 11), "{note}");
+    }
+}
+
+#[test]
+fn values_of_null_data_are_written() {
+    for value in ["", "N", "-", "null"] {
+        let day = day_30("20030501", "N,,").replacen(",1,", &format!(",{value},"), 1);
+        let place = HEADER_12.len() + CHANNEL_30.len() + "300,20030501,".len();
+        assert_eq!(refused(&channel_file(&day)), Refusal { number: 6, place, record: 2, field: 3 }, "{value}");
+    }
+}
+
+#[test]
+fn totals_add_the_values_of_null_data() {
+    let (actual, null) = (day_30("20030501", "A,,"), day_30("20030502", "N,,"));
+    let part = day_30("20030503", "V,,") + "400,1,20,N,,\r\n400,21,48,A,,\r\n";
+    let file = channel_file(&format!("{actual}{null}{part}"));
+    assert_eq!(total(file.as_bytes(), 0), Ok(3 * 48_000_000));
+    assert_eq!(total(channel_file(&null).as_bytes(), 0), Ok(48_000_000));
+    assert_eq!(total(channel_file(&part).as_bytes(), 0), Ok(48_000_000));
+}
+
+#[test]
+fn null_data_is_kept_by_its_letter_without_a_method() {
+    for (note, under, nulls) in [("N,77,", "", 0..48), ("V,,", "400,1,20,A,77,\r\n400,21,48,N,77,\r\n", 20..48)] {
+        let file = channel_file(&format!("{}{under}", day_30("20030501", note)));
+        let content = read_file(file.as_bytes()).expect("a file to be accepted");
+        for (index, note) in content.days[0].notes.iter().enumerate() {
+            let flag = if nulls.contains(&index) { 78 } else { 65 };
+            assert_eq!((note.quality.flag, note.quality.method, note.reason), (flag, 255, 77), "{index}");
+        }
+    }
+}
+
 // --- Reading a day ---
 
 #[test]
@@ -541,6 +657,65 @@ fn equal_descriptions_are_one_stretch_wherever_they_lie() {
 }
 
 #[test]
+fn a_whole_day_of_null_data_is_a_300() {
+    let mut day = WriteTest::new();
+    day.flags.fill(b'N');
+    let written = |note: &str| format!("300,20030922,{}{note},20030922092231,\r\n", "3,".repeat(48));
+    assert_eq!(day.block(), written("N,,"));
+    day.reasons.fill(77);
+    assert_eq!(day.block(), written("N,77,"));
+    (day.text, day.reasons) = (b"why".to_vec(), vec![0; 48]);
+    day.lengths.fill(3);
+    assert_eq!(day.block(), written("N,0,why"));
+}
+
+#[test]
+fn null_data_is_joined_with_equal_null_data_only() {
+    let written = |cover: &[&str]| {
+        let records: String = cover.iter().map(|record| format!("400,{record}\r\n")).collect();
+        format!("300,20030922,{}V,,,20030922092231,\r\n{records}", "3,".repeat(48))
+    };
+    let mut day = WriteTest::new();
+    day.flags[10..20].fill(b'N');
+    day.flags[47] = b'N';
+    assert_eq!(day.block(), written(&["1,10,A,,", "11,20,N,,", "21,47,A,,", "48,48,N,,"]));
+
+    day.reasons.fill(77);
+    day.flags[..47].fill(b'N');
+    day.flags[47] = b'A';
+    assert_eq!(day.block(), written(&["1,47,N,77,", "48,48,A,77,"]));
+
+    day.flags.fill(b'N');
+    day.reasons[5] = 79;
+    assert_eq!(day.block(), written(&["1,5,N,77,", "6,6,N,79,", "7,48,N,77,"]));
+
+    (day.text, day.reasons) = (b"why,why,how".to_vec(), vec![NO_REASON; 48]);
+    day.lengths.fill(3);
+    day.starts[10..20].fill(4);
+    day.starts[20..].fill(8);
+    assert_eq!(day.block(), written(&["1,20,N,,why", "21,48,N,,how"]));
+
+    (day.flags[20], day.methods[20]) = (b'E', 52);
+    assert_eq!(day.block(), written(&["1,20,N,,why", "21,21,E52,,how", "22,48,N,,how"]));
+}
+
+#[test]
+fn written_null_data_reads_back() {
+    let mut day = WriteTest::new();
+    day.values[12] = 4_500_000;
+    day.flags[10..20].fill(b'N');
+    day.reasons[15..25].fill(77);
+    let file = channel_file(&day.block());
+    let content = read_file(file.as_bytes()).expect("a file to be accepted");
+    let read = &content.days[0];
+    assert_eq!(read.values, day.values);
+    assert_eq!(read.notes.iter().map(|note| note.quality.flag).collect::<Vec<u8>>(), day.flags);
+    assert_eq!(read.notes.iter().map(|note| note.quality.method).collect::<Vec<u8>>(), day.methods);
+    assert_eq!(read.notes.iter().map(|note| note.reason).collect::<Vec<u16>>(), day.reasons);
+    assert_eq!(total(file.as_bytes(), 0), Ok(48 * 3_000_000 + 1_500_000));
+}
+
+#[test]
 fn writing_asks_in_its_order() {
     let mut day = WriteTest::new();
     day.values[0] = 10_000_000_000_000;
@@ -558,7 +733,7 @@ fn writing_asks_in_its_order() {
 
 #[test]
 fn unfit_days() {
-    let faults: [fn(&mut WriteTest); 21] = [
+    let faults: [fn(&mut WriteTest); 27] = [
         |day| day.head.date = 20030229,
         |day| day.head.date = 22000101,
         |day| day.head.update = 20030922240000,
@@ -567,6 +742,12 @@ fn unfit_days() {
         |day| day.head.load = 22000101000000,
         |day| day.flags[5] = b'V',
         |day| day.methods[5] = 14,
+        |day| (day.flags[5], day.methods[5]) = (b'N', 14),
+        |day| (day.flags[5], day.methods[5]) = (b'N', 0),
+        |day| (day.flags[5], day.methods[5]) = (b'N', 254),
+        |day| (day.flags[5], day.reasons[5]) = (b'N', 0),
+        |day| (day.flags[5], day.reasons[5]) = (b'N', 1000),
+        |day| day.flags[5] = b'n',
         |day| day.flags[5] = b'E',
         |day| (day.flags[5], day.methods[5]) = (b'E', 100),
         |day| (day.flags[5], day.methods[5]) = (b'S', 14),
@@ -590,12 +771,15 @@ fn unfit_days() {
 
 #[test]
 fn fit_days_at_the_limits() {
-    let limits: [fn(&mut WriteTest); 7] = [
+    let limits: [fn(&mut WriteTest); 10] = [
         |day| day.starts[5] = usize::MAX,
         |day| (day.flags[5], day.methods[5], day.reasons[5]) = (b'S', 0, 999),
         |day| (day.flags[5], day.methods[5]) = (b'E', 99),
         |day| (day.text, day.lengths[5], day.reasons[5]) = (b"x".to_vec(), 1, 0),
         |day| (day.text, day.lengths[5]) = (vec![b'a'; 240], 240),
+        |day| day.flags[5] = b'N',
+        |day| (day.flags[5], day.reasons[5]) = (b'N', 999),
+        |day| (day.flags[5], day.text, day.lengths[5], day.reasons[5]) = (b'N', b"x".to_vec(), 1, 0),
         |day| day.values.push(u64::MAX),
         |day| day.flags.extend([0, 0]),
     ];

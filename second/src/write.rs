@@ -1,6 +1,6 @@
 //! Writing one day as a day block: a 300, and 400s where its intervals don't all say the same.
 
-use crate::fields::{self, Quality, LONGEST_DESCRIPTION, NO_METHOD, VALUE_LIMIT};
+use crate::fields::{self, Quality, Rule, LONGEST_DESCRIPTION, NO_METHOD, VALUE_LIMIT};
 use crate::notes::{Note, NO_REASON};
 use crate::refusal::{Refusal, DAY_UNFIT, LENT_TOO_SHORT};
 
@@ -114,12 +114,9 @@ fn is_fit_note(note: &Note) -> bool {
         && note.keeps_rules_across()
 }
 
+/// A quality fits just when a 400 may have the field that writes it.
 fn is_fit_quality(quality: Quality) -> bool {
-    match quality.flag {
-        b'A' => quality.method == NO_METHOD,
-        b'E' | b'F' | b'S' => quality.method <= 99,
-        _ => false,
-    }
+    Rule::IntervalQuality.allows(&quality_field(quality))
 }
 
 fn is_fit_description(description: &[u8]) -> bool {
@@ -171,12 +168,17 @@ fn cover_record(stretch: &Stretch) -> Vec<u8> {
 
 /// Quality, reason and description.
 fn note_fields(note: &Note) -> [Vec<u8>; 3] {
-    let mut quality = vec![note.quality.flag];
-    if note.quality.method != NO_METHOD {
-        quality.extend(format!("{:02}", note.quality.method).bytes());
-    }
     let reason = if note.reason == NO_REASON { Vec::new() } else { note.reason.to_string().into_bytes() };
-    [quality, reason, note.description.to_vec()]
+    [quality_field(note.quality), reason, note.description.to_vec()]
+}
+
+/// The flag, and the method if there is one.
+fn quality_field(quality: Quality) -> Vec<u8> {
+    let mut field = vec![quality.flag];
+    if quality.method != NO_METHOD {
+        field.extend(format!("{:02}", quality.method).bytes());
+    }
+    field
 }
 
 /// A value without needless zeros, and without a point if nothing stands behind it.

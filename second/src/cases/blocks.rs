@@ -61,6 +61,12 @@ pub fn with_read_time(chance: &mut Chance, turn: u64) -> Vec<u8> {
     case(minutes, &sweep::block_with_read_time(chance, n, turn))
 }
 
+/// A block with each kind of null data in turn.
+pub fn with_null_data(chance: &mut Chance, turn: u64) -> Vec<u8> {
+    let (minutes, n) = some_length(chance);
+    case(minutes, &sweep::block_with_null_data(chance, n, turn))
+}
+
 // --- Aimed blocks ---
 
 /// A block aimed at one refusal.
@@ -195,6 +201,7 @@ mod tests {
             compare_with_file(&with_field(chance, index));
             compare_with_file(&with_order(chance, index));
             compare_with_file(&with_read_time(chance, index));
+            compare_with_file(&with_null_data(chance, index));
         }
     }
 }

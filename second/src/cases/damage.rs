@@ -7,7 +7,7 @@ use super::words;
 use crate::records::{kind_of, quality_fields, Kind};
 
 /// Bytes at the edges of what the rules tell apart.
-const EDGE_BYTES: &[u8] = b"\x00\x09\x0a\x0d\x1f\x20\x21#+,-./09:@AEFISVZ[`az{~\x7f\x80\xa0\xff";
+const EDGE_BYTES: &[u8] = b"\x00\x09\x0a\x0d\x1f\x20\x21#+,-./09:@AEFINSVZ[`anz{~\x7f\x80\xa0\xff";
 
 /// Bytes that may not stand in a record.
 pub const BYTES_OUTSIDE: &[u8] = b"\x00\x09\x0a\x0b\x0d\x1a\x1f\x7f\x80\x85\xa0\xff";
@@ -225,8 +225,7 @@ pub fn break_rules_across(chance: &mut Chance, row: &mut Row) {
     if qualities.is_empty() || rules.len() != row.len() {
         return;
     }
-    let in_day = kind_of(&row[0]) == Some(Kind::R300);
     let quality = chance.pick(&qualities) - 1;
-    let note = words::note_against_rules(chance, in_day);
+    let note = words::note_against_rules(chance, rules[quality]);
     row[quality..quality + 3].clone_from_slice(&note.fields());
 }

@@ -93,7 +93,7 @@ pub fn nem12(chance: &mut Chance) -> Draft {
     Draft { rows }
 }
 
-fn header(chance: &mut Chance, version: &[u8]) -> Row {
+pub fn header(chance: &mut Chance, version: &[u8]) -> Row {
     let mut header = row(chance, Kind::R100, 0);
     header[1] = version.to_vec();
     header
@@ -181,6 +181,27 @@ pub fn cover_all_alike(chance: &mut Chance, n: usize) -> Vec<Row> {
     rows_of_cover(&ends, &vec![&note; ends.len()])
 }
 
+/// 400s that cover the day and carry these notes, as they lie in its stretches.
+pub fn cover_with(chance: &mut Chance, n: usize, notes: &[NoteWords]) -> Vec<Row> {
+    let (ends, notes): (Vec<usize>, Vec<&NoteWords>) =
+        stretches_with(chance, n, notes.len()).into_iter().map(|(end, note)| (end, &notes[note])).unzip();
+    rows_of_cover(&ends, &notes)
+}
+
+/// Stretches into which a day is cut, each with its last interval and the place of its note among so many. The first of
+/// the notes lies first, the last one last, and any of them between. One note alone has one stretch.
+pub fn stretches_with(chance: &mut Chance, n: usize, notes: usize) -> Vec<(usize, usize)> {
+    if notes == 1 {
+        return vec![(n, 0)];
+    }
+    let ends = stretch_ends(chance, n, 2);
+    let mut stretches: Vec<(usize, usize)> = ends.into_iter().map(|end| (end, chance.below(notes))).collect();
+    let last = stretches.len() - 1;
+    stretches[0].1 = 0;
+    stretches[last].1 = notes - 1;
+    stretches
+}
+
 fn rows_of_cover(ends: &[usize], notes: &[&NoteWords]) -> Vec<Row> {
     let mut start = 1;
     let mut rows = Vec::new();
@@ -233,7 +254,7 @@ pub fn nem13(chance: &mut Chance) -> Draft {
 pub fn accumulation(chance: &mut Chance) -> Row {
     let mut accumulation = row(chance, Kind::R250, 0);
     for quality in [10, 15] {
-        let note = words::note(chance);
+        let note = words::note_with(chance, Rule::ReadQuality);
         accumulation[quality..quality + 3].clone_from_slice(&note.fields());
     }
     accumulation

@@ -1,11 +1,11 @@
 //! Sweeps: every field with every content that is interesting there, every kind of record at every place in the order
-//! of records, and every date at an edge with every read time near to it, one after another, in files and in blocks on
-//! their own. A long run leaves none of them out.
+//! of records, every date at an edge with every read time near to it, and every kind of null data alone and beside every
+//! other, one after another, in files and in blocks on their own. A long run leaves none of them out.
 
 use super::chance::Chance;
 use super::damage;
 use super::files::{self, Draft, Make, Row};
-use super::words::{self, Word};
+use super::words::{self, NoteWords, Word};
 use crate::fields::{decimal, Rule};
 use crate::records::{layout, Kind};
 use crate::write::record_bytes;
@@ -216,10 +216,88 @@ pub fn file_with_read_time(chance: &mut Chance, turn: u64) -> Vec<u8> {
     draft.bytes()
 }
 
+// --- Null data ---
+
+/// The notes of a day that has null data or nearly has.
+pub struct NullDay {
+    /// From its first interval to its last.
+    pub notes: Vec<NoteWords>,
+    /// Whether 400s carry them. Otherwise the 300 has its one note itself.
+    in_cover: bool,
+}
+
+/// Each kind of null data, kept or broken, for a whole day; and in V days each that is kept alone, beside each other and
+/// beside actual data that is else alike, an estimate beside the first, and those that are broken beside it.
+fn null_days() -> Vec<NullDay> {
+    let nulls = words::NULL_NOTES;
+    let broken = [&[words::UNEXPLAINED_NULL], &words::NEARLY_NULL[..]].concat();
+    let in_turn = |note, other| [vec![note, other], vec![other, note]];
+
+    let mut covers: Vec<Vec<[&str; 3]>> = Vec::new();
+    for null in nulls {
+        let [_, reason, description] = null;
+        covers.push(vec![null]);
+        covers.extend(nulls.map(|other| vec![null, other]));
+        covers.extend(in_turn(null, ["A", reason, description]));
+    }
+    for other in [&broken[..], &[["E52", "", ""]]].concat() {
+        covers.extend(in_turn(nulls[0], other));
+    }
+    let of_notes = |notes: Vec<[&str; 3]>, in_cover| {
+        let notes = notes.into_iter().map(NoteWords::of).collect();
+        NullDay { notes, in_cover }
+    };
+    let whole_days = nulls.into_iter().chain(broken).map(|note| of_notes(vec![note], false));
+    whole_days.chain(covers.into_iter().map(|notes| of_notes(notes, true))).collect()
+}
+
+pub fn null_day(turn: u64) -> NullDay {
+    let mut days = null_days();
+    days.swap_remove(which(turn, days.len()))
+}
+
+/// Null data as the note of each read of a 250, by the place of the read's quality: a 250 may have none.
+fn null_reads() -> Vec<(usize, NoteWords)> {
+    let notes = [&words::NULL_NOTES[..], &[words::UNEXPLAINED_NULL]].concat();
+    [10, 15].into_iter().flat_map(|quality| notes.iter().map(move |note| (quality, NoteWords::of(*note)))).collect()
+}
+
+fn rows_of_null_day(chance: &mut Chance, n: usize, day: &NullDay) -> Vec<Row> {
+    let date = words::date(chance);
+    if !day.in_cover {
+        return vec![files::day(chance, n, date, &day.notes[0].fields())];
+    }
+    let mut rows = vec![files::day(chance, n, date, &[b"V".to_vec(), Vec::new(), Vec::new()])];
+    rows.extend(files::cover_with(chance, n, &day.notes));
+    rows
+}
+
+pub fn block_with_null_data(chance: &mut Chance, n: usize, turn: u64) -> Vec<u8> {
+    Draft { rows: rows_of_null_day(chance, n, &null_day(turn)) }.bytes()
+}
+
+/// A file of one such day, or of one 250.
+pub fn file_with_null_data(chance: &mut Chance, turn: u64) -> Vec<u8> {
+    let (days, reads) = (null_days(), null_reads());
+    let which = which(turn, days.len() + reads.len());
+    let mut rows = Vec::new();
+    if let Some(day) = days.get(which) {
+        rows.extend([files::header(chance, b"NEM12"), files::channel_head(chance, 30)]);
+        rows.extend(rows_of_null_day(chance, 48, day));
+    } else {
+        let (quality, note) = &reads[which - days.len()];
+        let mut accumulation = files::accumulation(chance);
+        accumulation[*quality..quality + 3].clone_from_slice(&note.fields());
+        rows.extend([files::header(chance, b"NEM13"), accumulation]);
+    }
+    rows.push(files::row(chance, Kind::R900, 0));
+    Draft { rows }.bytes()
+}
+
 #[cfg(test)]
 mod tests {
     use super::*;
-    use crate::cases::{ROUND, SWEPT_BLOCKS_PER_ROUND, SWEPT_PER_ROUND};
+    use crate::cases::{NULL_DATA_EVERY, ROUND, SWEPT_BLOCKS_PER_ROUND, SWEPT_PER_ROUND};
 
     fn share_no_divisor(number: u64, other: u64) -> bool {
         if other == 0 {
@@ -235,14 +313,16 @@ mod tests {
         let rounds = 5000 / ROUND;
         let orders = leads(chance).len() * next_rows(chance, 48).len();
         let orders_of_block = leads_of_block(chance, 48).len() * block_ends(chance, 48).len();
-        for (what, count, per_round) in [
-            ("fields", targets(&KINDS).len(), SWEPT_PER_ROUND),
-            ("orders", orders, 1),
-            ("fields of blocks", targets(&KINDS_OF_BLOCK).len(), SWEPT_BLOCKS_PER_ROUND),
-            ("orders of blocks", orders_of_block, 1),
-            ("read times", dates_with_read_times().len(), 1),
+        for (what, count, swept) in [
+            ("fields", targets(&KINDS).len(), rounds * SWEPT_PER_ROUND),
+            ("orders", orders, rounds),
+            ("fields of blocks", targets(&KINDS_OF_BLOCK).len(), rounds * SWEPT_BLOCKS_PER_ROUND),
+            ("orders of blocks", orders_of_block, rounds),
+            ("read times", dates_with_read_times().len(), rounds),
+            ("days with null data", null_days().len(), rounds / NULL_DATA_EVERY),
+            ("days and reads with null data", null_days().len() + null_reads().len(), rounds / NULL_DATA_EVERY),
         ] {
-            assert!(count as u64 <= rounds * per_round, "{count} {what} to sweep");
+            assert!(count as u64 <= swept, "{count} {what} to sweep");
             assert!(share_no_divisor(count as u64, STEP), "{count} {what}");
         }
     }

@@ -227,6 +227,11 @@ pub struct NoteWords {
 }
 
 impl NoteWords {
+    pub fn of([quality, reason, description]: [&str; 3]) -> NoteWords {
+        let word = |text: &str| text.as_bytes().to_vec();
+        NoteWords { quality: word(quality), reason: word(reason), description: word(description) }
+    }
+
     pub fn fields(&self) -> [Word; 3] {
         [self.quality.clone(), self.reason.clone(), self.description.clone()]
     }
@@ -238,10 +243,11 @@ impl NoteWords {
     }
 }
 
-fn quality(chance: &mut Chance) -> Word {
-    let flag = chance.pick(b"AAAEEFS");
+/// A quality with one of these flags.
+fn quality(chance: &mut Chance, flags: &[u8]) -> Word {
+    let flag = chance.pick(flags);
     let mut quality = vec![flag];
-    if flag != b'A' {
+    if !b"AN".contains(&flag) {
         quality.extend(from_alphabet(chance, DIGITS, 2));
     }
     quality
@@ -266,8 +272,14 @@ fn description(chance: &mut Chance) -> Word {
 
 /// A note that a 400 may carry.
 pub fn note(chance: &mut Chance) -> NoteWords {
+    note_with(chance, Rule::IntervalQuality)
+}
+
+/// A note whose quality keeps this rule.
+pub fn note_with(chance: &mut Chance, quality: Rule) -> NoteWords {
     loop {
-        let note = NoteWords { quality: quality(chance), reason: reason(chance), description: description(chance) };
+        let quality = keeping(chance, quality);
+        let note = NoteWords { quality, reason: reason(chance), description: description(chance) };
         if note.keeps_rules_across() {
             return note;
         }
@@ -278,8 +290,8 @@ pub fn note(chance: &mut Chance) -> NoteWords {
 pub fn other_note(chance: &mut Chance, from: &NoteWords) -> NoteWords {
     loop {
         let mut other = from.clone();
-        match chance.below(6) {
-            0 => other.quality = quality(chance),
+        match chance.below(7) {
+            0 => other.quality = keeping(chance, Rule::IntervalQuality),
             1 => other.reason = reason(chance),
             2 => other.description = description(chance),
             // One byte of the description another.
@@ -292,6 +304,9 @@ pub fn other_note(chance: &mut Chance, from: &NoteWords) -> NoteWords {
                 let place = chance.between(1, 2);
                 other.quality[place] = chance.pick(DIGITS);
             }
+            // Null for actual, or actual for null.
+            5 if other.quality == b"A" => other.quality = b"N".to_vec(),
+            5 if other.quality == b"N" => other.quality = b"A".to_vec(),
             _ => other = note(chance),
         }
         if other != *from && other.keeps_rules_across() {
@@ -300,10 +315,21 @@ pub fn other_note(chance: &mut Chance, from: &NoteWords) -> NoteWords {
     }
 }
 
-/// A note, each part of which keeps its rule, that breaks a rule across them.
-pub fn note_against_rules(chance: &mut Chance, in_day: bool) -> NoteWords {
+/// Notes of null data that a 400 may carry, each told from the others by its reason or its description.
+pub const NULL_NOTES: [[&str; 3]; 5] =
+    [["N", "", ""], ["N", "77", ""], ["N", "79", ""], ["N", "", "why"], ["N", "0", "why"]];
+
+/// Null data with reason 0 and no description, which breaks a rule across fields.
+pub const UNEXPLAINED_NULL: [&str; 3] = ["N", "0", ""];
+
+/// Qualities that are nearly null data: one with a method, and a small letter.
+pub const NEARLY_NULL: [[&str; 3]; 2] = [["N14", "", ""], ["n", "", ""]];
+
+/// A note, each part of which keeps its rule, that breaks a rule across them. The quality's rule is this one.
+pub fn note_against_rules(chance: &mut Chance, quality: Rule) -> NoteWords {
     loop {
-        let quality = if in_day && chance.one_in(3) { b"V".to_vec() } else { quality(chance) };
+        let may_be_v = quality == Rule::DayQuality;
+        let quality = if may_be_v && chance.one_in(3) { b"V".to_vec() } else { keeping(chance, quality) };
         let note = NoteWords { quality, reason: reason(chance), description: description(chance) };
         if !note.keeps_rules_across() {
             return note;
@@ -351,7 +377,8 @@ pub fn keeping(chance: &mut Chance, rule: Rule) -> Word {
         Rule::ReadTime if chance.one_in(8) => END_OF_LAST_DAY.to_vec(),
         Rule::ReadTime => keeping(chance, Rule::TimeOrEmpty),
         Rule::Value => value_of_any_shape(chance),
-        Rule::DayQuality | Rule::Quality => quality(chance),
+        Rule::DayQuality | Rule::IntervalQuality => quality(chance, b"AAANNEEFS"),
+        Rule::ReadQuality => quality(chance, b"AAAEEFS"),
         Rule::Reason => reason(chance),
         Rule::Description => description(chance),
         Rule::IntervalNumber => number_word(chance.below(300)),
@@ -399,9 +426,10 @@ const VALUES: [&str; 34] = [
     "1..2", "1.2.3", "-1", "+1", "1e3", "", "1 2", " 1", "1 ", "0x1", "1.2a", "1234567.1", "5.000000",
 ];
 
-const QUALITIES: [&str; 36] = [
+const QUALITIES: [&str; 40] = [
     "A", "V", "E52", "F14", "S14", "E00", "S99", "F00", "E5", "E", "S", "F", "A14", "V14", "v", "a", "e52", "s14",
     "f14", "E5a", "Ea5", "E521", "", "N", "N52", "E 2", "E2 ", " A", "A ", "V ", "AA", "VV", "B12", "Q", "514", "E-1",
+    "n", "N ", " N", "NN",
 ];
 
 const REASONS: [&str; 20] = [
@@ -437,7 +465,7 @@ pub fn edges(rule: Rule) -> Vec<Word> {
         Rule::FileTime => times(4),
         Rule::Time | Rule::TimeOrEmpty | Rule::ReadTime => times(6),
         Rule::Value => words(&VALUES),
-        Rule::DayQuality | Rule::Quality => words(&QUALITIES),
+        Rule::DayQuality | Rule::IntervalQuality | Rule::ReadQuality => words(&QUALITIES),
         Rule::Reason => words(&REASONS),
         Rule::IntervalNumber => words(&INTERVAL_NUMBERS),
         Rule::IntervalLength => words(&INTERVAL_LENGTHS),

@@ -1,7 +1,8 @@
-//! Cases that write a day: fit ones, unfit ones, and ones with several faults at once.
+//! Cases that write a day: fit ones, unfit ones, ones with null data, and ones with several faults at once.
 
 use super::chance::Chance;
-use super::words;
+use super::words::{self, NoteWords};
+use super::{files, sweep};
 use crate::fields::{decimal, intervals_in_day, END_OF_LAST_DAY, NO_METHOD, VALUE_LIMIT};
 use crate::notes::NO_REASON;
 use crate::write::{compose, DayHead, DayLists};
@@ -53,6 +54,15 @@ pub fn unfit(chance: &mut Chance) -> Vec<u8> {
     case(chance, &draft)
 }
 
+/// A day with each kind of null data in turn.
+pub fn with_null_data(chance: &mut Chance, turn: u64) -> Vec<u8> {
+    let (length, n) = some_length(chance);
+    let mut text = Vec::new();
+    let sayings = sayings_with(chance, n, &sweep::null_day(turn).notes, &mut text);
+    let draft = draft(chance, length, &sayings, text);
+    case(chance, &draft)
+}
+
 /// A day with several faults, so that the order of refusals counts.
 pub fn with_several_faults(chance: &mut Chance) -> Vec<u8> {
     let mut draft = fit_draft(chance);
@@ -74,23 +84,33 @@ pub fn with_several_faults(chance: &mut Chance) -> Vec<u8> {
 // --- Fit days ---
 
 fn fit_draft(chance: &mut Chance) -> Draft {
+    let (length, n) = some_length(chance);
+    let mut text = Vec::new();
+    let sayings = sayings(chance, n, &mut text);
+    draft(chance, length, &sayings, text)
+}
+
+/// An interval length in minutes, and the intervals of its day.
+fn some_length(chance: &mut Chance) -> (u32, usize) {
     let length = match chance.below(8) {
         0 => 5,
         1 | 2 => 15,
         _ => 30,
     };
-    let n = intervals_in_day(length).expect("one of the three lengths");
-    let mut text = Vec::new();
-    let sayings = sayings(chance, n, &mut text);
+    (length, intervals_in_day(u64::from(length)).expect("one of the three lengths"))
+}
+
+/// A day of which this is said, fit but for that.
+fn draft(chance: &mut Chance, length: u32, sayings: &[Saying], text: Vec<u8>) -> Draft {
     let date = words::date(chance);
     Draft {
         head: DayHead {
             date,
-            length: length as u32,
+            length,
             update: words::time(chance),
             load: if chance.one_in(2) { 0 } else { words::time(chance) },
         },
-        values: values(chance, n),
+        values: values(chance, sayings.len()),
         flags: sayings.iter().map(|saying| saying.flag).collect(),
         methods: sayings.iter().map(|saying| saying.method).collect(),
         reasons: sayings.iter().map(|saying| saying.reason).collect(),
@@ -128,9 +148,7 @@ fn sayings(chance: &mut Chance, n: usize, text: &mut Vec<u8>) -> Vec<Saying> {
     let first = words::note(chance);
     let second = words::other_note(chance, &first);
     let third = words::other_note(chance, &second);
-    // Each note is laid twice, so that equal bytes stand at different places.
-    let laid: Vec<[Saying; 2]> =
-        [first, second, third].iter().map(|note| [lay(chance, note, text), lay(chance, note, text)]).collect();
+    let laid = lay_twice(chance, &[first, second, third], text);
     let notes = chance.between(1, 3);
     let (mut note, mut copy) = (chance.below(notes), 0);
     let new_note_in = chance.pick(&[1, 2, 8, 24]);
@@ -152,15 +170,32 @@ fn sayings(chance: &mut Chance, n: usize, text: &mut Vec<u8>) -> Vec<Saying> {
     sayings
 }
 
+/// What is said of each interval of a day whose stretches carry these notes.
+fn sayings_with(chance: &mut Chance, n: usize, notes: &[NoteWords], text: &mut Vec<u8>) -> Vec<Saying> {
+    let laid = lay_twice(chance, notes, text);
+    let mut sayings = Vec::new();
+    for (end, note) in files::stretches_with(chance, n, notes.len()) {
+        while sayings.len() < end {
+            sayings.push(chance.pick(&laid[note]));
+        }
+    }
+    sayings
+}
+
+/// Lays each note twice, so that equal bytes stand at different places.
+fn lay_twice(chance: &mut Chance, notes: &[NoteWords], text: &mut Vec<u8>) -> Vec<[Saying; 2]> {
+    notes.iter().map(|note| [lay(chance, note, text), lay(chance, note, text)]).collect()
+}
+
 /// Lays a note's description into the text and gives what an interval says by it.
-fn lay(chance: &mut Chance, note: &words::NoteWords, text: &mut Vec<u8>) -> Saying {
+fn lay(chance: &mut Chance, note: &NoteWords, text: &mut Vec<u8>) -> Saying {
     add_filler(chance, text);
     let start = text.len();
     text.extend(&note.description);
-    let quality = crate::fields::quality(&note.quality).expect("a quality that keeps its rule");
+    let (flag, method) = (note.quality[0], &note.quality[1..]);
     Saying {
-        flag: quality.flag,
-        method: quality.method,
+        flag,
+        method: if method.is_empty() { NO_METHOD } else { decimal(method) as u8 },
         reason: if note.reason.is_empty() { NO_REASON } else { decimal(&note.reason) as u16 },
         start,
         length: note.description.len(),
@@ -270,19 +305,24 @@ fn spoilt_time(chance: &mut Chance) -> u64 {
 /// Spoils what is said of one interval, by what is named or by any change near to it.
 fn spoil_interval(chance: &mut Chance, draft: &mut Draft) {
     let place = spoilt_place(chance, draft.values.len());
-    match chance.below(11) {
+    match chance.below(12) {
         0 => draft.values[place] = chance.pick(&[VALUE_LIMIT, VALUE_LIMIT + 1, u64::MAX, VALUE_LIMIT - 1]),
-        1 => draft.flags[place] = chance.pick(b"AEFSVNaefsv \x00\x7f\xff0,"),
+        1 => draft.flags[place] = chance.pick(b"AEFNSVaefnsv \x00\x7f\xff0,"),
         2 => draft.methods[place] = chance.pick(&[0, 14, 99, 100, 101, 254, 255]),
         3 => draft.reasons[place] = chance.pick(&[0, 1, 999, 1000, 1001, 65534, 65535]),
-        4 => set_saying(draft, place, b'A', chance.pick(&[0, 14, 99]), NO_REASON),
+        4 => set_saying(draft, place, chance.pick(b"AN"), chance.pick(&[0, 14, 99, 254]), NO_REASON),
         5 => set_saying(draft, place, chance.pick(b"EFS"), NO_METHOD, 79),
         6 => set_saying(draft, place, chance.pick(b"EFS"), chance.pick(&[100, 200, 254]), 79),
         7 => {
             set_saying(draft, place, chance.pick(b"SF"), 14, chance.pick(&[NO_REASON, 0]));
             draft.lengths[place] = 0;
         }
-        8 => set_place_outside(chance, draft, place),
+        8 => {
+            let (flag, reason) = chance.pick(&[(b'A', 0), (b'N', 0), (b'V', NO_REASON)]);
+            set_saying(draft, place, flag, NO_METHOD, reason);
+            draft.lengths[place] = 0;
+        }
+        9 => set_place_outside(chance, draft, place),
         _ => lay_bad_description(chance, draft, place),
     }
 }
