@@ -1,30 +1,26 @@
 // The settled cases of document 01, and of document 02's requests, that are not proved as rows of a statement: each is run, and its file 'stdout' has
 // what the documents say of it.
+use calls::files;
 use format::DayHead;
 use format::Written;
 use page::answers;
-use page::days::day_line;
 use page::texts::part;
 use page::texts::put;
-use reading::check::check;
-use reading::read_day::read_day;
-use reading::total::total;
 use writing::write_day;
 ghost use mathlib.Core.Path.{_≡_};
 ghost use lib.ListN.{length};
 
 // ---- lines
 
-fn say(page: &mut [u8], at: usize) {
-    let p = put(page, at, b"\n");
-    io::write_all(libc::STDOUT_FILENO, part(page, 0, p));
+fn write(page: &[u8], n: usize) {
+    io::write_all(libc::STDOUT_FILENO, part(page, 0, n));
 }
 
 // Behind what a case is called, what the check answers of its file.
 fn answered(page: &mut [u8], at: usize, file: &[u8]) {
     let p = put(page, at, b": ");
-    let q = answers::checked(page, p, check(file));
-    say(page, q);
+    let q = files::checked(file, page, p);
+    write(page, q);
 }
 
 // Two texts with a third between them.
@@ -139,53 +135,22 @@ fn sample(page: &mut [u8]) {
     let n = thirteen(&mut file, b"20031001103230", b"A", b"E64");
     checked(page, b"the sample 250 of section 5.3", part(&file, 0, n));
     let p = put(page, 0, b"its quantity: ");
-    let q = answers::totalled(page, p, total(part(&file, 0, n), 0));
-    say(page, q);
+    let q = files::totalled(part(&file, 0, n), 0, page, p);
+    write(page, q);
 }
 
 // ---- days that are written whole
 
-// What is read of day 0 of the file.
-fn read(file: &[u8]) {
-    let mut page = io::buffer();
-    let mut values = [0u64; 48];
-    let mut flags = [0u8; 48];
-    let mut methods = [0u8; 48];
-    let mut reasons = [0u16; 48];
-    let mut starts = [0usize; 48];
-    let mut lengths = [0usize; 48];
-    let x = read_day(
-        file,
-        0,
-        &mut values,
-        &mut flags,
-        &mut methods,
-        &mut reasons,
-        &mut starts,
-        &mut lengths,
-    );
-    let p = put(&mut page, 0, b"read back: ");
-    let q = day_line(
-        &mut page,
-        p,
-        x,
-        &values,
-        &flags,
-        &methods,
-        &reasons,
-        &starts,
-        &lengths,
-    );
-    say(&mut page, q);
-}
-
-// The block in a file, read.
+// What is read of the block in a file.
 fn read_back(block: &[u8]) {
     let mut file = io::buffer();
     let p = channel(&mut file);
     let q = put(&mut file, p, block);
     let n = put(&mut file, q, b"900\r\n");
-    read(part(&file, 0, n));
+    let mut page = io::buffer();
+    let a = put(&mut page, 0, b"read back: ");
+    let b = files::day(part(&file, 0, n), 0, 48, &mut page, a);
+    write(&page, b);
 }
 
 // What a case is called, the answer, and behind its line the block and what is read from it.
@@ -193,10 +158,11 @@ fn block(page: &mut [u8], name: &[u8], x: Written, room: &[u8]) {
     let p = put(page, 0, name);
     let q = put(page, p, b": ");
     let r = answers::written(page, q, x);
-    say(page, r);
+    let s = put(page, r, b"\n");
+    write(page, s);
     match x {
         Written::Block { bytes, records: _ } => {
-            io::write_all(libc::STDOUT_FILENO, part(room, 0, bytes));
+            write(room, bytes);
             read_back(part(room, 0, bytes));
         }
         Written::Refused(_) => {}
@@ -355,8 +321,8 @@ fn null_total() {
     let mut file = io::buffer();
     let n = file_of(&mut file, b"20040101", b"N,,", b"900\r\n");
     let p = put(&mut page, 0, b"the total of a day of N: ");
-    let q = answers::totalled(&mut page, p, total(part(&file, 0, n), 0));
-    say(&mut page, q);
+    let q = files::totalled(part(&file, 0, n), 0, &mut page, p);
+    write(&page, q);
 }
 
 fn null_written() {
