@@ -1,4 +1,5 @@
 pub mod Numbers
+pub mod Units
 pub mod Dates
 pub mod Quality
 pub mod Cut

@@ -9,13 +9,14 @@ use borrow.Author.Tests.{lt-ltb}
 use Rattle.ground.specs.Lists.{spanOf, same}
 use Rattle.ground.specs.Text.{bytes}
 use Rattle.ground.specs.Digits.{isDigit}
-use Rattle.format.specs.Bytes.{isCapital, isLetter, isAlnum, endSpace, isText, areAll}
-use Rattle.format.specs.Texts.{isNmi, isSuffix, isStream, isParty, isConfiguration, isRegister, isSerial, isUnit, isServiceOrder, isDescription, isDirection, isTransCode, versionOf}
+use Rattle.format.specs.Bytes.{isCapital, capital, isLetter, isAlnum, endSpace, isText, areAll}
+use Rattle.format.specs.Texts.{isNmi, isSuffix, isStream, isParty, isConfiguration, isRegister, isSerial, isServiceOrder, isDescription, isDirection, isTransCode, versionOf}
 use Rattle.format.specs.Numbers.{numberOf, leadingZero, smallOf, intervalOf, isLength, lengthOf, intervalsOf, reasonOf, fractionOf, valueOf, areDigits, isRead, isIndexRead}
+use Rattle.format.specs.Units.{units, sameLetters, unitFrom, unitOf, unitAt, decimalsOf, decimalsNamed}
 use Rattle.format.specs.Dates.{isLeap, daysInMonth, isDay, isDate, dayAfter, isTime, isMinute, dateOf, timeOf, createdOf, nextReadOf, loadOf, isReadTime, takenOf, readTimeOf}
 use Rattle.format.specs.Quality.{standsAlone, takesMethod, qualityOf, needsReason, across, sameMark}
 use Rattle.format.specs.Cut.{lines, fields, startOf}
-use Rattle.format.specs.Records.{isKind, indicatorOf, kindIn, rowOf, countOf, ruleOf, obeys, versionIn, intervalsIn, dateIn, firstIn, lastIn, readTimeIn, qualitiesOf, markAt, agrees}
+use Rattle.format.specs.Records.{isKind, indicatorOf, kindIn, rowOf, countOf, ruleOf, obeys, versionIn, decimalsIn, intervalsIn, quantityDecimals, dateIn, firstIn, lastIn, readTimeIn, qualitiesOf, markAt, agrees}
 use Rattle.format.specs.Order.{isVaried, alikeWith, afterOf}
 use Rattle.format.specs.Faults.{isOpen, faultIn, brokenIn, isNotLater, covers, isOff, isAlike, onDay, isElsewhere, faultAt, faultOf}
 use Rattle.format.specs.Answers.{accepted, refused}
@@ -74,7 +75,7 @@ pub record Refusals : Type 0 where
   pub none : checkOf thirteen ≡ accepted (13 ∷ 1 ∷ 0 ∷ [])
 
 pub refusals : Refusals
-unfolding spanOf same isDigit isCapital isLetter isAlnum endSpace isText areAll isNmi isSuffix isStream isParty isConfiguration isRegister isSerial isUnit isServiceOrder isDescription isDirection isTransCode versionOf numberOf leadingZero smallOf intervalOf isLength lengthOf intervalsOf reasonOf fractionOf valueOf areDigits isRead isIndexRead isLeap daysInMonth isDay isDate dayAfter isTime isMinute dateOf timeOf createdOf nextReadOf loadOf isReadTime takenOf readTimeOf standsAlone takesMethod qualityOf needsReason across sameMark lines fields startOf isKind indicatorOf kindIn rowOf countOf ruleOf obeys versionIn intervalsIn dateIn firstIn lastIn readTimeIn qualitiesOf markAt agrees isVaried alikeWith afterOf isOpen faultIn brokenIn isNotLater covers isOff isAlike onDay isElsewhere faultAt faultOf walkOf checkOf
+unfolding spanOf same isDigit isCapital capital isLetter isAlnum endSpace isText areAll isNmi isSuffix isStream isParty isConfiguration isRegister isSerial isServiceOrder isDescription isDirection isTransCode versionOf numberOf leadingZero smallOf intervalOf isLength lengthOf intervalsOf reasonOf fractionOf valueOf areDigits isRead isIndexRead units sameLetters unitFrom unitOf unitAt decimalsOf decimalsNamed isLeap daysInMonth isDay isDate dayAfter isTime isMinute dateOf timeOf createdOf nextReadOf loadOf isReadTime takenOf readTimeOf standsAlone takesMethod qualityOf needsReason across sameMark lines fields startOf isKind indicatorOf kindIn rowOf countOf ruleOf obeys versionIn decimalsIn intervalsIn quantityDecimals dateIn firstIn lastIn readTimeIn qualitiesOf markAt agrees isVaried alikeWith afterOf isOpen faultIn brokenIn isNotLater covers isOff isAlike onDay isElsewhere faultAt faultOf walkOf checkOf
 refusals =
     record {
       r1 = λ file h. rw (lt-ltb _ _ h);

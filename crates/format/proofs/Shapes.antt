@@ -18,7 +18,7 @@ use Rattle.ground.proofs.Spans.{span-le}
 use Rattle.ground.proofs.Digits.{digit-not}
 use Rattle.ground.proofs.Prefix.{prefix-all, prefix-end, prefix-most, prefix-past, prefix-wider}
 use Rattle.format.specs.Bytes.{areAll}
-use Rattle.format.specs.Numbers.{isNumber, decimals, numberOf, times, amount, fractionOf, point, before, behind, valueOf}
+use Rattle.format.specs.Numbers.{isNumber, numberOf, times, amount, fractionOf, point, before, behind, valueOf}
 use Rattle.format.specs.declared.Number.{Number}
 use Rattle.format.specs.declared.Number.the-variants.{Is, Bad}
 
@@ -122,21 +122,21 @@ by : {X : Type 0} (t : Bool) → (t ≡ true → X) → (t ≡ false → X) → 
 by true f g = f refl
 by false f g = g refl
 
--- the cases of a value with at most 6 decimals, as the code meets them
-module _ (s : List ℕ) {w : ℕ} (e : w ≡ spanOf isDigit s) where
+-- the cases of a value with at most d decimals, as the code meets them
+module _ (d : ℕ) (few : d ≤ 6) (s : List ℕ) {w : ℕ} (e : w ≡ spanOf isDigit s) where
   -- at the end of the digits: the field's end, a point, or another byte
   ends : {X : Type 0} → (w ≡ length s → X) → (w < length s → getD s w 0 ≡ 46 → X) → (w < length s → (getD s w 0 ≡ 46 → ⊥) → X) → X
   ends f g h =
       by (eqb w (length s)) (λ t. f (eqb-true w (length s) t))
-      (λ t. let l : w < length s = lt-of-le-of-ne (reach decimals s e) (eqb-false w (length s) t) in
+      (λ t. let l : w < length s = lt-of-le-of-ne (reach d s e) (eqb-false w (length s) t) in
       by (eqb (getD s w 0) 46) (λ u. g l (eqb-true _ _ u)) (λ u. h l (eqb-false _ _ u)))
 
   -- the whole field is digits
-  whole-field : w ≡ length s → isNumber (valueOf decimals s) ≡ leb 1 w && leb w 7
+  whole-field : w ≡ length s → isNumber (valueOf d s) ≡ leb 1 w && leb w 7
   unfolding areAll
   whole-field l =
       let h : point s ≡ length s = omega (arith, digits-point s, span-le (other 46) s) in
-      rw (parts decimals s, eq-eqb _ _ h, ← l) (one (rw (take-all w s (omega arith)) at (all-first decimals s e)))
+      rw (parts d s, eq-eqb _ _ h, ← l) (one (rw (take-all w s (omega arith)) at (all-first d s e)))
     where
       one : all isDigit s ≡ true → (leb 1 w && leb w 7) && all isDigit s ≡ leb 1 w && leb w 7
       one a = rw a (two (leb 1 w && leb w 7))
@@ -145,34 +145,34 @@ module _ (s : List ℕ) {w : ℕ} (e : w ≡ spanOf isDigit s) where
           two true = refl
           two false = refl
 
-  pub value-no-digit : w < 1 → false ≡ isNumber (valueOf decimals s)
+  pub value-no-digit : w < 1 → false ≡ isNumber (valueOf d s)
   value-no-digit h =
-      ends (λ l. rw (whole-field l, lt-leb 1 w h)) (λ l q. rw (at-point decimals s e l q, lt-leb 1 w h)) (λ l n. value-other decimals s e l n)
+      ends (λ l. rw (whole-field l, lt-leb 1 w h)) (λ l q. rw (at-point d s e l q, lt-leb 1 w h)) (λ l n. value-other d s e l n)
 
-  pub value-digits : 7 < w → false ≡ isNumber (valueOf decimals s)
+  pub value-digits : 7 < w → false ≡ isNumber (valueOf d s)
   value-digits h =
-      ends (λ l. rw (whole-field l, lt-leb w 7 h, and-false)) (λ l q. rw (at-point decimals s e l q, lt-leb w 7 h, and-false)) (λ l n. value-other decimals s e l n)
+      ends (λ l. rw (whole-field l, lt-leb w 7 h, and-false)) (λ l q. rw (at-point d s e l q, lt-leb w 7 h, and-false)) (λ l n. value-other d s e l n)
 
-  pub value-all : 1 ≤ w → w ≤ 7 → w ≡ length s → true ≡ isNumber (valueOf decimals s)
+  pub value-all : 1 ≤ w → w ≤ 7 → w ≡ length s → true ≡ isNumber (valueOf d s)
   value-all a b l = rw (whole-field l, le-leb 1 w a, le-leb w 7 b)
 
-  pub value-apart : (w ≡ length s → ⊥) → (getD s w 0 ≡ 46 → ⊥) → false ≡ isNumber (valueOf decimals s)
-  value-apart l n = value-other decimals s e (lt-of-le-of-ne (reach decimals s e) l) n
+  pub value-apart : (w ≡ length s → ⊥) → (getD s w 0 ≡ 46 → ⊥) → false ≡ isNumber (valueOf d s)
+  value-apart l n = value-other d s e (lt-of-le-of-ne (reach d s e) l) n
 
   module _ (a : 1 ≤ w) (b : w ≤ 7) (l : (w ≡ length s → ⊥)) (q : getD s w 0 ≡ 46) where
-    split-here : isNumber (valueOf decimals s) ≡ areAll isDigit 1 6 (drop (w + 1) s)
-    split-here = rw (at-point decimals s e (lt-of-le-of-ne (reach decimals s e) l) q, le-leb 1 w a, le-leb w 7 b)
+    split-here : isNumber (valueOf d s) ≡ areAll isDigit 1 d (drop (w + 1) s)
+    split-here = let m : min d 6 ≡ d = omega arith in rw (at-point d s e (lt-of-le-of-ne (reach d s e) l) q, le-leb 1 w a, le-leb w 7 b, m)
 
-    pub value-point-last : w + 1 ≡ length s → false ≡ isNumber (valueOf decimals s)
+    pub value-point-last : w + 1 ≡ length s → false ≡ isNumber (valueOf d s)
     unfolding areAll
     value-point-last h = let k : length s - (w + 1) < 1 = omega arith in rw (split-here, length-drop, lt-leb 1 _ k)
 
-    pub value-long : (w + 1 ≡ length s → ⊥) → 6 < length s - (w + 1) → false ≡ isNumber (valueOf decimals s)
+    pub value-long : (w + 1 ≡ length s → ⊥) → d < length s - (w + 1) → false ≡ isNumber (valueOf d s)
     unfolding areAll
-    value-long h k = rw (split-here, length-drop, lt-leb _ 6 k, and-false)
+    value-long h k = rw (split-here, length-drop, lt-leb _ d k, and-false)
 
-    pub value-fraction : {r : Bool} → (w + 1 ≡ length s → ⊥) → length s - (w + 1) ≤ 6 → r ≡ all isDigit (take (length s - (w + 1)) (drop (w + 1) s)) → r ≡ isNumber (valueOf decimals s)
+    pub value-fraction : {r : Bool} → (w + 1 ≡ length s → ⊥) → length s - (w + 1) ≤ d → r ≡ all isDigit (take (length s - (w + 1)) (drop (w + 1) s)) → r ≡ isNumber (valueOf d s)
     unfolding areAll
     value-fraction h k f =
-        let m : 1 ≤ length s - (w + 1) = omega (arith, lt-of-le-of-ne (reach decimals s e) l, lt-of-le-of-ne {n = w + 1} {m = length s} (omega (arith, lt-of-le-of-ne (reach decimals s e) l)) h) in
-        rw (split-here, length-drop, le-leb 1 _ m, le-leb _ 6 k, f, to-end)
+        let m : 1 ≤ length s - (w + 1) = omega (arith, lt-of-le-of-ne (reach d s e) l, lt-of-le-of-ne {n = w + 1} {m = length s} (omega (arith, lt-of-le-of-ne (reach d s e) l)) h) in
+        rw (split-here, length-drop, le-leb 1 _ m, le-leb _ d k, f, to-end)

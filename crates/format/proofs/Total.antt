@@ -13,7 +13,7 @@ use Rattle.ground.proofs.Tests.{and-true}
 use Rattle.format.specs.Numbers.{numberIn, decimals, valueOf}
 use Rattle.format.specs.Cut.{fields}
 use Rattle.format.specs.Records.{millionths, valuesIn}
-use Rattle.format.specs.Block.{fitValue}
+use Rattle.format.specs.Block.{smallValue}
 use Rattle.format.specs.declared.Number.{Number}
 use Rattle.format.specs.declared.Number.the-variants.{Is, Bad}
 use Rattle.format.proofs.Numbers.{value-below}
@@ -28,16 +28,16 @@ millionths-below s = one (valueOf decimals s) refl
     one (Is v) e = value-below decimals s v e
     one Bad e = omega arith
 
-pub values-fit : (fs : List (List ℕ)) → all fitValue (map millionths fs) ≡ true
-unfolding fitValue
+pub values-fit : (fs : List (List ℕ)) → all smallValue (map millionths fs) ≡ true
+unfolding smallValue
 values-fit [] = refl
-values-fit (f ∷ fs) = both (ltb (millionths f) (10 ^ 13)) (all fitValue (map millionths fs)) (lt-ltb _ _ (millionths-below f)) (values-fit fs)
+values-fit (f ∷ fs) = both (ltb (millionths f) (10 ^ 13)) (all smallValue (map millionths fs)) (lt-ltb _ _ (millionths-below f)) (values-fit fs)
 
 -- so many values come to at most so many times 10^13
-pub sum-most : (vs : List ℕ) → all fitValue vs ≡ true → sum vs ≤ length vs * 10 ^ 13
-unfolding fitValue
+pub sum-most : (vs : List ℕ) → all smallValue vs ≡ true → sum vs ≤ length vs * 10 ^ 13
+unfolding smallValue
 sum-most [] h = omega arith
-sum-most (v ∷ vs) h = let w = and-true (ltb v (10 ^ 13)) (all fitValue vs) h in omega (arith, ltb-true v (10 ^ 13) (w .0), sum-most vs (w .1))
+sum-most (v ∷ vs) h = let w = and-true (ltb v (10 ^ 13)) (all smallValue vs) h in omega (arith, ltb-true v (10 ^ 13) (w .0), sum-most vs (w .1))
 
 -- the values of any record, whatever n is, are no more than its bytes
 pub record-most : (n : ℕ) (r : List ℕ) → sum (valuesIn n (fields r)) ≤ length r * 10 ^ 13

@@ -1,24 +1,26 @@
 -- The text of a value: a reader holds the value by it, and no text that holds the value is shorter. Assumes nothing.
-use Prim.Native.Nat.{ℕ, zero, suc, _+_, _-_, _*_, _/_, _%_, _^_, _≤_, _<_, zero-le}
+use Prim.Native.Nat.{ℕ, zero, suc, _+_, _-_, _*_, _/_, _%_, _^_, _≤_, _<_, zero-le, min}
 use mathlib.Core.Path.{_≡_, refl, sym, ap, _∙_}
-use mathlib.Core.Bool.{Bool, true, false}
+use mathlib.Core.Bool.{Bool, true, false, cond}
 use mathlib.Core.Logic.{_≢_}
 use mathlib.Core.List.{List, [], _∷_, _++_, append-nil}
-use native.Mathlib.Nat.{pow-zero, sub-zero, suc-sub-suc}
+use native.Mathlib.Nat.{pow-zero, sub-zero, suc-sub-suc, mul-assoc, mul-mod-left, add-mod, zero-mod, one-le-pow}
 use native.Mathlib.Omega.{arith}
 use lib.ListN.{length, take, drop, length-append, length-drop}
 use lib.Seq.{length-take-le, take-append-seam, drop-append-add}
-use lib.Dec.{eqb, ltb}
-use borrow.Author.Tests.{eq-eqb, ne-eqb, eqb-true, eqb-false, ltb-true}
+use lib.Dec.{eqb, ltb, lit≤}
+use lib.Arith.{mod-mul}
+use lib.Pow.{pow-add}
+use borrow.Author.Tests.{eq-eqb, ne-eqb, eqb-true, eqb-false, lt-ltb, ltb-true}
 use Rattle.ground.specs.Lists.{all, spanOf, other}
 use Rattle.ground.specs.Digits.{isDigit, decimalFrom, decimal, padded, dec}
 use Rattle.ground.proofs.Tests.{and-true, and-false}
 use Rattle.ground.proofs.Cases.{same-or, by, both}
 use Rattle.ground.proofs.Spans.{span-le}
 use Rattle.ground.proofs.Digits.{digit-not, ten, length-padded, all-padded, padded-step, decimal-padded, all-dec, decimal-dec, dec-some, dec-most}
-use Rattle.format.specs.Numbers.{numberOf, times, amount, point, before, behind, decimals, fractionOf, valueOf}
-use Rattle.format.specs.Block.{fitValue, untrail, fractionText, valueText, valuesText}
-use Rattle.format.proofs.Numbers.{under-is, Got, got, fraction-under}
+use Rattle.format.specs.Numbers.{isNumber, numberOf, times, amount, point, before, behind, decimals, fractionOf, valueOf}
+use Rattle.format.specs.Block.{smallValue, fitValue, untrail, fractionText, valueText, valuesText}
+use Rattle.format.proofs.Numbers.{under-is, Got, got, fraction-under, value-below}
 use Rattle.format.proofs.NumberText.{digits-are, got-least}
 use Rattle.format.specs.declared.Number.{Number}
 use Rattle.format.specs.declared.Number.the-variants.{Is, Bad}
@@ -131,11 +133,108 @@ point-behind (x ∷ xs) ys h =
 point-le : (s : List ℕ) → point s ≤ length s
 point-le s = span-le (other 46) s
 
+-- ---- decimals of a unit: values that are whole numbers of the last of d decimals
+
+-- ten to the six, by the decimals and those that are left
+six : (k : ℕ) → k ≤ 6 → 10 ^ 6 ≡ 10 ^ k * 10 ^ (6 - k)
+six k h = let e : 6 ≡ k + (6 - k) = omega arith in ap (λ (i : ℕ). 10 ^ i) e ∙ pow-add 10 k (6 - k)
+
+-- the decimals of such a value are d at most
+exact-few : (d v : ℕ) → v % 10 ^ (6 - d) ≡ 0 → length (trimmed (v % 10 ^ 6)) ≤ min d 6
+exact-few d v e =
+    let k : ℕ = min d 6 in
+    let s : 6 - d ≡ 6 - k = omega arith in
+    let c : ℕ = 10 ^ (6 - k) in
+    let z : v % c ≡ 0 = rw s at e in
+    let m : ℕ = v / c % 10 ^ k in
+    let f : v % 10 ^ 6 ≡ m * c = ap (λ (b : ℕ). v % b) (six k (omega arith)) ∙ mod-mul v (one-le-pow k 10 (lit≤ tt)) (one-le-pow (6 - k) 10 (lit≤ tt)) ∙ omega arith in
+    rw f (trimmed-least k m (omega arith))
+
+-- digits that meet a narrower rule meet a wider one
+wider : (most more : ℕ) (s : List ℕ) (v : ℕ) → most ≤ more → numberOf 1 most s ≡ Is v → numberOf 1 more s ≡ Is v
+wider most more s v h e = let g = got 1 most s v e in digits-are 1 more s (g .low) (omega arith) (g .is) ∙ ap Is (g .number)
+
+-- a value with at most d decimals is the same value where more are allowed, and a whole number of the last of d decimals
+module _ (d : ℕ) (s : List ℕ) (v : ℕ) (e : valueOf d s ≡ Is v) where
+  pub value-wider : (more : ℕ) → min d 6 ≤ more → valueOf more s ≡ Is v
+  unfolding valueOf fractionOf
+  value-wider more h = one (eqb (point s) (length s)) e
+    where
+      split : (x : Number) (m : Number) → numberOf 1 (min d 6) (behind s) ≡ m → amount x (times (10 ^ (6 - length (behind s))) m) ≡ Is v
+          → amount x (times (10 ^ (6 - length (behind s))) (numberOf 1 (min more 6) (behind s))) ≡ Is v
+      split x (Is m) i q = rw (wider (min d 6) (min more 6) (behind s) m (omega arith) i) q
+      split (Is w) Bad i q = let z : _≡_ {A = ℕ} 0 1 = cc in absurd (omega arith)
+      split Bad Bad i q = let z : _≡_ {A = ℕ} 0 1 = cc in absurd (omega arith)
+
+      one : (b : Bool)
+          → cond b (amount (numberOf 1 7 s) (Is 0)) (amount (numberOf 1 7 (before s)) (times (10 ^ (6 - length (behind s))) (numberOf 1 (min d 6) (behind s)))) ≡ Is v
+          → cond b (amount (numberOf 1 7 s) (Is 0)) (amount (numberOf 1 7 (before s)) (times (10 ^ (6 - length (behind s))) (numberOf 1 (min more 6) (behind s)))) ≡ Is v
+      one true q = q
+      one false q = split (numberOf 1 7 (before s)) (numberOf 1 (min d 6) (behind s)) refl q
+
+  pub value-same : valueOf decimals s ≡ Is v
+  value-same = value-wider decimals (omega arith)
+
+  pub value-exact : v % 10 ^ (6 - d) ≡ 0
+  unfolding valueOf fractionOf
+  value-exact = one (eqb (point s) (length s)) e
+    where
+      wholes : (w : ℕ) → w * 10 ^ 6 % 10 ^ (6 - d) ≡ 0
+      wholes w =
+          let s : 6 - min d 6 ≡ 6 - d = omega arith in
+          let t : 10 ^ 6 ≡ 10 ^ min d 6 * 10 ^ (6 - d) = (rw s at (six (min d 6) (omega arith))) in
+          ap (λ (b : ℕ). w * b % 10 ^ (6 - d)) t ∙ ap (λ (b : ℕ). b % 10 ^ (6 - d)) (sym (mul-assoc w (10 ^ min d 6) (10 ^ (6 - d)))) ∙ mul-mod-left (w * 10 ^ min d 6) (10 ^ (6 - d))
+
+      parts : (m n : ℕ) → n ≤ min d 6 → m * 10 ^ (6 - n) % 10 ^ (6 - d) ≡ 0
+      parts m n h =
+          let s : 6 - n ≡ (min d 6 - n) + (6 - d) = omega arith in
+          let t : 10 ^ (6 - n) ≡ 10 ^ (min d 6 - n) * 10 ^ (6 - d) = ap (λ (i : ℕ). 10 ^ i) s ∙ pow-add 10 (min d 6 - n) (6 - d) in
+          ap (λ (b : ℕ). m * b % 10 ^ (6 - d)) t ∙ ap (λ (b : ℕ). b % 10 ^ (6 - d)) (sym (mul-assoc m (10 ^ (min d 6 - n)) (10 ^ (6 - d)))) ∙ mul-mod-left (m * 10 ^ (min d 6 - n)) (10 ^ (6 - d))
+
+      both-parts : (a b : ℕ) → a % 10 ^ (6 - d) ≡ 0 → b % 10 ^ (6 - d) ≡ 0 → (a + b) % 10 ^ (6 - d) ≡ 0
+      both-parts a b p q = add-mod a b (10 ^ (6 - d)) ∙ ap (λ (x : ℕ). x % 10 ^ (6 - d)) (omega arith) ∙ zero-mod (10 ^ (6 - d))
+
+      split : (x : Number) (m : Number) → numberOf 1 (min d 6) (behind s) ≡ m → amount x (times (10 ^ (6 - length (behind s))) m) ≡ Is v → v % 10 ^ (6 - d) ≡ 0
+      split (Is w) (Is m) i q =
+          let z : w * 10 ^ 6 + m * 10 ^ (6 - length (behind s)) ≡ v = cc in
+          rw (← z) (both-parts (w * 10 ^ 6) (m * 10 ^ (6 - length (behind s))) (wholes w) (parts m (length (behind s)) (got 1 (min d 6) (behind s) m i .high)))
+      split Bad (Is m) i q = let z : _≡_ {A = ℕ} 0 1 = cc in absurd (omega arith)
+      split (Is w) Bad i q = let z : _≡_ {A = ℕ} 0 1 = cc in absurd (omega arith)
+      split Bad Bad i q = let z : _≡_ {A = ℕ} 0 1 = cc in absurd (omega arith)
+
+      plain-case : (x : Number) → amount x (Is 0) ≡ Is v → v % 10 ^ (6 - d) ≡ 0
+      plain-case (Is w) q = let z : w * 10 ^ 6 + 0 ≡ v = cc in rw (← z) (both-parts (w * 10 ^ 6) 0 (wholes w) (zero-mod (10 ^ (6 - d))))
+      plain-case Bad q = let z : _≡_ {A = ℕ} 0 1 = cc in absurd (omega arith)
+
+      one : (b : Bool)
+          → cond b (amount (numberOf 1 7 s) (Is 0)) (amount (numberOf 1 7 (before s)) (times (10 ^ (6 - length (behind s))) (numberOf 1 (min d 6) (behind s)))) ≡ Is v
+          → v % 10 ^ (6 - d) ≡ 0
+      one true q = plain-case (numberOf 1 7 s) q
+      one false q = split (numberOf 1 7 (before s)) (numberOf 1 (min d 6) (behind s)) refl q
+
+  pub value-fits : fitValue d v ≡ true
+  unfolding fitValue smallValue
+  value-fits = both (ltb v (10 ^ 13)) (eqb (v % 10 ^ (6 - d)) 0) (lt-ltb _ _ (value-below d s v e)) (eq-eqb _ _ value-exact)
+
+-- what a fit value is
+pub fit-value : (d v : ℕ) → fitValue d v ≡ true → (v < 10 ^ 13) × (v % 10 ^ (6 - d) ≡ 0)
+unfolding fitValue smallValue
+fit-value d v h = let g = and-true (ltb v (10 ^ 13)) (eqb (v % 10 ^ (6 - d)) 0) h in (ltb-true _ _ (g .0), eqb-true _ _ (g .1))
+
+-- where fewer decimals are enough, more are
+pub value-still : (d more : ℕ) (s : List ℕ) → d ≤ more → isNumber (valueOf d s) ≡ true → isNumber (valueOf more s) ≡ true
+value-still d more s h t = one (valueOf d s) refl t
+  where
+    one : (x : Number) → valueOf d s ≡ x → isNumber x ≡ true → isNumber (valueOf more s) ≡ true
+    one (Is v) e t = rw (value-wider d s v e more (omega arith))
+    one Bad e t = let z : _≡_ {A = ℕ} 0 1 = cc in absurd (omega arith)
+
 -- ---- a reader holds the value
 
-pub value-back : (v : ℕ) → v < 10 ^ 13 → valueOf decimals (valueText v) ≡ Is v
+pub value-back : (d v : ℕ) → fitValue d v ≡ true → valueOf d (valueText v) ≡ Is v
 unfolding valueOf valueText fractionOf spanOf
-value-back v h =
+value-back d v fits =
+    let h : v < 10 ^ 13 = fit-value d v fits .0 in
     let w : ℕ = v / 10 ^ 6 in
     let f : ℕ = v % 10 ^ 6 in
     let ds : List ℕ = dec w in
@@ -153,7 +252,8 @@ value-back v h =
     let g : point s ≢ length s = λ r. omega (arith, length-append ds (46 ∷ fs)) in
     let b : before s ≡ ds = ap (λ (k : ℕ). take k s) p ∙ take-append-seam ds (46 ∷ fs) in
     let c : behind s ≡ fs = ap (λ (k : ℕ). drop (k + 1) s) p ∙ drop-append-add ds (46 ∷ fs) 1 in
-    let i : numberOf 1 6 fs ≡ Is (decimal fs) = digits-are 1 6 fs (trimmed-some f fl e) (trimmed-le f) (all-untrail isDigit (padded 6 f) (all-padded 6 f)) in
+    let i : numberOf 1 (min d 6) fs ≡ Is (decimal fs) =
+    digits-are 1 (min d 6) fs (trimmed-some f fl e) (exact-few d v (fit-value d v fits .1)) (all-untrail isDigit (padded 6 f) (all-padded 6 f)) in
     rw (fraction-some f e, ne-eqb (point s) (length s) g, b, c, n, i, trimmed-writes f fl) (ap Is (omega arith)))
 
 -- ---- and no text that holds it is shorter
@@ -218,9 +318,9 @@ pub value-most : (v : ℕ) → v < 10 ^ 13 → length (valueText v) ≤ 14
 value-most v h = omega (arith, length-most v, dec-most (v / 10 ^ 6) 7 (omega arith) (omega arith))
 
 -- fit values have at most 15 bytes each, with the comma
-pub values-most : (vs : List ℕ) → all fitValue vs ≡ true → length (valuesText vs) ≤ 15 * length vs
-unfolding valuesText fitValue
-values-most [] e = omega arith
-values-most (v ∷ vs) e =
-    let g = and-true (ltb v (10 ^ 13)) (all fitValue vs) e in
-    simp length-append (omega (arith, value-most v (ltb-true v (10 ^ 13) (g .0)), values-most vs (g .1)))
+pub values-most : (d : ℕ) (vs : List ℕ) → all (fitValue d) vs ≡ true → length (valuesText vs) ≤ 15 * length vs
+unfolding valuesText
+values-most d [] e = omega arith
+values-most d (v ∷ vs) e =
+    let g = and-true (fitValue d v) (all (fitValue d) vs) e in
+    simp length-append (omega (arith, value-most v (fit-value d v (g .0) .0), values-most d vs (g .1)))

@@ -37,9 +37,9 @@ abbrev pub blockCheckedAs : BlockChecked → Answer
 blockCheckedAs (blockChecked.Accepted t n u l k) = accepted (t ∷ n ∷ u ∷ l ∷ k ∷ [])
 blockCheckedAs (blockChecked.Refused x) = refusedAs x
 
--- date, n, update time, load time
+-- date, n, update time, load time, unit
 abbrev pub dayReadAs : DayRead → Answer
-dayReadAs (dayRead.Read t n u l) = accepted (t ∷ n ∷ u ∷ l ∷ [])
+dayReadAs (dayRead.Read t n u l m) = accepted (t ∷ n ∷ u ∷ l ∷ m ∷ [])
 dayReadAs (dayRead.Refused x) = refusedAs x
 
 -- the total

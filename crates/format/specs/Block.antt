@@ -2,7 +2,7 @@
 -- date and times meet the rules above, each value is below 10^13, each interval's quality, reason and description are ones that a single 400 may carry
 -- together, the rules across fields included, and each description lies inside the lent text (an empty one does, whatever its start). [..] Values are written
 -- without needless zeros. The answer gives the block's length and record count. Room behind the block keeps its bytes."
-use Prim.Native.Nat.{ℕ, _+_, _/_, _%_, _^_}
+use Prim.Native.Nat.{ℕ, _+_, _-_, _/_, _%_, _^_}
 use mathlib.Core.List.{List, [], _∷_, _++_}
 use mathlib.Core.Bool.{Bool, cond, _&&_, _||_}
 use lib.ListN.{length, take, drop, getD}
@@ -14,6 +14,7 @@ use Rattle.ground.specs.Runs.{Run, run, runs}
 use Rattle.format.specs.Bytes.{fieldByte}
 use Rattle.format.specs.Texts.{isDescription}
 use Rattle.format.specs.Numbers.{isLength, intervalsOf, noReason}
+use Rattle.format.specs.Units.{isUnit, decimalsOf}
 use Rattle.format.specs.Dates.{isDate, isTime}
 use Rattle.format.specs.Quality.{standsAlone, takesMethod, noMethod, Mark, noMark, sameMark}
 use Rattle.format.specs.Records.{agrees}
@@ -55,6 +56,7 @@ dayGiven g =
     record {
       date = g .head .date;
       n = intervalsGiven g;
+      unit = g .head .unit;
       update = g .head .update;
       load = g .head .load;
       values = take (intervalsGiven g) (g .values);
@@ -73,12 +75,17 @@ fitReason r = eqb r noReason || ltb r 1000
 unfoldable pub fitMark : Mark → Bool
 fitMark m = fitQuality (m .flag) (m .method) && fitReason (m .reason) && isDescription (m .text) && all fieldByte (m .text) && agrees m
 
-unfoldable pub fitValue : ℕ → Bool
-fitValue v = ltb v (10 ^ 13)
+unfoldable pub smallValue : ℕ → Bool
+smallValue v = ltb v (10 ^ 13)
+
+-- 02, 8: "a value [the writer] can't write exactly in that unit makes the day unfit": it is a whole number of the last of d decimals
+unfoldable pub fitValue : ℕ → ℕ → Bool
+fitValue d v = smallValue v && eqb (v % 10 ^ (6 - d)) 0
 
 unfoldable pub fitDay : Day → Bool
 fitDay d =
-    isDate (d .date) && isTime (d .update) && (eqb (d .load) 0 || isTime (d .load)) && all fitValue (d .values) && all fitMark (d .marks)
+    isUnit (d .unit) && isDate (d .date) && isTime (d .update) && (eqb (d .load) 0 || isTime (d .load)) && all (fitValue (decimalsOf (d .unit))) (d .values)
+    && all fitMark (d .marks)
 
 -- the description of interval i lies inside the text
 unfoldable pub isInside : Given → ℕ → Bool

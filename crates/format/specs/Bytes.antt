@@ -1,7 +1,7 @@
 -- 01, Records: "Bytes are 0x20 to 0x7E (H)." "No field begins or ends with a space." And the bytes that 01's section Fields speaks of.
 use Prim.Native.Nat.{ℕ, _-_}
 use mathlib.Core.List.{List}
-use mathlib.Core.Bool.{Bool, not, _&&_, _||_}
+use mathlib.Core.Bool.{Bool, cond, not, _&&_, _||_}
 use lib.ListN.{length, getD}
 use lib.Dec.{leb, eqb}
 use Rattle.ground.specs.Lists.{all}
@@ -20,6 +20,10 @@ isCapital b = leb 65 b && leb b 90
 
 unfoldable pub isLetter : ℕ → Bool
 isLetter b = isCapital b || (leb 97 b && leb b 122)
+
+-- a letter as a capital, for where case doesn't count; any other byte as it is
+unfoldable pub capital : ℕ → ℕ
+capital b = cond (leb 97 b && leb b 122) (b - 32) b
 
 unfoldable pub isAlnum : ℕ → Bool
 isAlnum b = isDigit b || isLetter b

@@ -1,6 +1,7 @@
 -- 01, A day: "Each interval of a read day has its value, flag, method (255 if none), reason (65535 if none) and the start and length of its description in
 -- the file (start 0 if the length is 0). On a V day they come from its 400, else from the 300. [..] The answer also has the date, n, update time and load
--- time." "Two days are the same when date, interval length, values, flags, methods, reasons, description bytes, update time and load time agree."
+-- time", and by 02, 8, the unit. "Two days are the same when date, interval length, values, flags, methods, reasons, description bytes, update time and load
+-- time agree", and by 02, 8, their units.
 use Prim.Native.Nat.{ℕ, _+_, _-_}
 use mathlib.Core.List.{List, [], _∷_, _++_, map}
 use mathlib.Core.Bool.{Bool, cond, _&&_}
@@ -9,7 +10,7 @@ use lib.Dec.{leb, eqb}
 use Rattle.format.specs.Numbers.{numberIn, reasonOf}
 use Rattle.format.specs.Quality.{qualityOf, flagIn, methodIn, Mark}
 use Rattle.format.specs.Cut.{Lines, line, rest, lines, fields, field, startOf}
-use Rattle.format.specs.Records.{kindIn, intervalsIn, dateIn, valuesIn, updateIn, loadIn, firstIn, lastIn, quality300, quality400, markAt}
+use Rattle.format.specs.Records.{kindIn, intervalsIn, unitIn, dateIn, valuesIn, updateIn, loadIn, firstIn, lastIn, quality300, quality400, markAt}
 use Rattle.format.specs.Order.{isVaried}
 use Rattle.format.specs.Answers.{Answer, accepted, refused, refusal}
 use Rattle.format.specs.File.{checkOf}
@@ -25,13 +26,14 @@ pub record Row : Type 0 where
 abbrev pub rowAt : ℕ → List ℕ → Row
 rowAt p r = record { place = p; cells = fields r }
 
--- a day block of n intervals: its 300, and the 400s under it
+-- a day block of n intervals in a unit: its 300, and the 400s under it
 pub record BlockRows : Type 0 where
   pub n : ℕ
+  pub unit : ℕ
   pub top : Row
   pub runs : List Row
 
--- a day of a file: the 200 that it stands under, and its block, whose n is that of the 200
+-- a day of a file: the 200 that it stands under, and its block, whose n and unit are those of the 200
 pub record DayRows : Type 0 where
   pub channel : Row
   pub block : BlockRows
@@ -43,7 +45,7 @@ runsFrom p (line r ls) = cond (eqb (kindIn (fields r)) 400) (rowAt p r ∷ runsF
 
 -- the day under the 200 c whose 300 is the record r at place p, with the lines behind it
 abbrev pub dayFrom : ℕ → Row → List ℕ → Lines → DayRows
-dayFrom p c r ls = record { channel = c; block = record { n = intervalsIn (c .cells); top = rowAt p r; runs = runsFrom (p + length r + 2) ls } }
+dayFrom p c r ls = record { channel = c; block = record { n = intervalsIn (c .cells); unit = unitIn (c .cells); top = rowAt p r; runs = runsFrom (p + length r + 2) ls } }
 
 -- the days from place p on, where c is the 200 before
 unfoldable pub daysFrom : ℕ → Row → Lines → List DayRows
@@ -94,6 +96,7 @@ valuesOf d = valuesIn (d .n) (d .top .cells)
 pub record Day : Type 0 where
   pub date : ℕ
   pub n : ℕ
+  pub unit : ℕ
   pub update : ℕ
   pub load : ℕ
   pub values : List ℕ
@@ -107,6 +110,7 @@ dayOf d =
     record {
       date = dateIn (d .top .cells);
       n = d .n;
+      unit = d .unit;
       update = updateIn (d .n) (d .top .cells);
       load = loadIn (d .n) (d .top .cells);
       values = valuesOf d;
@@ -159,7 +163,7 @@ roomFor n vs ms =
 unfoldable pub readInto : BlockRows → List ℕ → Five → Outcome
 readInto d vs ms =
     outcome
-    (accepted (dateIn (d .top .cells) ∷ d .n ∷ updateIn (d .n) (d .top .cells) ∷ loadIn (d .n) (d .top .cells) ∷ []))
+    (accepted (dateIn (d .top .cells) ∷ d .n ∷ updateIn (d .n) (d .top .cells) ∷ loadIn (d .n) (d .top .cells) ∷ d .unit ∷ []))
     (over (valuesOf d) vs)
     (overFive (tagsOf d) ms)
 

@@ -9,7 +9,7 @@ use Rattle.ground.specs.Lists.{spanOf}
 use Rattle.format.specs.Bytes.{plain}
 use Rattle.format.specs.Dates.{dayAfter}
 use Rattle.format.specs.Cut.{fields, startOf}
-use Rattle.format.specs.Records.{kindIn, countOf, ruleOf, obeys, dateField, dateIn, firstField, firstIn, lastIn, readTimeField, readTimeIn, qualitiesOf, markAt, agrees}
+use Rattle.format.specs.Records.{Scale, scaleFor, kindIn, countOf, ruleOf, obeys, dateField, dateIn, firstField, firstIn, lastIn, readTimeField, readTimeIn, qualitiesOf, markAt, agrees}
 use Rattle.format.specs.Order.{Due, mayCome, inVaried, alikeWith}
 use Rattle.format.specs.declared.Fault.{Fault}
 use Rattle.format.specs.declared.Fault.the-variants.{Fine, Stop}
@@ -39,21 +39,21 @@ f10 st k = stop (isOpen st k) 10 0 0
 abbrev pub f4 : Due → ℕ → Fault
 f4 st k = stop (not (mayCome (st .expect) k)) 4 0 0
 
--- n counts in a 300 only
-abbrev pub size : Due → ℕ → ℕ
-size st k = cond (eqb k 300) (st .n) 0
+-- what the rules of a record of the kind k are made from, by its channel
+abbrev pub scaleOf : Due → ℕ → List (List ℕ) → Scale
+scaleOf st k fs = scaleFor k (st .n) (st .decimals) fs
 
 -- "wrong number of fields"
-abbrev pub f5 : ℕ → ℕ → List (List ℕ) → Fault
-f5 k n fs = stop (not (eqb (length fs) (countOf k n))) 5 0 0
+abbrev pub f5 : ℕ → Scale → List (List ℕ) → Fault
+f5 k z fs = stop (not (eqb (length fs) (countOf k z))) 5 0 0
 
 -- "a field breaks its rule or has an end space": the leftmost, where the first of these fields starts at o and has the number i from 0
-unfoldable pub faultIn : ℕ → ℕ → ℕ → ℕ → List (List ℕ) → Fault
-faultIn k n o i [] = Fine
-faultIn k n o i (f ∷ fs) = cond (obeys k (ruleOf k n i) f) (faultIn k n (o + length f + 1) (i + 1) fs) (Stop 6 o (i + 1))
+unfoldable pub faultIn : ℕ → Scale → ℕ → ℕ → List (List ℕ) → Fault
+faultIn k z o i [] = Fine
+faultIn k z o i (f ∷ fs) = cond (obeys k (ruleOf k z i) f) (faultIn k z (o + length f + 1) (i + 1) fs) (Stop 6 o (i + 1))
 
-abbrev pub f6 : ℕ → ℕ → List (List ℕ) → Fault
-f6 k n fs = faultIn k n 0 0 fs
+abbrev pub f6 : ℕ → Scale → List (List ℕ) → Fault
+f6 k z fs = faultIn k z 0 0 fs
 
 -- "a rule across fields is broken": start of the leftmost such quality field, of those with these numbers from 0
 unfoldable pub brokenIn : ℕ → List (List ℕ) → List ℕ → Fault
@@ -100,7 +100,7 @@ f12 st k fs = stop (isElsewhere st k fs) 12 (startOf readTimeField fs) (readTime
 -- the first fault of a record of the kind k with these fields, whose bytes are plain
 unfoldable pub faultAt : Due → ℕ → List (List ℕ) → Fault
 faultAt st k fs =
-    f10 st k ▹ f4 st k ▹ f5 k (size st k) fs ▹ f6 k (size st k) fs ▹ f7 k (size st k) fs
+    f10 st k ▹ f4 st k ▹ f5 k (scaleOf st k fs) fs ▹ f6 k (scaleOf st k fs) fs ▹ f7 k (scaleOf st k fs .n) fs
     ▹ f8 st k fs ▹ f9 st k fs ▹ f11 st k fs ▹ f12 st k fs
 
 -- the first fault of the record r

@@ -8,6 +8,7 @@ use lib.ListN.{length}
 use lib.Dec.{ltb, eqb}
 use Rattle.format.specs.Cut.{Lines, line, rest, lines, fields}
 use Rattle.format.specs.Numbers.{intervalsOf}
+use Rattle.format.specs.Units.{isUnit, decimalsOf}
 use Rattle.format.specs.Records.{kindIn, dateIn, updateIn, loadIn}
 use Rattle.format.specs.Answers.{Answer, accepted, refused, refusal}
 use Rattle.format.specs.Order.{first300, isEnd, Due, due, begun, inDay, afterOf}
@@ -46,12 +47,12 @@ IsAccepted file = (xs : List ℕ) × (checkOf file ≡ accepted xs)
 
 -- ---- a block on its own
 
--- The tickets of 02: "bytes that are accepted as one day block behind a 200 of a given interval length [..], without a date before it. [..] Its refusals have
--- places and record numbers counted from the block's start." Its tests are the file's, in the file's order, and those below.
+-- The tickets of 02: "bytes that are accepted as one day block behind a 200 of a given interval length and unit, without a date before it. [..] Its refusals
+-- have places and record numbers counted from the block's start." Its tests are the file's, in the file's order, and those below.
 
--- behind a 200 of n intervals
-abbrev pub behind200 : ℕ → Due
-behind200 n = due first300 12 n 0 0 0
+-- behind a 200 of n intervals whose values have at most d decimals
+abbrev pub behind200 : ℕ → ℕ → Due
+behind200 n d = due first300 12 n d 0 0 0
 
 -- "first record must be a 300" (no other may come behind a 200), "and what follows may only be a 400 or a 500"
 unfoldable pub isForeign : Due → ℕ → Bool
@@ -77,9 +78,9 @@ abbrev pub topSays : ℕ → Lines → List ℕ
 topSays n (line r ls) = dateIn (fields r) ∷ n ∷ updateIn n (fields r) ∷ loadIn n (fields r) ∷ []
 topSays n (rest t) = []
 
--- what a check of the block answers, behind a 200 of so many minutes: date, n, update time, load time and its number of records, or the first refusal; "An
--- interval length [..] that is none: 16, before all else."
-unfoldable pub blockCheckOf : ℕ → List ℕ → Answer
-blockCheckOf minutes block =
-    cond (eqb (intervalsOf minutes) 0) (refusal 16)
-    (blockWalkOf (topSays (intervalsOf minutes) (lines block)) (behind200 (intervalsOf minutes)) 0 0 (lines block))
+-- what a check of the block answers, behind a 200 of so many minutes and that unit: date, n, update time, load time and its number of records, or the first
+-- refusal; "An interval length or unit that is none: 16, before all else."
+unfoldable pub blockCheckOf : ℕ → ℕ → List ℕ → Answer
+blockCheckOf minutes unit block =
+    cond (eqb (intervalsOf minutes) 0 || not (isUnit unit)) (refusal 16)
+    (blockWalkOf (topSays (intervalsOf minutes) (lines block)) (behind200 (intervalsOf minutes) (decimalsOf unit)) 0 0 (lines block))

@@ -1,6 +1,7 @@
 pub mod Bytes
 pub mod Texts
 pub mod Numbers
+pub mod Units
 pub mod Dates
 pub mod Quality
 pub mod Cut

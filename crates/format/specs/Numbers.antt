@@ -78,7 +78,7 @@ before s = take (point s) s
 abbrev pub behind : List ℕ → List ℕ
 behind s = drop (point s + 1) s
 
--- how many digits may stand behind the point: "one rule for every unit"
+-- 01's limit for every unit: how many digits may stand behind the point at most
 abbrev pub decimals : ℕ
 decimals = 6
 

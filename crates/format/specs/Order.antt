@@ -8,7 +8,7 @@ use lib.ListN.{length}
 use lib.Dec.{eqb}
 use Rattle.format.specs.Quality.{flagV, flagIn, qualityOf, Mark, sameMark}
 use Rattle.format.specs.Cut.{field}
-use Rattle.format.specs.Records.{versionIn, intervalsIn, dateIn, lastIn, quality300, markIn}
+use Rattle.format.specs.Records.{versionIn, intervalsIn, decimalsIn, dateIn, lastIn, quality300, markIn}
 
 -- ---- what may come next
 
@@ -89,8 +89,9 @@ pub record Due : Type 0 where
   pub expect : Expected
   -- 12 or 13, once the 100 is read
   pub version : ℕ
-  -- n of the channel
+  -- n of the channel, and how many decimals its values may have
   pub n : ℕ
+  pub decimals : ℕ
   -- the date of the day before, in this 200
   pub date : ℕ
   -- the interval at which the next 400 has to start
@@ -102,12 +103,12 @@ pub record Due : Type 0 where
   pub days : ℕ
 
 -- where no V day is open
-abbrev pub due : Expected → ℕ → ℕ → ℕ → ℕ → ℕ → Due
-due x v n t c d = record { expect = x; version = v; n = n; date = t; next = 0; shared = noneYet; channels = c; days = d }
+abbrev pub due : Expected → ℕ → ℕ → ℕ → ℕ → ℕ → ℕ → Due
+due x v n m t c d = record { expect = x; version = v; n = n; decimals = m; date = t; next = 0; shared = noneYet; channels = c; days = d }
 
 -- before the first record
 abbrev pub begun : Due
-begun = due the100 0 0 0 0 0
+begun = due the100 0 0 0 0 0 0
 
 -- ---- what a record does to the state, where it has no fault
 
@@ -120,10 +121,10 @@ unfoldable pub alikeWith : Due → List (List ℕ) → Bool
 alikeWith st fs = areAlike (shareWith (st .shared) (markIn fs))
 
 abbrev pub on100 : Due → List (List ℕ) → Due
-on100 st fs = due (cond (eqb (versionIn fs) 12) first200 first250) (versionIn fs) 0 0 0 0
+on100 st fs = due (cond (eqb (versionIn fs) 12) first200 first250) (versionIn fs) 0 0 0 0 0
 
 abbrev pub on200 : Due → List (List ℕ) → Due
-on200 st fs = due first300 (st .version) (intervalsIn fs) 0 (st .channels + 1) (st .days)
+on200 st fs = due first300 (st .version) (intervalsIn fs) (decimalsIn fs) 0 (st .channels + 1) (st .days)
 
 abbrev pub on300 : Due → List (List ℕ) → Due
 on300 st fs =
@@ -131,6 +132,7 @@ on300 st fs =
       expect = cond (isVaried (st .n) fs) underVaried underDay;
       version = st .version;
       n = st .n;
+      decimals = st .decimals;
       date = dateIn fs;
       next = 1;
       shared = noneYet;
@@ -144,6 +146,7 @@ on400 st fs =
       expect = underVaried;
       version = st .version;
       n = st .n;
+      decimals = st .decimals;
       date = st .date;
       next = lastIn fs + 1;
       shared = shareWith (st .shared) (markIn fs);
@@ -152,16 +155,16 @@ on400 st fs =
     }
 
 abbrev pub on500 : Due → List (List ℕ) → Due
-on500 st fs = due behind500 (st .version) (st .n) (st .date) (st .channels) (st .days)
+on500 st fs = due behind500 (st .version) (st .n) (st .decimals) (st .date) (st .channels) (st .days)
 
 abbrev pub on250 : Due → List (List ℕ) → Due
-on250 st fs = due behind250 (st .version) 0 0 (st .channels + 1) (st .days)
+on250 st fs = due behind250 (st .version) 0 0 0 (st .channels + 1) (st .days)
 
 abbrev pub on550 : Due → List (List ℕ) → Due
-on550 st fs = due behind550 (st .version) 0 0 (st .channels) (st .days)
+on550 st fs = due behind550 (st .version) 0 0 0 (st .channels) (st .days)
 
 abbrev pub on900 : Due → List (List ℕ) → Due
-on900 st fs = due theEnd (st .version) 0 0 (st .channels) (st .days)
+on900 st fs = due theEnd (st .version) 0 0 0 (st .channels) (st .days)
 
 -- after a record of the kind k
 unfoldable pub afterOf : Due → ℕ → List (List ℕ) → Due

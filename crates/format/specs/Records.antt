@@ -4,8 +4,9 @@ use mathlib.Core.List.{List, [], _∷_, _++_, map}
 use mathlib.Core.Bool.{Bool, true, cond, _||_}
 use lib.ListN.{length, getD, take, drop, replicate}
 use lib.Dec.{eqb}
-use Rattle.format.specs.Texts.{isNmi, isSuffix, isStream, isParty, isConfiguration, isRegister, isSerial, isUnit, isServiceOrder, isDescription, isDirection, isTransCode, versionOf}
+use Rattle.format.specs.Texts.{isNmi, isSuffix, isStream, isParty, isConfiguration, isRegister, isSerial, isServiceOrder, isDescription, isDirection, isTransCode, versionOf}
 use Rattle.format.specs.Numbers.{isNumber, numberIn, that, numberOf, intervalOf, lengthOf, intervalsOf, reasonOf, decimals, valueOf, isRead, isIndexRead}
+use Rattle.format.specs.Units.{unitOf, decimalsNamed}
 use Rattle.format.specs.Dates.{dateOf, timeOf, createdOf, nextReadOf, loadOf, readTimeOf}
 use Rattle.format.specs.Quality.{qualityOf, isGraded, flagIn, methodIn, across, Mark}
 use Rattle.format.specs.Cut.{field}
@@ -28,14 +29,26 @@ kindIn fs = numberIn (indicatorOf (field 0 fs))
 
 -- ---- the table
 
+-- what the rules of a record are made from, beside its kind: n, the number of a 300's intervals, and how many decimals its values may have (02, 8)
+pub record Scale : Type 0 where
+  pub n : ℕ
+  pub decimals : ℕ
+
+abbrev pub scale : ℕ → ℕ → Scale
+scale n d = record { n = n; decimals = d }
+
+-- where neither counts
+abbrev pub noScale : Scale
+noScale = scale 0 0
+
 abbrev pub row100 : List Rule
 row100 = Indicator ∷ Version ∷ Created ∷ Party ∷ Party ∷ []
 
 abbrev pub row200 : List Rule
 row200 = Indicator ∷ Nmi ∷ Configuration ∷ Register ∷ Suffix ∷ Stream ∷ Serial ∷ Unit ∷ Length ∷ NextRead ∷ []
 
-abbrev pub row300 : ℕ → List Rule
-row300 n = Indicator ∷ Date ∷ (replicate n Value ++ (Quality ∷ Reason ∷ Description ∷ Time ∷ Load ∷ []))
+abbrev pub row300 : Scale → List Rule
+row300 z = Indicator ∷ Date ∷ (replicate (z .n) (Value (z .decimals)) ++ (Quality ∷ Reason ∷ Description ∷ Time ∷ Load ∷ []))
 
 abbrev pub row400 : List Rule
 row400 = Indicator ∷ Interval ∷ Interval ∷ Quality ∷ Reason ∷ Description ∷ []
@@ -47,10 +60,10 @@ row500 = Indicator ∷ TransCode ∷ ServiceOrder ∷ ReadTime ∷ IndexRead ∷
 abbrev pub reading : List Rule
 reading = RegisterRead ∷ Time ∷ Quality ∷ Reason ∷ Description ∷ []
 
-abbrev pub row250 : List Rule
-row250 =
+abbrev pub row250 : ℕ → List Rule
+row250 d =
     Indicator ∷ Nmi ∷ Configuration ∷ Register ∷ Suffix ∷ Stream ∷ Serial ∷ Direction
-    ∷ (reading ++ (reading ++ (Value ∷ Unit ∷ NextRead ∷ Time ∷ Load ∷ [])))
+    ∷ (reading ++ (reading ++ (Value d ∷ Unit ∷ NextRead ∷ Time ∷ Load ∷ [])))
 
 abbrev pub row550 : List Rule
 row550 = Indicator ∷ TransCode ∷ ServiceOrder ∷ TransCode ∷ ServiceOrder ∷ []
@@ -58,23 +71,23 @@ row550 = Indicator ∷ TransCode ∷ ServiceOrder ∷ TransCode ∷ ServiceOrder
 abbrev pub row900 : List Rule
 row900 = Indicator ∷ []
 
--- the fields of a record of the kind k; n is the number of intervals of a 300
-unfoldable pub rowOf : ℕ → ℕ → List Rule
-rowOf k n =
+-- the fields of a record of the kind k
+unfoldable pub rowOf : ℕ → Scale → List Rule
+rowOf k z =
     cond (eqb k 100) row100
     (cond (eqb k 200) row200
-    (cond (eqb k 300) (row300 n)
+    (cond (eqb k 300) (row300 z)
     (cond (eqb k 400) row400
     (cond (eqb k 500) row500
-    (cond (eqb k 250) row250
+    (cond (eqb k 250) (row250 (z .decimals))
     (cond (eqb k 550) row550 row900))))))
 
-unfoldable pub countOf : ℕ → ℕ → ℕ
-countOf k n = length (rowOf k n)
+unfoldable pub countOf : ℕ → Scale → ℕ
+countOf k z = length (rowOf k z)
 
 -- the rule of the field of a number from 0
-unfoldable pub ruleOf : ℕ → ℕ → ℕ → Rule
-ruleOf k n i = getD (rowOf k n) i Indicator
+unfoldable pub ruleOf : ℕ → Scale → ℕ → Rule
+ruleOf k z i = getD (rowOf k z) i Indicator
 
 -- a field of a record of the kind k meets its rule
 unfoldable pub obeys : ℕ → Rule → List ℕ → Bool
@@ -88,11 +101,11 @@ obeys k Register s = isRegister s
 obeys k Suffix s = isSuffix s
 obeys k Stream s = isStream s
 obeys k Serial s = isSerial s
-obeys k Unit s = isUnit s
+obeys k Unit s = isNumber (unitOf s)
 obeys k Length s = isNumber (lengthOf s)
 obeys k NextRead s = isNumber (nextReadOf s)
 obeys k Date s = isNumber (dateOf s)
-obeys k Value s = isNumber (valueOf decimals s)
+obeys k (Value d) s = isNumber (valueOf d s)
 obeys k Quality s = isGraded (qualityOf k s)
 obeys k Reason s = isNumber (reasonOf s)
 obeys k Description s = isDescription s
@@ -114,6 +127,16 @@ versionField = 1
 
 unfoldable pub versionIn : List (List ℕ) → ℕ
 versionIn fs = numberIn (versionOf (field versionField fs))
+
+-- a 200's unit: its number, and how many decimals its values may have
+abbrev pub unitField : ℕ
+unitField = 7
+
+unfoldable pub unitIn : List (List ℕ) → ℕ
+unitIn fs = numberIn (unitOf (field unitField fs))
+
+unfoldable pub decimalsIn : List (List ℕ) → ℕ
+decimalsIn fs = decimalsNamed (field unitField fs)
 
 -- a 200's n
 abbrev pub lengthField : ℕ
@@ -138,6 +161,7 @@ loadField n = n + 6
 unfoldable pub dateIn : List (List ℕ) → ℕ
 dateIn fs = numberIn (dateOf (field dateField fs))
 
+-- a value as its number of millionths, whatever its unit: how many decimals it may have makes no other number of it
 unfoldable pub millionths : List ℕ → ℕ
 millionths s = numberIn (valueOf decimals s)
 
@@ -170,12 +194,23 @@ readTimeField = 3
 unfoldable pub readTimeIn : List (List ℕ) → ℕ
 readTimeIn fs = numberIn (readTimeOf (field readTimeField fs))
 
--- a 250's quantity
+-- a 250's quantity, and how many decimals it may have by the unit in the field behind it
 abbrev pub quantityField : ℕ
 quantityField = 18
 
 unfoldable pub quantityIn : List (List ℕ) → ℕ
 quantityIn fs = millionths (field quantityField fs)
+
+abbrev pub quantityUnitField : ℕ
+quantityUnitField = 19
+
+unfoldable pub quantityDecimals : List (List ℕ) → ℕ
+quantityDecimals fs = decimalsNamed (field quantityUnitField fs)
+
+-- what the rules of a record of the kind k are made from, in a channel of n intervals whose values have at most d decimals: both count in a 300 only, and a
+-- 250 has its own unit
+abbrev pub scaleFor : ℕ → ℕ → ℕ → List (List ℕ) → Scale
+scaleFor k n d fs = cond (eqb k 300) (scale n d) (cond (eqb k 250) (scale 0 (quantityDecimals fs)) noScale)
 
 -- the quality of a 300 of n intervals, of a 400, and of a 250's previous and current read; a reason and a description stand behind each
 abbrev pub quality300 : ℕ → ℕ

@@ -1,14 +1,16 @@
--- 01, Settled cases: "Those with a star are proved together as rows of one statement about the definitions." And cases of 02, 1 and 6.
+-- 01, Settled cases: "Those with a star are proved together as rows of one statement about the definitions." And cases of 02, 1, 6 and 8.
 use Prim.Native.Nat.{ℕ}
 use Prim.Native.String.{String}
 use mathlib.Core.Path.{_≡_}
 use mathlib.Core.List.{List, [], _∷_, _++_}
 use Rattle.ground.specs.Text.{bytes}
-use Rattle.format.specs.Numbers.{decimals, valueOf}
+use Rattle.format.specs.Numbers.{valueOf}
+use Rattle.format.specs.Units.{unitOf, decimalsNamed}
 use Rattle.format.specs.Dates.{dateOf}
 use Rattle.format.specs.Quality.{qualityOf}
 use Rattle.format.specs.Answers.{accepted, refused}
 use Rattle.format.specs.File.{checkOf}
+use Rattle.format.specs.declared.Number.{Number}
 use Rattle.format.specs.declared.Number.the-variants.{Is, Bad}
 use Rattle.format.specs.declared.Graded.{Graded}
 use Rattle.format.specs.declared.Graded.the-variants.{Of}
@@ -28,15 +30,26 @@ abbrev pub varied : List String → List ℕ
 varied rs =
     oneDay "300,20040101,1,1,1,1,1,1,1,1,1,1,1,1,1,1,1,1,1,1,1,1,1,1,1,1,1,1,1,1,1,1,1,1,1,1,1,1,1,1,1,1,1,1,1,1,1,1,1,1,V,,,20040102010203," rs
 
+-- a value in that unit: "01's value cases are read with units that allow them" (02, 8)
+abbrev pub valueIn : String → String → Number
+valueIn unit s = valueOf (decimalsNamed (bytes unit)) (bytes s)
+
 pub record Settled : Type 0 where
-  pub held : valueOf decimals (bytes "17.461") ≡ Is 17461000
-  pub leading-zeros : valueOf decimals (bytes "003.40") ≡ Is 3400000
-  pub nought : valueOf decimals (bytes "0") ≡ Is 0
-  pub largest : valueOf decimals (bytes "9999999.999999") ≡ Is 9999999999999
-  pub no-whole : valueOf decimals (bytes ".5") ≡ Bad
-  pub no-fraction : valueOf decimals (bytes "5.") ≡ Bad
-  pub eight-digits : valueOf decimals (bytes "12345678") ≡ Bad
-  pub eight-before-point : valueOf decimals (bytes "12345678.5") ≡ Bad
+  pub held : valueIn "kWh" "17.461" ≡ Is 17461000
+  pub leading-zeros : valueIn "kWh" "003.40" ≡ Is 3400000
+  pub nought : valueIn "kWh" "0" ≡ Is 0
+  pub largest : valueIn "MWh" "9999999.999999" ≡ Is 9999999999999
+  pub no-whole : valueIn "kWh" ".5" ≡ Bad
+  pub no-fraction : valueIn "kWh" "5." ≡ Bad
+  pub eight-digits : valueIn "kWh" "12345678" ≡ Bad
+  pub eight-before-point : valueIn "kWh" "12345678.5" ≡ Bad
+  -- 02, 8: "Refuse a unit that isn't there, and a value with more decimals than its unit allows"; zeros at its end count
+  pub four : valueIn "kWh" "1.2345" ≡ Is 1234500
+  pub five : valueIn "kWh" "1.23456" ≡ Bad
+  pub five-zeros : valueIn "kWh" "1.50000" ≡ Bad
+  pub capitals : unitOf (bytes "KVARH") ≡ Is 4
+  pub small-letters : unitOf (bytes "pf") ≡ Is 22
+  pub no-unit : unitOf (bytes "kWhh") ≡ Bad
   pub leap : dateOf (bytes "20000229") ≡ Is 20000229
   pub no-leap : dateOf (bytes "21000229") ≡ Bad
   pub e52 : (k : ℕ) → qualityOf k (bytes "E52") ≡ Of 69 52

@@ -1,5 +1,5 @@
 -- 01, Fields: "NMI: 10 letters or digits. Suffix: 2 of these. Data stream: empty or 2 of these. From and to: 1 to 10 bytes, no `#`.
--- Configuration 1 to 240; register 0 to 10; serial 0 to 12; UOM 1 to 5 letters; service order 0 to 15 (H for these lengths)."
+-- Configuration 1 to 240; register 0 to 10; serial 0 to 12; [..] service order 0 to 15 (H for these lengths)."
 -- "Description: 0 to 240 bytes. Direction: `I` or `E`. Trans codes: one capital letter (H)." And the 100's `NEM12` or `NEM13`.
 use Prim.Native.Nat.{ℕ}
 use mathlib.Core.List.{List}
@@ -8,7 +8,7 @@ use lib.ListN.{length}
 use lib.Dec.{eqb}
 use Rattle.ground.specs.Lists.{all, other, same}
 use Rattle.ground.specs.Text.{bytes}
-use Rattle.format.specs.Bytes.{isCapital, isLetter, isAlnum, isText, areAll}
+use Rattle.format.specs.Bytes.{isCapital, isAlnum, isText, areAll}
 use Rattle.format.specs.declared.Number.{Number}
 use Rattle.format.specs.declared.Number.the-variants.{Is, Bad}
 
@@ -33,9 +33,6 @@ isRegister s = isText 0 10 s
 
 unfoldable pub isSerial : List ℕ → Bool
 isSerial s = isText 0 12 s
-
-unfoldable pub isUnit : List ℕ → Bool
-isUnit s = areAll isLetter 1 5 s
 
 unfoldable pub isServiceOrder : List ℕ → Bool
 isServiceOrder s = isText 0 15 s

@@ -46,13 +46,14 @@ pub enum BlockChecked {
     Refused(Refusal),
 }
 
-// What a reading of a day answers, beside the lists that it fills. A load time of 0 says that there is none.
+// What a reading of a day answers, beside the lists that it fills. A load time of 0 says that there is none; the unit is its number in the table of units.
 pub enum DayRead {
     Read {
         date: u32,
         n: usize,
         update: u64,
         load: u64,
+        unit: u8,
     },
     Refused(Refusal),
 }
@@ -63,12 +64,13 @@ pub enum Totalled {
     Refused(Refusal),
 }
 
-// A day to be written, beside its lists: date, interval length in minutes, update time, load time or 0.
+// A day to be written, beside its lists: date, interval length in minutes, update time, load time or 0, the unit's number.
 pub struct DayHead {
     pub date: u32,
     pub length: u32,
     pub update: u64,
     pub load: u64,
+    pub unit: u8,
 }
 
 // What a writing of a day answers: the block's bytes and records.
@@ -89,7 +91,7 @@ pub enum Graded {
     Bad,
 }
 
-// The rule of a field.
+// The rule of a field; that of a value has the number of decimals that it may have.
 pub enum Rule {
     Indicator,
     Version,
@@ -105,7 +107,7 @@ pub enum Rule {
     Length,
     NextRead,
     Date,
-    Value,
+    Value(usize),
     Quality,
     Reason,
     Description,
