@@ -9,7 +9,7 @@ use Rattle.ground.proofs.Tests.{tests}
 use Rattle.format.specs.Bytes.{isCapital, isLetter, isAlnum}
 use Rattle.classes.specs.Classes.{inClass}
 use Rattle.classes.specs.declared.Class.{Class}
-use Rattle.classes.specs.declared.Class.the-variants.{Digit, Capital, Letter, Alnum, NoHash}
+use Rattle.classes.specs.declared.Class.the-variants.{Digit, Capital, Alnum, NoHash}
 
 module _ (b : ℕ) {c : Bool} (e : c ≡ isCapital b) where
   pub letter-capital : c ≡ true → true ≡ isLetter b
@@ -39,9 +39,6 @@ module _ (c : Class) (b : ℕ) {r : Bool} where
 
   pub class-capital : c ≡ Capital → r ≡ isCapital b → r ≡ inClass c b
   class-capital e q = rw e q
-
-  pub class-letter : c ≡ Letter → r ≡ isLetter b → r ≡ inClass c b
-  class-letter e q = rw e q
 
   pub class-alnum : c ≡ Alnum → r ≡ isAlnum b → r ≡ inClass c b
   class-alnum e q = rw e q

@@ -9,7 +9,6 @@ ghost use Rattle.classes.specs.Classes.{inClass};
 pub enum Class {
     Digit,
     Capital,
-    Letter,
     Alnum,
     NoHash,
 }
@@ -60,7 +59,6 @@ fn in_class(c: Class, b: u8) -> bool
     match c {
         Class::Digit => is_digit(b),
         Class::Capital => is_capital(b),
-        Class::Letter => is_letter(b),
         Class::Alnum => is_alnum(b),
         Class::NoHash => b != 35,
     }

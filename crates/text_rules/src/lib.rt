@@ -1,5 +1,5 @@
 // The rules of names and texts, one function a rule. A field is a part of the file, `&file[a..b]`; each answer is what the meaning says of its bytes:
-// NMI, suffix, data stream, from and to, configuration, register, serial, unit, service order, description, direction, trans code, version.
+// NMI, suffix, data stream, from and to, configuration, register, serial, service order, description, direction, trans code, version.
 use classes::Class;
 use classes::all_in;
 use classes::are_all;
@@ -7,7 +7,7 @@ use format::Number;
 use leaf::bytes::same_bytes;
 use leaf::bytes::text;
 ghost use mathlib.Core.Path.{_≡_};
-ghost use Rattle.format.specs.Texts.{isNmi, isSuffix, isStream, isParty, isConfiguration, isRegister, isSerial, isUnit, isServiceOrder, isDescription, isDirection, isTransCode, versionOf};
+ghost use Rattle.format.specs.Texts.{isNmi, isSuffix, isStream, isParty, isConfiguration, isRegister, isSerial, isServiceOrder, isDescription, isDirection, isTransCode, versionOf};
 
 pub fn nmi(f: &[u8]) -> bool
     ensures { λ r. ⌜ r ≡ isNmi (now (f .entry)) ⌝ }
@@ -56,12 +56,6 @@ pub fn serial(f: &[u8]) -> bool
     ensures { λ r. ⌜ r ≡ isSerial (now (f .entry)) ⌝ }
 {
     text(f, 0, 12)
-}
-
-pub fn unit(f: &[u8]) -> bool
-    ensures { λ r. ⌜ r ≡ isUnit (now (f .entry)) ⌝ }
-{
-    are_all(f, Class::Letter, 1, 5)
 }
 
 pub fn service_order(f: &[u8]) -> bool
