@@ -1,6 +1,6 @@
 -- The walk over a block: a record's fault there, what each way out of a turn answers, and the turn itself. Assumes nothing.
 use Prim.Native.Nat.{ℕ, _+_, _-_, _≤_, _<_}
-use mathlib.Core.Path.{_≡_, refl, sym, _∙_}
+use mathlib.Core.Path.{_≡_, sym, _∙_}
 use mathlib.Core.List.{List, [], _∷_}
 use mathlib.Core.Bool.{Bool, true, false, not, _&&_, _||_, false≢true}
 use native.Mathlib.Omega.{arith}
@@ -10,9 +10,11 @@ use lib.Dec.{leb, ltb, eqb}
 use borrow.Author.Tests.{ne-eqb, lt-ltb, le-ltb, not-true, not-false}
 use Rattle.ground.specs.Lists.{spanOf, part}
 use Rattle.ground.proofs.Cases.{by}
+use Rattle.ground.proofs.Tests.{or-true}
 use Rattle.ground.proofs.Spans.{part-length}
 use Rattle.format.specs.Bytes.{plain}
 use Rattle.format.specs.Numbers.{intervalsOf}
+use Rattle.format.specs.Units.{isUnit, decimalsOf}
 use Rattle.format.specs.Cut.{rest, lines, fields}
 use Rattle.format.specs.Records.{kindIn, dateIn, updateIn, loadIn}
 use Rattle.format.specs.Order.{Due, inDay}
@@ -39,7 +41,7 @@ use Rattle.order.proofs.Next.{gone, stopped, kept-on}
 use Rattle.alone.specs.declared.BlockWalk.{BlockWalk}
 use Rattle.alone.specs.declared.BlockTurn.{BlockTurn}
 use Rattle.alone.specs.declared.BlockTurn.the-variants as turn
-use Rattle.alone.specs.Walk.{onFrom, wholeOf, isForeignHere, firstWalk, Walking, Turned}
+use Rattle.alone.specs.Walk.{onFrom, leftOf, topOf, wholeOf, isForeignHere, firstWalk, Walking, Turned}
 
 -- ---- a record's fault in a block
 
@@ -116,20 +118,23 @@ module _ (memory : List ℕ) (st : State) (k : ℕ) {b : Bool} where
 
 -- ---- the walk on its way
 
-pub walking-first : (memory : List ℕ) (start n e : ℕ) (t : BlockWalk) → t ≡ firstWalk start n → LineEnd memory start e → n ≤ 288 → Walking memory start n t
-unfolding expectedAs
-walking-first memory start n e t q h s =
-    rw q
-    (record {
-      order = omega arith;
-      within = omega (arith, h .order, h .within);
-      few = omega arith;
-      kept = record { known = omega arith; begun = λ z. absurd (let y : ⊥ = omega arith in y); within = omega arith; small = s; channels = omega arith; days = omega arith };
-      walked = refl;
-    })
+module _ (memory : List ℕ) (start n d : ℕ) (t : BlockWalk) (q : t ≡ firstWalk start n d) where
+  pub walking-first : (e : ℕ) → LineEnd memory start e → n ≤ 288 → d ≤ 6 → Walking memory start t
+  walking-first e h s l =
+      rw q
+      (record {
+        order = omega arith;
+        within = omega (arith, h .order, h .within);
+        few = omega arith;
+        kept = record { known = omega arith; begun = λ z. absurd (let y : ⊥ = omega arith in y); within = omega arith; small = s; few = l; channels = omega arith; days = omega arith };
+      })
 
-module _ (memory : List ℕ) (start n : ℕ) (t : BlockWalk) (g : Walking memory start n t) (r : Record) (is : r ≡ recordAt memory (t .at)) where
-  pub turned-end : r ≡ None → Turned memory start n t turn.End
+  pub walked-first : wholeOf memory start n d ≡ leftOf memory start (topOf memory start n) t
+  unfolding expectedAs
+  walked-first = rw q
+
+module _ (memory : List ℕ) (start : ℕ) (t : BlockWalk) (g : Walking memory start t) (r : Record) (is : r ≡ recordAt memory (t .at)) where
+  pub turned-end : r ≡ None → Turned memory start t turn.End
   turned-end h = handed-none memory (t .at) r is h
 
   module _ (p : ℕ) (f : Found) (h : r ≡ At p f) where
@@ -143,29 +148,29 @@ module _ (memory : List ℕ) (start n : ℕ) (t : BlockWalk) (g : Walking memory
     ends = handed-looked memory (t .at) r is p f h .ends
 
     -- the fault, and the walk behind it, by the record's line
-    pub turned-fault : (x o i : ℕ) → blockFaultOf st here ≡ Stop x o i → wholeOf memory start n ≡ refused x (t .at - start + o) (t .records) i
+    pub turned-fault : (x o i : ℕ) → blockFaultOf st here ≡ Stop x o i → (xs : List ℕ) → leftOf memory start xs t ≡ refused x (t .at - start + o) (t .records) i
     unfolding blockWalkOf
-    turned-fault x o i q = g .walked ∙ rw (line-more memory (t .at) (f .end) ends (handed-inside memory (t .at) r is p f h), q)
+    turned-fault x o i q xs = rw (line-more memory (t .at) (f .end) ends (handed-inside memory (t .at) r is p f h), q)
 
     behind : t .at - start + length here + 2 ≡ f .end + 2 - start
     behind = omega (arith, line-long memory (t .at) (f .end) ends, ends .order, g .order)
 
-    turned-fine : blockFaultOf st here ≡ Fine → wholeOf memory start n ≡ onFrom memory start n (after st here) (f .end + 2) (t .records + 1)
+    turned-fine : blockFaultOf st here ≡ Fine → (xs : List ℕ) → leftOf memory start xs t ≡ onFrom memory start xs (after st here) (f .end + 2) (t .records + 1)
     unfolding blockWalkOf
-    turned-fine q = g .walked ∙ rw (line-more memory (t .at) (f .end) ends (handed-inside memory (t .at) r is p f h), q, behind)
+    turned-fine q xs = rw (line-more memory (t .at) (f .end) ends (handed-inside memory (t .at) r is p f h), q, behind)
 
-    pub turned-4 : {b : Bool} → b ≡ isForeignHere st here → b ≡ true → wholeOf memory start n ≡ refused 4 (t .at - start) (t .records) 0
-    turned-4 eb y =
+    pub turned-4 : {b : Bool} → b ≡ isForeignHere st here → b ≡ true → (xs : List ℕ) → leftOf memory start xs t ≡ refused 4 (t .at - start) (t .records) 0
+    turned-4 eb y xs =
         let z : t .at - start + 0 ≡ t .at - start = omega arith in
-        turned-fault 4 0 0 (foreign-fault st here (sym eb ∙ y)) ∙ rw z
+        turned-fault 4 0 0 (foreign-fault st here (sym eb ∙ y)) xs ∙ rw z
 
     module _ {b : Bool} (eb : b ≡ isForeignHere st here) (no : b ≡ false) (w : Step) (ew : stepAs memory w ≡ nextOf st here) where
-      pub turned-stop : (x o i : ℕ) → w ≡ step.Stop x o i → wholeOf memory start n ≡ refused x (t .at - start + o) (t .records) i
+      pub turned-stop : (x o i : ℕ) → w ≡ step.Stop x o i → (xs : List ℕ) → leftOf memory start xs t ≡ refused x (t .at - start + o) (t .records) i
       unfolding nextOf
       turned-stop x o i q = turned-fault x o i (own-fault st here (sym eb ∙ no) ∙ stopped (faultOf st here) (after st here) x o i (sym (rw q at ew)))
 
       pub turned-on : Holds memory (t .at) (f .end) w → (s : State) → w ≡ step.On s
-          → Turned memory start n t (turn.On (record { at = f .end + 2; records = t .records + 1; state = s }))
+          → Turned memory start t (turn.On (record { at = f .end + 2; records = t .records + 1; state = s }))
       unfolding nextOf
       turned-on hw s q =
           let b = gone (faultOf st here) (after st here) (seen memory s) (sym (rw q at ew)) in
@@ -175,33 +180,39 @@ module _ (memory : List ℕ) (start n : ℕ) (t : BlockWalk) (g : Walking memory
               within = handed-room memory (t .at) r is p f h;
               few = omega (arith, o, g .few);
               kept = kept-on memory (t .at) (f .end) w hw s q;
-              walked = rw (b .1) (turned-fine (own-fault st here (sym eb ∙ no) ∙ b .0));
             },
             omega (arith, o),
+            λ xs. rw (b .1) (turned-fine (own-fault st here (sym eb ∙ no) ∙ b .0) xs),
           )
 
 -- ---- turn after turn
 
-module _ (memory : List ℕ) (start n : ℕ) (t : BlockWalk) (w : BlockTurn) (g : Turned memory start n t w) where
+module _ (memory : List ℕ) (start : ℕ) (t : BlockWalk) (w : BlockTurn) (g : Turned memory start t w) where
   module _ (u : BlockWalk) (h : w ≡ turn.On u) where
-    turned : Walking memory start n u × (t .at < u .at)
+    turned : Turned memory start t (turn.On u)
     turned = rw h at g
 
-    pub turned-walking : Walking memory start n u
+    pub turned-walking : Walking memory start u
     turned-walking = turned .0
+
+    pub turned-left : {a : Answer} (xs : List ℕ) → a ≡ leftOf memory start xs t → a ≡ leftOf memory start xs u
+    turned-left xs e = e ∙ turned .2 xs
 
     pub turned-less : length memory - u .at < length memory - t .at
     turned-less = omega (arith, turned .1, turned .0 .within)
 
-  pub turned-refused : (x : Refusal) → w ≡ turn.Stop x → refusedAs x ≡ wholeOf memory start n
-  turned-refused x h = sym (let z : wholeOf memory start n ≡ refusedAs x = rw h at g in z)
+  pub turned-refused : (x : Refusal) → w ≡ turn.Stop x → {a : Answer} (xs : List ℕ) → a ≡ leftOf memory start xs t → refusedAs x ≡ a
+  turned-refused x h xs e = let z : Turned memory start t (turn.Stop x) = rw h at g in sym (e ∙ z xs)
 
   pub turned-over : w ≡ turn.End → lines (drop (t .at) memory) ≡ rest (drop (t .at) memory)
   turned-over h = rw h at g
 
 -- ---- where no CR LF is left
 
-module _ (memory : List ℕ) (start n : ℕ) (t : BlockWalk) (g : Walking memory start n t) (no : Turned memory start n t turn.End) where
+module _ (memory : List ℕ) (start n : ℕ) (t : BlockWalk) (g : Walking memory start t) (no : Turned memory start t turn.End) where
+  abbrev answer : Answer
+  answer = leftOf memory start (topOf memory start n) t
+
   abbrev at-end : Due
   at-end = seen memory (t .state)
 
@@ -209,56 +220,60 @@ module _ (memory : List ℕ) (start n : ℕ) (t : BlockWalk) (g : Walking memory
     ei : i ≡ inDay (at-end .expect)
     ei = eb ∙ is-500 (t .state .expect)
 
-    pub end-none : {a : Answer} → a ≡ refused 2 (t .at - start) (t .records) 0 → not i ≡ true → a ≡ wholeOf memory start n
+    pub end-none : {a : Answer} → a ≡ refused 2 (t .at - start) (t .records) 0 → not i ≡ true → a ≡ answer
     unfolding blockWalkOf
-    end-none q h = q ∙ sym (g .walked ∙ rw (no, ← ei, not-true i h))
+    end-none q h = q ∙ sym (rw (no, ← ei, not-true i h))
 
     module _ (h : not i ≡ false) where
-      pub end-left : {a : Answer} → a ≡ refused 2 (t .at - start) (t .records) 0 → (t .at ≡ length memory → ⊥) → a ≡ wholeOf memory start n
+      pub end-left : {a : Answer} → a ≡ refused 2 (t .at - start) (t .records) 0 → (t .at ≡ length memory → ⊥) → a ≡ answer
       unfolding blockWalkOf
       end-left q z =
           let y : length (drop (t .at) memory) ≡ 0 → ⊥ = λ e. omega (arith, length-drop (t .at) memory, g .within) in
-          q ∙ sym (g .walked ∙ rw (no, ← ei, not-false i h, ne-eqb _ _ y))
+          q ∙ sym (rw (no, ← ei, not-false i h, ne-eqb _ _ y))
 
       module _ (z : t .at ≡ length memory) {o : Bool} (eo : o ≡ isOpen at-end 0) where
         all-read : lines (drop (t .at) memory) ≡ rest []
         unfolding lines
         all-read = rw (z, drop-length memory)
 
-        pub end-10 : {a : Answer} → a ≡ refused 10 (t .at - start) (t .records) 0 → o ≡ true → a ≡ wholeOf memory start n
+        pub end-10 : {a : Answer} → a ≡ refused 10 (t .at - start) (t .records) 0 → o ≡ true → a ≡ answer
         unfolding blockWalkOf endOf
-        end-10 q u = q ∙ sym (g .walked ∙ rw (all-read, ← ei, not-false i h, ← eo, u))
+        end-10 q u = q ∙ sym (rw (all-read, ← ei, not-false i h, ← eo, u))
 
         pub end-block : (e : ℕ) → LineEnd memory start e → (e ≡ length memory → ⊥) → o ≡ false → (d u l : ℕ)
             → d ≡ dateIn (fields (part memory start e)) → u ≡ updateIn n (fields (part memory start e)) → l ≡ loadIn n (fields (part memory start e))
-            → accepted (d ∷ n ∷ u ∷ l ∷ t .records ∷ []) ≡ wholeOf memory start n
+            → accepted (d ∷ n ∷ u ∷ l ∷ t .records ∷ []) ≡ answer
         unfolding blockWalkOf endOf
         end-block e s go w d u l ed eu el =
-            sym (g .walked ∙ rw (all-read, ← ei, not-false i h, ← eo, w, line-more memory start e s go, ← ed, ← eu, ← el))
+            sym (rw (all-read, ← ei, not-false i h, ← eo, w, line-more memory start e s go, ← ed, ← eu, ← el))
 
 -- ---- the whole block
 
 pub few : (m n : ℕ) → n ≡ intervalsOf m → n ≤ 288
 few m n e = rw e (intervals-most m)
 
-module _ (memory : List ℕ) (start m n : ℕ) (en : n ≡ intervalsOf m) where
-  pub whole-16 : {a : Answer} → a ≡ refused 16 0 0 0 → n ≡ 0 → a ≡ blockCheckOf m (drop start memory)
+module _ (memory : List ℕ) (start m n unit : ℕ) (en : n ≡ intervalsOf m) where
+  pub length-16 : {a : Answer} → a ≡ refused 16 0 0 0 → n ≡ 0 → a ≡ blockCheckOf m unit (drop start memory)
   unfolding blockCheckOf
-  whole-16 q z = rw (← en, z) q
+  length-16 q z = rw (← en, z) q
 
-  module _ (some : n ≡ 0 → ⊥) where
+  pub unit-16 : {a : Answer} {b : Bool} → a ≡ refused 16 0 0 0 → b ≡ isUnit unit → not b ≡ true → a ≡ blockCheckOf m unit (drop start memory)
+  unfolding blockCheckOf
+  unit-16 {a} {b} q eb h = rw (← eb, not-true b h, or-true (eqb (intervalsOf m) 0)) q
+
+  module _ (some : n ≡ 0 → ⊥) {b : Bool} (eb : b ≡ isUnit unit) (h : not b ≡ false) where
     -- there is no record
-    none-there : lines (drop start memory) ≡ rest (drop start memory) → blockCheckOf m (drop start memory) ≡ refused 2 0 0 0
+    none-there : lines (drop start memory) ≡ rest (drop start memory) → blockCheckOf m unit (drop start memory) ≡ refused 2 0 0 0
     unfolding blockCheckOf blockWalkOf
-    none-there h = rw (← en, ne-eqb n 0 some, h)
+    none-there z = rw (← en, ne-eqb n 0 some, ← eb, not-false b h, z)
 
-    pub whole-behind : {a : Answer} → a ≡ refused 2 0 0 0 → length memory < start → a ≡ blockCheckOf m (drop start memory)
+    pub whole-behind : {a : Answer} → a ≡ refused 2 0 0 0 → length memory < start → a ≡ blockCheckOf m unit (drop start memory)
     unfolding lines
-    whole-behind q h = q ∙ sym (none-there (rw (drop-of-length-le memory {i = start} (omega arith))))
+    whole-behind q l = q ∙ sym (none-there (rw (drop-of-length-le memory {i = start} (omega arith))))
 
-    pub whole-none : {a : Answer} → a ≡ refused 2 0 0 0 → (e : ℕ) → LineEnd memory start e → e ≡ length memory → a ≡ blockCheckOf m (drop start memory)
-    whole-none q e s h = q ∙ sym (none-there (line-none memory start e s h))
+    pub whole-none : {a : Answer} → a ≡ refused 2 0 0 0 → (e : ℕ) → LineEnd memory start e → e ≡ length memory → a ≡ blockCheckOf m unit (drop start memory)
+    whole-none q e s z = q ∙ sym (none-there (line-none memory start e s z))
 
-    pub whole-walk : {a : Answer} → a ≡ wholeOf memory start n → a ≡ blockCheckOf m (drop start memory)
+    pub whole-walk : {a : Answer} (d : ℕ) → d ≡ decimalsOf unit → a ≡ wholeOf memory start n d → a ≡ blockCheckOf m unit (drop start memory)
     unfolding blockCheckOf
-    whole-walk q = let z : start - start ≡ 0 = omega arith in rw (← en, ne-eqb n 0 some) (rw z at q)
+    whole-walk d ed q = let z : start - start ≡ 0 = omega arith in rw (← en, ne-eqb n 0 some, ← eb, not-false b h, ← ed) (rw z at q)

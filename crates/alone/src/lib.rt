@@ -1,5 +1,5 @@
-// A block on its own: bytes held to what one day block has to be behind a 200 of an interval length, without a date before it. The block is a part of longer
-// memory, from a place to the memory's end, so that what is found in it can be placed there; its refusals count from its start.
+// A block on its own: bytes held to what one day block has to be behind a 200 of an interval length and a unit, without a date before it. The block is a part
+// of longer memory, from a place to the memory's end, so that what is found in it can be placed there; its refusals count from its start.
 use day::fields::skip;
 use day::head::head_at;
 use day::head::times_at;
@@ -29,7 +29,7 @@ ghost use Rattle.format.specs.File.{blockCheckOf};
 ghost use Rattle.lines.specs.Places.{LineEnd, Looked};
 ghost use Rattle.follows.specs.Tests.{expectedAs};
 ghost use Rattle.order.specs.State.{seen};
-ghost use Rattle.alone.specs.Walk.{refusedAt, wholeOf, isForeignHere, firstWalk, Walking, Turned};
+ghost use Rattle.alone.specs.Walk.{refusedAt, topOf, leftOf, wholeOf, isForeignHere, firstWalk, Walking, Turned};
 ghost use Rattle.alone.specs.declared.BlockTurn.the-variants.{End};
 
 // The walk over a block before a record: where that starts in the memory, how many records are behind, and the state.
@@ -100,21 +100,21 @@ fn said_at(memory: &[u8], a: usize, e: usize, n: usize) -> Said
 }
 
 impl BlockWalk {
-    // Before the first record, behind a 200 of n intervals.
-    fn new(start: usize, n: usize) -> BlockWalk
-        ensures { λ r. ⌜ r ≡ firstWalk start n ⌝ }
+    // Before the first record, behind a 200 of n intervals whose values have at most so many decimals.
+    fn new(start: usize, n: usize, decimals: usize) -> BlockWalk
+        ensures { λ r. ⌜ r ≡ firstWalk start n decimals ⌝ }
     {
         BlockWalk {
             at: start,
             records: 0,
-            state: State::closed(2, 12, n, 0, 0, 0),
+            state: State::closed(2, 12, n, decimals, 0, 0, 0),
         }
     }
 
     // Over the record at which the walk stands.
-    fn turn(self, memory: &[u8], start: usize, n: usize) -> BlockTurn
-        requires { ⌜ Walking (now memory) start n self ⌝ }
-        ensures { λ r. ⌜ Turned (now (memory .entry)) start n self r ⌝ }
+    fn turn(self, memory: &[u8], start: usize) -> BlockTurn
+        requires { ⌜ Walking (now memory) start self ⌝ }
+        ensures { λ r. ⌜ Turned (now (memory .entry)) start self r ⌝ }
     {
         let at = self.at;
         let handed = record_at(memory, at);
@@ -152,8 +152,8 @@ impl BlockWalk {
 
     // Where no CR LF is left: the memory has to end here, with a day that may end. Its 300 ends at e.
     fn end(self, memory: &[u8], start: usize, e: usize, n: usize) -> BlockChecked
-        requires { ⌜ Walking (now memory) start n self × Turned (now memory) start n self End × LineEnd (now memory) start e × (e ≡ length (now memory) → ⊥) ⌝ }
-        ensures { λ r. ⌜ blockCheckedAs r ≡ wholeOf (now (memory .entry)) start n ⌝ }
+        requires { ⌜ Walking (now memory) start self × Turned (now memory) start self End × LineEnd (now memory) start e × (e ≡ length (now memory) → ⊥) ⌝ }
+        ensures { λ r. ⌜ blockCheckedAs r ≡ leftOf (now (memory .entry)) start (topOf (now (memory .entry)) start n) self ⌝ }
     {
         let st = self.state;
         let from = self.at - start;
@@ -189,14 +189,14 @@ fn refused(number: u64, place: usize, record: usize) -> BlockChecked
     })
 }
 
-// The block from `start` to the memory's end, behind a 200 of n intervals, where it has a record.
-fn walk_block(memory: &[u8], start: usize, e: usize, n: usize) -> BlockChecked
-    requires { ⌜ LineEnd (now memory) start e × (e ≡ length (now memory) → ⊥) × (n ≤ 288) ⌝ }
-    ensures { λ r. ⌜ blockCheckedAs r ≡ wholeOf (now (memory .entry)) start n ⌝ }
+// The block from `start` to the memory's end, behind a 200 of n intervals whose values have at most so many decimals, where it has a record.
+fn walk_block(memory: &[u8], start: usize, e: usize, n: usize, decimals: usize) -> BlockChecked
+    requires { ⌜ LineEnd (now memory) start e × (e ≡ length (now memory) → ⊥) × (n ≤ 288) × (decimals ≤ 6) ⌝ }
+    ensures { λ r. ⌜ blockCheckedAs r ≡ wholeOf (now (memory .entry)) start n decimals ⌝ }
 {
-    let mut t = BlockWalk::new(start, n);
+    let mut t = BlockWalk::new(start, n, decimals);
     loop {
-        let turn = t.turn(memory, start, n);
+        let turn = t.turn(memory, start);
         match turn {
             BlockTurn::On(next) => {
                 t = next;
@@ -207,13 +207,16 @@ fn walk_block(memory: &[u8], start: usize, e: usize, n: usize) -> BlockChecked
     }
 }
 
-// Whether the bytes from `start` to the memory's end are a day block behind a 200 of so many minutes: what it says and how many records it has, or its first
-// refusal. An interval length that is none is 16, before all else.
-pub fn check_block(memory: &[u8], start: usize, minutes: u32) -> BlockChecked
-    ensures { λ r. ⌜ blockCheckedAs r ≡ blockCheckOf minutes (drop start (now (memory .entry))) ⌝ }
+// Whether the bytes from `start` to the memory's end are a day block behind a 200 of so many minutes and that unit: what it says and how many records it has,
+// or its first refusal. An interval length or a unit that is none is 16, before all else.
+pub fn check_block(memory: &[u8], start: usize, minutes: u32, unit: u8) -> BlockChecked
+    ensures { λ r. ⌜ blockCheckedAs r ≡ blockCheckOf minutes unit (drop start (now (memory .entry))) ⌝ }
 {
     let n = intervals(minutes as u64);
     if n == 0 {
+        return refused(16, 0, 0);
+    }
+    if !units::is_unit(unit) {
         return refused(16, 0, 0);
     }
     let long = memory.len();
@@ -224,5 +227,5 @@ pub fn check_block(memory: &[u8], start: usize, minutes: u32) -> BlockChecked
     if e == long {
         return refused(2, 0, 0);
     }
-    walk_block(memory, start, e, n)
+    walk_block(memory, start, e, n, units::decimals(unit))
 }

@@ -8,8 +8,9 @@ use lib.Seq.{drop-nil, drop-length}
 use borrow.Author.Tests.{ne-eqb}
 use Rattle.ground.specs.Lists.{part}
 use Rattle.format.specs.Numbers.{numberIn, lengthOf, intervalsOf}
+use Rattle.format.specs.Units.{unitOf}
 use Rattle.format.specs.Cut.{lines, fields, field}
-use Rattle.format.specs.Records.{kindIn, intervalsIn}
+use Rattle.format.specs.Records.{kindIn, intervalsIn, unitIn}
 use Rattle.format.specs.Day.{DayRows, daysFrom}
 use Rattle.lines.specs.Places.{LineEnd, Rest}
 use Rattle.lines.proofs.Cuts.{rest-first}
@@ -25,6 +26,11 @@ pub intervals-is : (file : List ℕ) (fs : List (List ℕ)) (p x e n : ℕ) → 
     → n ≡ intervalsOf (numberIn (lengthOf (field 0 (fields (part file x e))))) → n ≡ intervalsIn fs
 unfolding intervalsIn
 intervals-is file fs p x e n s h = h ∙ ap (λ (f : List ℕ). intervalsOf (numberIn (lengthOf f))) (rest-first s)
+
+-- its unit in the eighth
+pub unit-is : (file : List ℕ) (fs : List (List ℕ)) (p x e u : ℕ) → Rest file fs p 7 x e → u ≡ numberIn (unitOf (field 0 (fields (part file x e)))) → u ≡ unitIn fs
+unfolding unitIn
+unit-is file fs p x e u s h = h ∙ ap (λ (f : List ℕ). numberIn (unitOf f)) (rest-first s)
 
 -- a record on, less of the file is left
 pub line-less : (file : List ℕ) (at e : ℕ) → LineEnd file at e → (e ≡ length file → ⊥) → length file - (e + 2) < length file - at

@@ -5,7 +5,7 @@ use mathlib.Core.List.{List, [], _∷_}
 use lib.ListN.{length, drop}
 use Rattle.ground.specs.Lists.{part}
 use Rattle.format.specs.Cut.{lines, field}
-use Rattle.format.specs.Records.{intervalsIn, millionths}
+use Rattle.format.specs.Records.{intervalsIn, unitIn, millionths}
 use Rattle.format.specs.Day.{Row, rowAt, BlockRows, DayRows, runsFrom, daysFrom, daysOf}
 use Rattle.day.specs.declared.DayStart.{DayStart}
 use Rattle.day.specs.declared.Under.{Under}
@@ -21,9 +21,9 @@ valuesFrom (suc n) i fs = millionths (field i fs) ∷ valuesFrom n (suc i) fs
 abbrev pub runsAt : List ℕ → ℕ → List Row
 runsAt file p = runsFrom p (lines (drop p file))
 
--- the block of n intervals whose 300 stands from a to e
-abbrev pub blockAt : List ℕ → ℕ → ℕ → ℕ → BlockRows
-blockAt file a e n = record { n = n; top = rowAt a (part file a e); runs = runsAt file (e + 2) }
+-- the block of n intervals in that unit whose 300 stands from a to e
+abbrev pub blockAt : List ℕ → ℕ → ℕ → ℕ → ℕ → BlockRows
+blockAt file a e n unit = record { n = n; unit = unit; top = rowAt a (part file a e); runs = runsAt file (e + 2) }
 
 -- ---- where a day stands
 
@@ -37,7 +37,7 @@ channelAt file u = rowAt (u .at) (part file (u .at) (u .end))
 
 -- the day under it whose 300 stands from a to e
 abbrev pub dayAt : List ℕ → ℕ → ℕ → Under → DayRows
-dayAt file a e u = record { channel = channelAt file u; block = blockAt file a e (intervalsIn (channelAt file u .cells)) }
+dayAt file a e u = record { channel = channelAt file u; block = blockAt file a e (intervalsIn (channelAt file u .cells)) (unitIn (channelAt file u .cells)) }
 
 -- the days from place p on, with the 200 before
 abbrev pub daysAt : List ℕ → ℕ → Under → List DayRows

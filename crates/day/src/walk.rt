@@ -6,12 +6,13 @@ use super::fields::skip;
 use lines::scan;
 use says::intervals_at;
 use says::kind_at;
+use says::unit_at;
 ghost use mathlib.Core.Path.{_≡_};
 ghost use Prim.Native.Nat.{_≤_};
 ghost use lib.ListN.{length, drop};
 ghost use Rattle.ground.specs.Lists.{part};
 ghost use Rattle.format.specs.Cut.{fields};
-ghost use Rattle.format.specs.Records.{intervalsIn};
+ghost use Rattle.format.specs.Records.{intervalsIn, unitIn};
 ghost use Rattle.format.specs.Day.{daysOf};
 ghost use Rattle.day.specs.Places.{DayAhead, located, inside, Behind};
 
@@ -22,6 +23,15 @@ pub fn intervals_of(file: &[u8], a: usize, e: usize) -> usize
 {
     let x = skip(file, a, e, 8);
     intervals_at(file, x, e)
+}
+
+// The number of the unit that they are in.
+pub fn unit_of(file: &[u8], a: usize, e: usize) -> u8
+    requires { ⌜ (a ≤ e) × (e ≤ length (now file)) ⌝ }
+    ensures { λ r. ⌜ r ≡ unitIn (fields (part (now (file .entry)) a e)) ⌝ }
+{
+    let x = skip(file, a, e, 7);
+    unit_at(file, x, e)
 }
 
 // The day of a number from 0, with the last 200 before it. A walk that came by has noted from where it is found.

@@ -9,7 +9,7 @@ use borrow.Author.Tests.{leb-true, not-true, not-false}
 use Rattle.ground.proofs.Tests.{and-true}
 use Rattle.ground.specs.Lists.{part}
 use Rattle.format.specs.Cut.{fields}
-use Rattle.format.specs.Records.{intervalsIn}
+use Rattle.format.specs.Records.{intervalsIn, unitIn}
 use Rattle.format.specs.Answers.{Answer, refusal}
 use Rattle.format.specs.Day.{DayRows, daysOf, Five, outcome, enoughFor, roomFor, readInto, readFirst, readOf}
 use Rattle.passing.specs.Sound.{isSound, areSound}
@@ -22,8 +22,8 @@ use Rattle.day.specs.declared.Place.{Place}
 use Rattle.day.specs.declared.Place.the-variants.{At, Missing}
 use Rattle.filling.specs.Fillable.{Here, Fillable, dayInto}
 
-module _ (file : List ℕ) (a e n : ℕ) (vs : List ℕ) (ms : Five) {b : Bool} (eb : b ≡ roomFor n vs ms) where
-  pub ready : Here file a e n → not b ≡ false → Fillable file a e n vs ms
+module _ (file : List ℕ) (a e n unit : ℕ) (vs : List ℕ) (ms : Five) {b : Bool} (eb : b ≡ roomFor n vs ms) where
+  pub ready : Here file a e n unit → not b ≡ false → Fillable file a e n unit vs ms
   unfolding enoughFor
   ready h hb =
       let t = sym eb ∙ not-false b hb in
@@ -45,29 +45,29 @@ module _ (file : List ℕ) (a e n : ℕ) (vs : List ℕ) (ms : Five) {b : Bool} 
             };
       }
 
-  pub at-15 : (r : Answer) → not b ≡ true → r ≡ refusal 15 → outcome r vs ms ≡ dayInto (blockAt file a e n) vs ms
+  pub at-15 : (r : Answer) → not b ≡ true → r ≡ refusal 15 → outcome r vs ms ≡ dayInto (blockAt file a e n unit) vs ms
   at-15 r h er = rw (← eb, not-true b h, er)
 
-  pub at-filled : (r : Answer) (vs₁ : List ℕ) (ms₁ : Five) → not b ≡ false → outcome r vs₁ ms₁ ≡ readInto (blockAt file a e n) vs ms
-      → outcome r vs₁ ms₁ ≡ dayInto (blockAt file a e n) vs ms
+  pub at-filled : (r : Answer) (vs₁ : List ℕ) (ms₁ : Five) → not b ≡ false → outcome r vs₁ ms₁ ≡ readInto (blockAt file a e n unit) vs ms
+      → outcome r vs₁ ms₁ ≡ dayInto (blockAt file a e n unit) vs ms
   at-filled r vs₁ ms₁ h q = rw (← eb, not-false b h) q
 
 -- what stands at the place p that the walk to a day answers
 module _ (file : List ℕ) (p : Place) where
-  pub day-here : (a e n : ℕ) (u : Under) → p ≡ At a e u → n ≡ intervalsIn (fields (part file (u .at) (u .end))) → inside file p → areSound (located file p) ≡ true
-      → Here file a e n
-  day-here a e n u h en i s =
+  pub day-here : (a e n unit : ℕ) (u : Under) → p ≡ At a e u → n ≡ intervalsIn (fields (part file (u .at) (u .end))) → unit ≡ unitIn (fields (part file (u .at) (u .end)))
+      → inside file p → areSound (located file p) ≡ true → Here file a e n unit
+  day-here a e n unit u h en eu i s =
       let w : (a ≤ e) × (e + 2 ≤ length file) × Heads file u = rw h at i in
       let t : areSound (located file (At a e u)) ≡ true = rw h at s in
-      record { order = w .0; within = w .1; sound = rw en (and-true (isSound (dayAt file a e u .block)) _ t .0) }
+      record { order = w .0; within = w .1; sound = rw (en, eu) (and-true (isSound (dayAt file a e u .block)) _ t .0) }
 
   module _ (vs : List ℕ) (ms : Five) where
     pub day-missing : (r : Answer) → p ≡ Missing → r ≡ refusal 14 → outcome r vs ms ≡ readFirst (located file p) vs ms
     day-missing r h er = rw (h, er)
 
-    pub day-found : (a e n : ℕ) (u : Under) (r : Answer) (vs₁ : List ℕ) (ms₁ : Five) → p ≡ At a e u → n ≡ intervalsIn (fields (part file (u .at) (u .end)))
-        → outcome r vs₁ ms₁ ≡ dayInto (blockAt file a e n) vs ms → outcome r vs₁ ms₁ ≡ readFirst (located file p) vs ms
-    day-found a e n u r vs₁ ms₁ h en q = rw h (rw en at q)
+    pub day-found : (a e n unit : ℕ) (u : Under) (r : Answer) (vs₁ : List ℕ) (ms₁ : Five) → p ≡ At a e u → n ≡ intervalsIn (fields (part file (u .at) (u .end)))
+        → unit ≡ unitIn (fields (part file (u .at) (u .end))) → outcome r vs₁ ms₁ ≡ dayInto (blockAt file a e n unit) vs ms → outcome r vs₁ ms₁ ≡ readFirst (located file p) vs ms
+    day-found a e n unit u r vs₁ ms₁ h en eu q = rw h (rw (en, eu) at q)
 
 -- ---- a file that was accepted
 

@@ -44,22 +44,22 @@ over-five ts n ms h r =
 
 -- ---- a day at a place: t is the mark of its 300
 
-module _ (file : List ℕ) (a e n : ℕ) (t : Tag) (et : t ≡ tagAt 300 (rowAt a (part file a e)) (n + 2)) where
-  pub covered-is : (vs : List ℕ) (ms : Five) → Fillable file a e n vs ms → isCovered t n (runsAt file (e + 2)) ≡ true
+module _ (file : List ℕ) (a e n unit : ℕ) (t : Tag) (et : t ≡ tagAt 300 (rowAt a (part file a e)) (n + 2)) where
+  pub covered-is : (vs : List ℕ) (ms : Five) → Fillable file a e n unit vs ms → isCovered t n (runsAt file (e + 2)) ≡ true
   unfolding isSound isCovered isVaried tagAt
   covered-is vs ms r = rw et (and-true (eqb (length (fields (part file a e))) (n + 7)) _ (r .here .sound) .1)
 
-  tags-are : tagsFor t n (runsAt file (e + 2)) ≡ tagsOf (blockAt file a e n)
+  tags-are : tagsFor t n (runsAt file (e + 2)) ≡ tagsOf (blockAt file a e n unit)
   unfolding tagsFor runTags tagsOf eachOf isVaried tagAt
   tags-are = rw et
 
   pub fill-is : (d u l : ℕ) (vs vs₁ : List ℕ) (ms ms₁ : Five) → d ≡ dateIn (fields (part file a e))
       → u ≡ updateIn n (fields (part file a e)) → l ≡ loadIn n (fields (part file a e))
       → vs₁ ≡ sets vs 0 (valuesFrom n 2 (fields (part file a e))) → ms₁ ≡ stored ms 0 (tagsFor t n (runsAt file (e + 2)))
-      → Fillable file a e n vs ms → outcome (accepted (d ∷ n ∷ u ∷ l ∷ [])) vs₁ ms₁ ≡ readInto (blockAt file a e n) vs ms
+      → Fillable file a e n unit vs ms → outcome (accepted (d ∷ n ∷ u ∷ l ∷ unit ∷ [])) vs₁ ms₁ ≡ readInto (blockAt file a e n unit) vs ms
   unfolding readInto valuesOf tagsOf
   fill-is d u l vs vs₁ ms ms₁ ed eu el ev em r =
-      let w = blockAt file a e n in
+      let w = blockAt file a e n unit in
       let so = r .here .sound in
       let y : valuesFrom n 2 (fields (part file a e)) ≡ valuesOf w = values-are n (fields (part file a e)) (sound-fields w so) in
       let v₁ : vs₁ ≡ over (valuesOf w) vs = ev ∙ ap (sets vs 0) y ∙ over-one (valuesOf w) vs (omega (arith, sound-values w so, r .values)) in

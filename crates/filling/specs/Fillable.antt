@@ -10,15 +10,15 @@ use Rattle.lists.specs.Lists.{Roomy}
 use Rattle.passing.specs.Sound.{isSound}
 use Rattle.day.specs.Places.{blockAt}
 
--- a sound day of n intervals has its 300 from a to e
-pub record Here (file : List ℕ) (a e n : ℕ) : Type 0 where
+-- a sound day of n intervals in that unit has its 300 from a to e
+pub record Here (file : List ℕ) (a e n unit : ℕ) : Type 0 where
   pub order : a ≤ e
   pub within : e + 2 ≤ length file
-  pub sound : isSound (blockAt file a e n) ≡ true
+  pub sound : isSound (blockAt file a e n unit) ≡ true
 
 -- and the lists have room for it
-pub record Fillable (file : List ℕ) (a e n : ℕ) (vs : List ℕ) (ms : Five) : Type 0 where
-  pub here : Here file a e n
+pub record Fillable (file : List ℕ) (a e n unit : ℕ) (vs : List ℕ) (ms : Five) : Type 0 where
+  pub here : Here file a e n unit
   pub values : n ≤ length vs
   pub marks : Roomy n ms
 

@@ -5,6 +5,7 @@ use day::head::fill_top;
 use day::walk::behind;
 use day::walk::find_day;
 use day::walk::intervals_of;
+use day::walk::unit_of;
 use day_marks::put_marks;
 use format::DayRead;
 use format::Refusal;
@@ -19,12 +20,13 @@ ghost use Rattle.day.specs.Places.{blockAt, DayAhead, located, inside};
 ghost use Rattle.format.specs.File.{IsAccepted};
 ghost use Rattle.filling.specs.Fillable.{Here, Fillable, dayInto};
 
-// Fills the lists with the day of n intervals whose 300 stands at a..e: nothing is left here that could fail.
+// Fills the lists with the day of n intervals in that unit whose 300 stands at a..e: nothing is left here that could fail.
 fn fill_day(
     file: &[u8],
     a: usize,
     e: usize,
     n: usize,
+    unit: u8,
     values: &mut [u64],
     flags: &mut [u8],
     methods: &mut [u8],
@@ -32,8 +34,8 @@ fn fill_day(
     starts: &mut [usize],
     lengths: &mut [usize],
 ) -> DayRead
-    requires { ⌜ Fillable (now file) a e n (now values) (five (now flags) (now methods) (now reasons) (now starts) (now lengths)) ⌝ }
-    ensures { λ r. ⌜ outcome (dayReadAs r) (now (values .exit)) (five (now (flags .exit)) (now (methods .exit)) (now (reasons .exit)) (now (starts .exit)) (now (lengths .exit))) ≡ readInto (blockAt (now (file .entry)) a e n) (now (values .entry)) (five (now (flags .entry)) (now (methods .entry)) (now (reasons .entry)) (now (starts .entry)) (now (lengths .entry))) ⌝ }
+    requires { ⌜ Fillable (now file) a e n unit (now values) (five (now flags) (now methods) (now reasons) (now starts) (now lengths)) ⌝ }
+    ensures { λ r. ⌜ outcome (dayReadAs r) (now (values .exit)) (five (now (flags .exit)) (now (methods .exit)) (now (reasons .exit)) (now (starts .exit)) (now (lengths .exit))) ≡ readInto (blockAt (now (file .entry)) a e n unit) (now (values .entry)) (five (now (flags .entry)) (now (methods .entry)) (now (reasons .entry)) (now (starts .entry)) (now (lengths .entry))) ⌝ }
 {
     let t = fill_top(file, a, e, n, values);
     let tag = t.tag;
@@ -44,6 +46,7 @@ fn fill_day(
         n,
         update: t.update,
         load: t.load,
+        unit,
     }
 }
 
@@ -53,6 +56,7 @@ fn read_at(
     a: usize,
     e: usize,
     n: usize,
+    unit: u8,
     values: &mut [u64],
     flags: &mut [u8],
     methods: &mut [u8],
@@ -60,8 +64,8 @@ fn read_at(
     starts: &mut [usize],
     lengths: &mut [usize],
 ) -> DayRead
-    requires { ⌜ Here (now file) a e n ⌝ }
-    ensures { λ r. ⌜ outcome (dayReadAs r) (now (values .exit)) (five (now (flags .exit)) (now (methods .exit)) (now (reasons .exit)) (now (starts .exit)) (now (lengths .exit))) ≡ dayInto (blockAt (now (file .entry)) a e n) (now (values .entry)) (five (now (flags .entry)) (now (methods .entry)) (now (reasons .entry)) (now (starts .entry)) (now (lengths .entry))) ⌝ }
+    requires { ⌜ Here (now file) a e n unit ⌝ }
+    ensures { λ r. ⌜ outcome (dayReadAs r) (now (values .exit)) (five (now (flags .exit)) (now (methods .exit)) (now (reasons .exit)) (now (starts .exit)) (now (lengths .exit))) ≡ dayInto (blockAt (now (file .entry)) a e n unit) (now (values .entry)) (five (now (flags .entry)) (now (methods .entry)) (now (reasons .entry)) (now (starts .entry)) (now (lengths .entry))) ⌝ }
 {
     if !enough(
         n,
@@ -79,6 +83,7 @@ fn read_at(
         a,
         e,
         n,
+        unit,
         values,
         flags,
         methods,
@@ -109,6 +114,7 @@ fn read_place(
             a,
             e,
             intervals_of(file, under.at, under.end),
+            unit_of(file, under.at, under.end),
             values,
             flags,
             methods,

@@ -11,16 +11,18 @@ use Rattle.ground.specs.Lists.{part}
 use Rattle.ground.proofs.Tests.{and-true}
 use Rattle.format.specs.Numbers.{numberIn, lengthOf, intervalsOf}
 use Rattle.format.specs.Texts.{versionOf}
+use Rattle.format.specs.Units.{decimalsNamed}
 use Rattle.format.specs.Dates.{dateOf, readTimeOf}
 use Rattle.format.specs.Quality.{across}
 use Rattle.format.specs.Cut.{fields, field, startOf}
-use Rattle.format.specs.Records.{versionIn, intervalsIn, dateIn, lastIn, readTimeIn, qualitiesOf}
+use Rattle.format.specs.Records.{versionIn, intervalsIn, decimalsIn, dateIn, lastIn, readTimeIn, qualitiesOf}
 use Rattle.format.specs.Order.{noneYet, Due, isVaried, alikeWith, on100, on200, afterOf}
-use Rattle.format.specs.Faults.{size, brokenIn, f7, isNotLater, covers, isOff, isAlike, onDay, isElsewhere}
+use Rattle.format.specs.Faults.{scaleOf, brokenIn, f7, isNotLater, covers, isOff, isAlike, onDay, isElsewhere}
 use Rattle.format.specs.Day.{rowAt, tagAt}
 use Rattle.format.specs.declared.Fault.the-variants.{Fine, Stop}
 use Rattle.format.specs.declared.Tag.{Tag}
 use Rattle.runs.specs.Ran.{Ran}
+use Rattle.lines.proofs.Cuts.{rest-first}
 use Rattle.format.proofs.Numbers.{intervals-most}
 use Rattle.says.proofs.Fields.{says-of, tag-moves}
 use Rattle.order.specs.declared.State.{State}
@@ -33,11 +35,11 @@ use Rattle.order.proofs.Marks.{flag-of, mark-of, agrees-of, tag-within}
 -- ---- the chain from 7 on
 
 module _ (st : Due) (k : ℕ) (fs : List (List ℕ)) where
-  late-7 : (i : ℕ) → f7 k (size st k) fs ≡ Stop 7 (startOf i fs) (i + 1) → stops 7 (startOf i fs) (i + 1) ≡ lastOf st k fs
+  late-7 : (i : ℕ) → f7 k (scaleOf st k fs .n) fs ≡ Stop 7 (startOf i fs) (i + 1) → stops 7 (startOf i fs) (i + 1) ≡ lastOf st k fs
   unfolding lastOf lateOf
   late-7 i e = rw e
 
-  module _ (e₇ : f7 k (size st k) fs ≡ Fine) where
+  module _ (e₇ : f7 k (scaleOf st k fs .n) fs ≡ Fine) where
     late-8 : isNotLater st k fs ≡ true → stops 8 (startOf 1 fs) 2 ≡ lastOf st k fs
     unfolding lastOf lateOf
     late-8 e = rw (e₇, e)
@@ -92,7 +94,7 @@ module _ (file : List ℕ) (at e p : ℕ) (st : State) (t : Tag) {b : Bool} (h :
     on300-8 l = rw four (late-8 (seen file st) 300 (cells file at e) fine-300 (rw (← date, le-leb _ _ l)))
 
     pub on300-on : (x : ℕ) (s : Due) → st .date < d → x ≡ cond (eqb (t .flag) 86) 4 3
-        → s ≡ record { expect = expectedAs x; version = st .version; n = st .n; date = d; next = 1; shared = noneYet; channels = st .channels; days = st .days + 1 }
+        → s ≡ record { expect = expectedAs x; version = st .version; n = st .n; decimals = st .decimals; date = d; next = 1; shared = noneYet; channels = st .channels; days = st .days + 1 }
         → goes s ≡ lastOf (seen file st) 300 (cells file at e)
     unfolding isNotLater isOff isAlike isElsewhere afterOf isVaried
     on300-on x s l ex es =
@@ -166,7 +168,7 @@ module _ (file : List ℕ) (at e from to q : ℕ) (st : State) (t : Tag) {b : Bo
       on400-11 v = late-11 (seen file st) 400 (cells file at e) fine-400 refl (off ∙ on) (sym whole ∙ v)
 
       pub on400-on : (m : Tag) (s : Due) → 1 ≤ st .next → w ≡ false → m ≡ cond (eqb (st .next) 1) t (st .mark)
-          → s ≡ record { expect = expectedAs 4; version = st .version; n = st .n; date = st .date; next = to + 1; shared = sharedAs file (to + 1) m a; channels = st .channels; days = st .days }
+          → s ≡ record { expect = expectedAs 4; version = st .version; n = st .n; decimals = st .decimals; date = st .date; next = to + 1; shared = sharedAs file (to + 1) m a; channels = st .channels; days = st .days }
           → goes s ≡ lastOf (seen file st) 400 (cells file at e)
       unfolding isNotLater isElsewhere afterOf expectedAs alikeTo
       on400-on m s l v em es =
@@ -187,7 +189,7 @@ module _ (file : List ℕ) (at e p x : ℕ) (st : State) {o : Bool} (h : Here fi
       let z : p - at ≡ startOf 3 (cells file at e) = omega (arith, h .place) in
       rw z (late-12 (seen file st) 500 (cells file at e) refl refl refl refl (elsewhere ∙ n))
 
-  pub on500-on : (s : State) → not o ≡ false → s ≡ closed 5 (st .version) (st .n) (st .date) (st .channels) (st .days)
+  pub on500-on : (s : State) → not o ≡ false → s ≡ closed 5 (st .version) (st .n) (st .decimals) (st .date) (st .channels) (st .days)
       → goes (seen file s) ≡ lastOf (seen file st) 500 (cells file at e)
   unfolding brokenIn qualitiesOf isNotLater isOff isAlike afterOf expectedAs
   on500-on s n es = rw es (late-none (seen file st) 500 (cells file at e) refl refl refl refl (elsewhere ∙ n))
@@ -214,7 +216,7 @@ module _ (file : List ℕ) (at e p q : ℕ) (st : State) (s : Tag) {b : Bool} (h
         let z : q - at ≡ startOf 15 (cells file at e) = omega (arith, g .place) in
         rw z (late-7 (seen file st) 250 (cells file at e) 15 w)
 
-    pub on250-on : (s : State) → not c ≡ false → s ≡ closed 7 (st .version) 0 0 (st .channels + 1) (st .days)
+    pub on250-on : (s : State) → not c ≡ false → s ≡ closed 7 (st .version) 0 0 0 (st .channels + 1) (st .days)
         → goes (seen file s) ≡ lastOf (seen file st) 250 (cells file at e)
     unfolding isNotLater isOff isAlike isElsewhere afterOf expectedAs
     on250-on s n es = rw es (late-none (seen file st) 250 (cells file at e) (rw (not-false c n) at broken-250) refl refl refl refl)
@@ -224,8 +226,8 @@ module _ (file : List ℕ) (at e p q : ℕ) (st : State) (s : Tag) {b : Bool} (h
 pub no-tag-within : (file : List ℕ) {m : Tag} → m ≡ noTag → m .start + m .length ≤ length file
 no-tag-within file e = rw e (omega arith)
 
-pub kept-closed : (file : List ℕ) (e : ℕ) {s : State} {x v n t c d : ℕ} → s ≡ closed x v n t c d → x ≤ 9 → (x ≡ 4 → ⊥) → n ≤ 288 → c ≤ e + 1 → d ≤ e + 1 → Kept file (e + 1) s
-kept-closed file e q hx ho hn hc hd = rw q record { known = hx; begun = λ z. absurd (ho z); within = omega arith; small = hn; channels = hc; days = hd }
+pub kept-closed : (file : List ℕ) (e : ℕ) {s : State} {x v n m t c d : ℕ} → s ≡ closed x v n m t c d → x ≤ 9 → (x ≡ 4 → ⊥) → n ≤ 288 → m ≤ 6 → c ≤ e + 1 → d ≤ e + 1 → Kept file (e + 1) s
+kept-closed file e q hx ho hn hm hc hd = rw q record { known = hx; begun = λ z. absurd (ho z); within = omega arith; small = hn; few = hm; channels = hc; days = hd }
 
 pub picked-within : (file : List ℕ) (b : Bool) (t u : Tag) {m : Tag} → m ≡ cond b t u → t .start + t .length ≤ length file → u .start + u .length ≤ length file
     → m .start + m .length ≤ length file
@@ -240,25 +242,26 @@ module _ (file : List ℕ) (at e : ℕ) (st : State) {v : ℕ} (h : Here file at
   unfolding versionIn
   version = says-of versionOf ev h
 
-  pub on100-12 : {s : State} → v ≡ 12 → s ≡ closed 1 v 0 0 0 0 → After file e (on100 (seen file st) (cells file at e)) s
+  pub on100-12 : {s : State} → v ≡ 12 → s ≡ closed 1 v 0 0 0 0 0 → After file e (on100 (seen file st) (cells file at e)) s
   unfolding expectedAs
-  on100-12 k q = record { is = rw (q, version, eq-eqb _ _ (sym version ∙ k)); kept = kept-closed file e q (omega arith) (λ z. omega arith) (omega arith) (omega arith) (omega arith) }
+  on100-12 k q = record { is = rw (q, version, eq-eqb _ _ (sym version ∙ k)); kept = kept-closed file e q (omega arith) (λ z. omega arith) (omega arith) (omega arith) (omega arith) (omega arith) }
 
-  pub on100-13 : {s : State} → (v ≡ 12 → ⊥) → s ≡ closed 6 v 0 0 0 0 → After file e (on100 (seen file st) (cells file at e)) s
+  pub on100-13 : {s : State} → (v ≡ 12 → ⊥) → s ≡ closed 6 v 0 0 0 0 0 → After file e (on100 (seen file st) (cells file at e)) s
   unfolding expectedAs
   on100-13 k q =
       record {
         is = rw (q, version, ne-eqb (versionIn (cells file at e)) 12 (λ z. k (version ∙ z)));
-        kept = kept-closed file e q (omega arith) (λ z. omega arith) (omega arith) (omega arith) (omega arith);
+        kept = kept-closed file e q (omega arith) (λ z. omega arith) (omega arith) (omega arith) (omega arith) (omega arith);
       }
 
-pub on200-on : (file : List ℕ) (at e p : ℕ) (st : State) {n : ℕ} {s : State} → Kept file at st → Here file at e 8 p
-    → n ≡ intervalsOf (numberIn (lengthOf (field 0 (fields (part file p e))))) → s ≡ closed 2 (st .version) n 0 (st .channels + 1) (st .days)
-    → After file e (on200 (seen file st) (cells file at e)) s
-unfolding intervalsIn expectedAs
-on200-on file at e p st {n} {s} k h en q =
+pub on200-on : (file : List ℕ) (at e p u : ℕ) (st : State) {n d : ℕ} {s : State} → Kept file at st → Here file at e 8 p → Here file at e 7 u
+    → n ≡ intervalsOf (numberIn (lengthOf (field 0 (fields (part file p e))))) → d ≡ decimalsNamed (field 0 (fields (part file u e))) → d ≤ 6
+    → s ≡ closed 2 (st .version) n d 0 (st .channels + 1) (st .days) → After file e (on200 (seen file st) (cells file at e)) s
+unfolding intervalsIn decimalsIn expectedAs
+on200-on file at e p u st {n} {d} {s} k h g en ed few q =
     let w : n ≡ intervalsOf (numberIn (lengthOf (field 8 (cells file at e)))) = en ∙ ap intervalsOf (says-of lengthOf refl h) in
+    let v : d ≡ decimalsNamed (field 7 (cells file at e)) = ed ∙ ap decimalsNamed (rest-first (g .rest)) in
     record {
-      is = rw (q, w);
-      kept = kept-closed file e q (omega arith) (λ z. omega arith) (omega (arith, intervals-most (numberIn (lengthOf (field 0 (fields (part file p e))))))) (omega (arith, k .channels, h .place, h .rest .ends)) (omega (arith, k .days, h .place, h .rest .ends));
+      is = rw (q, w, v);
+      kept = kept-closed file e q (omega arith) (λ z. omega arith) (omega (arith, intervals-most (numberIn (lengthOf (field 0 (fields (part file p e))))))) few (omega (arith, k .channels, h .place, h .rest .ends)) (omega (arith, k .days, h .place, h .rest .ends));
     }

@@ -36,7 +36,7 @@ module _ (file : List ℕ) (at e : ℕ) (t : Step) (r : Holds file at e t) where
   pub kept-on : (n : State) → t ≡ step.On n → Kept file (e + 2) n
   kept-on n q =
       let h : Kept file (e + 1) n = rw q at r in
-      record { known = h .known; begun = h .begun; within = h .within; small = h .small; channels = omega (arith, h .channels); days = omega (arith, h .days) }
+      record { known = h .known; begun = h .begun; within = h .within; small = h .small; few = h .few; channels = omega (arith, h .channels); days = omega (arith, h .days) }
 
   pub stop-within : (x o i : ℕ) → t ≡ step.Stop x o i → at + o ≤ e
   stop-within x o i q = rw q at r

@@ -11,7 +11,7 @@ use Rattle.format.specs.Numbers.{noReason}
 use Rattle.format.specs.Cut.{fields}
 use Rattle.format.specs.Order.{Shared, noneYet, allHave, theyDiffer, shareWith, areAlike, Due, afterOf}
 use Rattle.format.specs.File.{after}
-use Rattle.format.specs.Faults.{_▹_, size, f7, f8, f9, f11, f12, faultIn, faultOf}
+use Rattle.format.specs.Faults.{_▹_, scaleOf, f7, f8, f9, f11, f12, faultIn, faultOf}
 use Rattle.format.specs.declared.Fault.{Fault}
 use Rattle.format.specs.declared.Fault.the-variants.{Fine, Stop}
 use Rattle.format.specs.declared.Tag.{Tag}
@@ -35,6 +35,7 @@ seen file st =
       expect = expectedAs (st .expect);
       version = st .version;
       n = st .n;
+      decimals = st .decimals;
       date = st .date;
       next = st .next;
       shared = sharedAs file (st .next) (st .mark) (st .alike);
@@ -46,8 +47,8 @@ abbrev pub noTag : Tag
 noTag = record { flag = 0; method = noMethod; reason = noReason; start = 0; length = 0 }
 
 -- where no V day is open
-abbrev pub closed : ℕ → ℕ → ℕ → ℕ → ℕ → ℕ → State
-closed x v n t c d = record { expect = x; version = v; n = n; date = t; next = 0; mark = noTag; alike = false; channels = c; days = d }
+abbrev pub closed : ℕ → ℕ → ℕ → ℕ → ℕ → ℕ → ℕ → State
+closed x v n m t c d = record { expect = x; version = v; n = n; decimals = m; date = t; next = 0; mark = noTag; alike = false; channels = c; days = d }
 
 -- the number stands for a state, a V day's intervals are counted from 1, the description lies in the file, and no count is past the place that the walk has come to
 pub record Kept (file : List ℕ) (at : ℕ) (st : State) : Type 0 where
@@ -55,6 +56,7 @@ pub record Kept (file : List ℕ) (at : ℕ) (st : State) : Type 0 where
   pub begun : st .expect ≡ 4 → 1 ≤ st .next
   pub within : st .mark .start + st .mark .length ≤ length file
   pub small : st .n ≤ 288
+  pub few : st .decimals ≤ 6
   pub channels : st .channels ≤ at
   pub days : st .days ≤ at
 
@@ -87,11 +89,11 @@ nextOf st r = orStop (faultOf st r) (after st r)
 
 -- the faults that are asked for once every field meets its rule
 unfoldable pub lateOf : Due → ℕ → List (List ℕ) → Fault
-lateOf st k fs = f7 k (size st k) fs ▹ f8 st k fs ▹ f9 st k fs ▹ f11 st k fs ▹ f12 st k fs
+lateOf st k fs = f7 k (scaleOf st k fs .n) fs ▹ f8 st k fs ▹ f9 st k fs ▹ f11 st k fs ▹ f12 st k fs
 
 -- from 6 on: what comes of a record whose kind may come and whose fields are as many as they have to be
 unfoldable pub furtherOf : Due → ℕ → List (List ℕ) → Next
-furtherOf st k fs = orStop (faultIn k (size st k) 0 0 fs ▹ lateOf st k fs) (afterOf st k fs)
+furtherOf st k fs = orStop (faultIn k (scaleOf st k fs) 0 0 fs ▹ lateOf st k fs) (afterOf st k fs)
 
 unfoldable pub lastOf : Due → ℕ → List (List ℕ) → Next
 lastOf st k fs = orStop (lateOf st k fs) (afterOf st k fs)
@@ -113,5 +115,5 @@ alikeTo st m = areAlike (shareWith (st .shared) m)
 -- a record of the kind k whose fields meet their rules, with the places that are asked for
 pub record Ready (file : List ℕ) (at e k p q : ℕ) (st : State) : Type 0 where
   pub kept : Kept file at st
-  pub typed : Typed file at e k (size (seen file st) k)
-  pub sound : Sound file at e k (size (seen file st) k) p q
+  pub typed : Typed file at e k (scaleOf (seen file st) k (cells file at e))
+  pub sound : Sound file at e k (scaleOf (seen file st) k (cells file at e)) p q

@@ -11,8 +11,9 @@ pub struct State {
     pub expect: u64,
     // 12 or 13, once the 100 is read.
     pub version: u64,
-    // n of the channel.
+    // n of the channel, and how many decimals its values may have.
     pub n: usize,
+    pub decimals: usize,
     // The date of the day before, in this 200.
     pub date: u64,
     // The interval at which the next 400 has to start.

@@ -8,6 +8,7 @@ use follows::same_mark;
 use format::Tag;
 use quality_rules::across;
 use says::date_at;
+use says::decimals_at;
 use says::intervals_at;
 use says::read_time_at;
 use says::tag_at;
@@ -60,16 +61,18 @@ impl State {
         expect: u64,
         version: u64,
         n: usize,
+        decimals: usize,
         date: u64,
         channels: usize,
         days: usize,
     ) -> State
-        ensures { λ r. ⌜ r ≡ closed expect version n date channels days ⌝ }
+        ensures { λ r. ⌜ r ≡ closed expect version n decimals date channels days ⌝ }
     {
         State {
             expect,
             version,
             n,
+            decimals,
             date,
             next: 0,
             mark: no_tag(),
@@ -109,18 +112,19 @@ impl State {
     {
         let v = version_at(file, at + 4, e);
         if v == 12 {
-            return State::closed(1, v, 0, 0, 0, 0);
+            return State::closed(1, v, 0, 0, 0, 0, 0);
         }
-        State::closed(6, v, 0, 0, 0, 0)
+        State::closed(6, v, 0, 0, 0, 0, 0)
     }
 
-    // p is where the interval length starts.
-    pub fn on_200(self, file: &[u8], at: usize, e: usize, p: usize) -> State
-        requires { ⌜ Kept (now file) at self × Here (now file) at e 8 p ⌝ }
+    // p is where the interval length starts, and q the unit.
+    pub fn on_200(self, file: &[u8], at: usize, e: usize, p: usize, q: usize) -> State
+        requires { ⌜ Kept (now file) at self × Here (now file) at e 8 p × Here (now file) at e 7 q ⌝ }
         ensures { λ r. ⌜ After (now (file .entry)) e (on200 (seen (now (file .entry)) self) (cells (now (file .entry)) at e)) r ⌝ }
     {
         let n = intervals_at(file, p, e);
-        State::closed(2, self.version, n, 0, self.channels + 1, self.days)
+        let d = decimals_at(file, q, e);
+        State::closed(2, self.version, n, d, 0, self.channels + 1, self.days)
     }
 
     // p is where the quality starts.
@@ -140,6 +144,7 @@ impl State {
             expect: under(t.flag),
             version: self.version,
             n: self.n,
+            decimals: self.decimals,
             date: d,
             next: 1,
             mark: no_tag(),
@@ -177,6 +182,7 @@ impl State {
             expect: 4,
             version: self.version,
             n: self.n,
+            decimals: self.decimals,
             date: self.date,
             next: to + 1,
             mark: self.first_mark(t),
@@ -195,7 +201,15 @@ impl State {
         if !on_day(self.date, t) {
             return Step::Stop(12, p - at, 4);
         }
-        Step::On(State::closed(5, self.version, self.n, self.date, self.channels, self.days))
+        Step::On(State::closed(
+            5,
+            self.version,
+            self.n,
+            self.decimals,
+            self.date,
+            self.channels,
+            self.days,
+        ))
     }
 
     // p and q are where the qualities of previous and current start.
@@ -211,18 +225,18 @@ impl State {
         if !across(t.flag, t.reason, t.length) {
             return Step::Stop(7, q - at, 16);
         }
-        Step::On(State::closed(7, self.version, 0, 0, self.channels + 1, self.days))
+        Step::On(State::closed(7, self.version, 0, 0, 0, self.channels + 1, self.days))
     }
 
     pub fn on_550(self) -> State
-        ensures { λ r. ⌜ r ≡ closed 8 (self .version) 0 0 (self .channels) (self .days) ⌝ }
+        ensures { λ r. ⌜ r ≡ closed 8 (self .version) 0 0 0 (self .channels) (self .days) ⌝ }
     {
-        State::closed(8, self.version, 0, 0, self.channels, self.days)
+        State::closed(8, self.version, 0, 0, 0, self.channels, self.days)
     }
 
     pub fn on_900(self) -> State
-        ensures { λ r. ⌜ r ≡ closed 9 (self .version) 0 0 (self .channels) (self .days) ⌝ }
+        ensures { λ r. ⌜ r ≡ closed 9 (self .version) 0 0 0 (self .channels) (self .days) ⌝ }
     {
-        State::closed(9, self.version, 0, 0, self.channels, self.days)
+        State::closed(9, self.version, 0, 0, 0, self.channels, self.days)
     }
 }

@@ -11,11 +11,10 @@ use runs::Run;
 use runs::run_at;
 use says::kind_at;
 ghost use mathlib.Core.Path.{_≡_};
-ghost use mathlib.Core.Bool.{cond};
 ghost use Prim.Native.Nat.{_≤_};
-ghost use lib.Dec.{eqb};
 ghost use Rattle.ground.specs.Lists.{part};
-ghost use Rattle.format.specs.Faults.{size};
+ghost use Rattle.format.specs.Records.{noScale};
+ghost use Rattle.format.specs.Faults.{scaleOf};
 ghost use Rattle.lines.specs.Places.{Looked};
 ghost use Rattle.record.specs.Walk.{Typed};
 ghost use Rattle.order.specs.State.{seen, closed, Kept, cells, Ready, nextOf, furtherOf, lastOf, stepAs, Holds};
@@ -23,24 +22,14 @@ ghost use Rattle.order.specs.State.{seen, closed, Kept, cells, Ready, ne
 impl State {
     // Before the first record.
     pub fn new() -> State
-        ensures { λ r. ⌜ r ≡ closed 0 0 0 0 0 0 ⌝ }
+        ensures { λ r. ⌜ r ≡ closed 0 0 0 0 0 0 0 ⌝ }
     {
-        State::closed(0, 0, 0, 0, 0, 0)
-    }
-
-    // n counts in a 300 only.
-    fn size(self, kind: u64) -> usize
-        ensures { λ r. ⌜ r ≡ cond (eqb kind 300) (self .n) 0 ⌝ }
-    {
-        if kind == 300 {
-            return self.n;
-        }
-        0
+        State::closed(0, 0, 0, 0, 0, 0, 0)
     }
 
     // A 400 is read in one go, and hands its method what it says.
     fn run(self, file: &[u8], at: usize, e: usize) -> Step
-        requires { ⌜ Kept (now file) at self × Typed (now file) at e 400 0 × (1 ≤ self .next) ⌝ }
+        requires { ⌜ Kept (now file) at self × Typed (now file) at e 400 noScale × (1 ≤ self .next) ⌝ }
         ensures { λ r. ⌜ (stepAs (now (file .entry)) r ≡ furtherOf (seen (now (file .entry)) self) 400 (cells (now (file .entry)) at e)) × Holds (now (file .entry)) at e r ⌝ }
     {
         let r = run_at(file, at, e);
@@ -57,7 +46,7 @@ impl State {
     {
         match kind {
             100 => Step::On(self.on_100(file, at, e)),
-            200 => Step::On(self.on_200(file, at, e, p)),
+            200 => Step::On(self.on_200(file, at, e, p, q)),
             300 => self.on_300(file, at, e, p),
             500 => self.on_500(file, at, e, p),
             250 => self.on_250(file, at, e, p, q),
@@ -67,14 +56,14 @@ impl State {
     }
 
     // From 6 on: its fields, each held to its rule, and its own method.
-    fn further(self, file: &[u8], at: usize, e: usize, kind: u64, n: usize) -> Step
-        requires { ⌜ Kept (now file) at self × Typed (now file) at e kind n × (n ≡ size (seen (now file) self) kind) × (kind ≡ 400 → 1 ≤ self .next) ⌝ }
+    fn further(self, file: &[u8], at: usize, e: usize, kind: u64) -> Step
+        requires { ⌜ Kept (now file) at self × Typed (now file) at e kind (scaleOf (seen (now file) self) kind (cells (now file) at e)) × (kind ≡ 400 → 1 ≤ self .next) ⌝ }
         ensures { λ r. ⌜ (stepAs (now (file .entry)) r ≡ furtherOf (seen (now (file .entry)) self) kind (cells (now (file .entry)) at e)) × Holds (now (file .entry)) at e r ⌝ }
     {
         if kind == 400 {
             return self.run(file, at, e);
         }
-        let w = check_fields(file, at, e, kind, n);
+        let w = check_fields(file, at, e, kind, self.n, self.decimals);
         match w {
             Walked::Broken(o, i) => Step::Stop(6, o, i),
             Walked::Sound(p, q) => self.on(file, at, e, kind, p, q),
@@ -97,10 +86,9 @@ impl State {
         if !may_come(self.expect, kind) {
             return Step::Stop(4, 0, 0);
         }
-        let n = self.size(kind);
-        if found.commas + 1 != count_of(kind, n) {
+        if found.commas + 1 != count_of(kind, self.n) {
             return Step::Stop(5, 0, 0);
         }
-        self.further(file, at, e, kind, n)
+        self.further(file, at, e, kind)
     }
 }

@@ -1,12 +1,12 @@
 -- A digit, a point and three digits: they are a value, its number, and they hold no comma. Assumes nothing.
-use Prim.Native.Nat.{ℕ, _+_, _-_, _*_, _≤_}
+use Prim.Native.Nat.{ℕ, _+_, _-_, _*_, _≤_, min}
 use mathlib.Core.Path.{_≡_, ap}
 use mathlib.Core.Bool.{true}
 use mathlib.Core.List.{List, [], _∷_}
 use native.Mathlib.Omega.{arith}
 use lib.ListN.{length, getD}
 use lib.Dec.{eqb}
-use borrow.Author.Tests.{ne-eqb, eqb-true}
+use borrow.Author.Tests.{le-leb, ne-eqb, eqb-true}
 use Rattle.ground.specs.Lists.{all, spanOf, other, from}
 use Rattle.ground.specs.Digits.{isDigit}
 use Rattle.ground.proofs.Tests.{and-true}
@@ -66,8 +66,17 @@ thousandths-number s t =
     spelled (λ l. valueOf decimals l ≡ Is ((getD s 0 0 * 1000 + getD s 2 0 * 100 + getD s 3 0 * 10 + getD s 4 0 - 53328) * 1000)) 5 s (f .size)
     (rw (f .dot) (five-number _ _ _ _ (f .first) (f .second) (f .third) (f .fourth)))
 
-pub thousandths-value : (s : List ℕ) → isThousandths s ≡ true → isNumber (valueOf decimals s) ≡ true
-thousandths-value s t = rw (thousandths-number s t)
+-- they are a value where three decimals are allowed
+five-value : (m a b c d : ℕ) → 3 ≤ m → isDigit a ≡ true → isDigit b ≡ true → isDigit c ≡ true → isDigit d ≡ true
+    → isNumber (valueOf m (a ∷ 46 ∷ b ∷ c ∷ d ∷ [])) ≡ true
+unfolding valueOf numberOf fractionOf areAll spanOf
+five-value m a b c d h ha hb hc hd = rw (digit-not 46 a (omega arith) ha, ha, hb, hc, hd, le-leb 3 (min m 6) (omega arith))
+
+pub thousandths-value : (m : ℕ) (s : List ℕ) → 3 ≤ m → isThousandths s ≡ true → isNumber (valueOf m s) ≡ true
+unfolding from
+thousandths-value m s h t =
+    let f = five-is s t in
+    spelled (λ l. isNumber (valueOf m l) ≡ true) 5 s (f .size) (rw (f .dot) (five-value m _ _ _ _ h (f .first) (f .second) (f .third) (f .fourth)))
 
 pub thousandths-plain : (s : List ℕ) → isThousandths s ≡ true → all (other 44) s ≡ true
 unfolding from

@@ -7,7 +7,7 @@ ghost use Prim.Native.Nat.{_≤_};
 ghost use lib.ListN.{length};
 ghost use Rattle.ground.specs.Lists.{spanOf};
 ghost use Rattle.ground.specs.Digits.{isDigit};
-ghost use Rattle.format.specs.Numbers.{isNumber, decimals, valueOf, isRead};
+ghost use Rattle.format.specs.Numbers.{isNumber, valueOf, isRead};
 ghost use Rattle.quick_values.specs.Shapes.{isThousandths};
 
 // How many of the first bytes are digits.
@@ -30,9 +30,11 @@ fn digit_span(f: &[u8]) -> usize
     i
 }
 
-// A value: its digits up to the point, the point, the digits behind it, each looked at once.
-pub fn is_value(f: &[u8]) -> bool
-    ensures { λ r. ⌜ r ≡ isNumber (valueOf decimals (now (f .entry))) ⌝ }
+// A value of at most d decimals: its digits up to the point, the point, the digits behind it, each looked at once. No unit has more than six decimals, so that
+// one comparison is enough for them.
+pub fn is_value(f: &[u8], d: usize) -> bool
+    requires { ⌜ d ≤ 6 ⌝ }
+    ensures { λ r. ⌜ r ≡ isNumber (valueOf d (now (f .entry))) ⌝ }
 {
     let n = f.len();
     let w = digit_span(f);
@@ -52,7 +54,7 @@ pub fn is_value(f: &[u8]) -> bool
     if a == n {
         return false;
     }
-    if 6 < n - a {
+    if d < n - a {
         return false;
     }
     all_in(&f[a..], Class::Digit)
@@ -83,7 +85,7 @@ pub fn is_read(f: &[u8]) -> bool
     all_in(&f[a..], Class::Digit)
 }
 
-// A digit, a point and three digits: a value whose end need not be looked for, since none of them is a comma.
+// A digit, a point and three digits: a value, where three decimals are allowed, whose end need not be looked for, since none of them is a comma.
 pub fn thousandths(f: &[u8]) -> bool
     ensures { λ r. ⌜ r ≡ isThousandths (now (f .entry)) ⌝ }
 {

@@ -45,7 +45,7 @@ pub too-long : (file : List ℕ) (x : Refusal) → refusedAs x ≡ refused 1 0 0
 unfolding checkOf
 too-long file x e h = rw (lt-ltb _ _ h) (sym e)
 
-walk-begins : (file : List ℕ) → length file ≤ 1048576 → checkOf file ≡ walkOf (seen file (closed 0 0 0 0 0 0)) 0 0 (lines (drop 0 file))
+walk-begins : (file : List ℕ) → length file ≤ 1048576 → checkOf file ≡ walkOf (seen file (closed 0 0 0 0 0 0 0)) 0 0 (lines (drop 0 file))
 unfolding checkOf expectedAs
 walk-begins file h = rw (le-ltb _ _ h)
 
@@ -112,12 +112,12 @@ module _ (file : List ℕ) (at k : ℕ) (st : State) (done : st .expect ≡ 9) (
 
 -- ---- the state is kept
 
-kept-first : (file : List ℕ) → Kept file 0 (closed 0 0 0 0 0 0)
-kept-first file = record { known = omega arith; begun = λ z. absurd (let y : ⊥ = omega arith in y); within = omega arith; small = omega arith; channels = omega arith; days = omega arith }
+kept-first : (file : List ℕ) → Kept file 0 (closed 0 0 0 0 0 0 0)
+kept-first file = record { known = omega arith; begun = λ z. absurd (let y : ⊥ = omega arith in y); within = omega arith; small = omega arith; few = omega arith; channels = omega arith; days = omega arith }
 
 -- ---- the walk on its way
 
-pub touring-first : (file : List ℕ) (day channel : ℕ) (st : State) (t : Tour) → st ≡ closed 0 0 0 0 0 0 → t ≡ firstTour day channel → length file ≤ 1048576
+pub touring-first : (file : List ℕ) (day channel : ℕ) (st : State) (t : Tour) → st ≡ closed 0 0 0 0 0 0 0 → t ≡ firstTour day channel → length file ≤ 1048576
     → Touring file day channel st t
 unfolding expectedAs
 touring-first file day channel st t es et h =
@@ -129,7 +129,7 @@ touring-first file day channel st t es et h =
       kept = kept-first file;
       walked = walk-begins file h;
       heads = no-heads file noUnder refl refl;
-      ahead = ahead-first file day channel (seen file (closed 0 0 0 0 0 0)) refl refl;
+      ahead = ahead-first file day channel (seen file (closed 0 0 0 0 0 0 0)) refl refl;
       to-day = day-first file day;
       to-channel = channel-first file channel;
     })

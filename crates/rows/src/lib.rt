@@ -4,11 +4,12 @@ use format::Rule;
 use leaf::digits::is_number;
 use quick_values::is_read;
 use quick_values::is_value;
+use value_rules::up_to_six;
 ghost use mathlib.Core.Path.{_≡_};
 ghost use Prim.Native.Nat.{_≤_};
 ghost use lib.ListN.{getD};
 ghost use Rattle.format.specs.Quality.{isGraded};
-ghost use Rattle.format.specs.Records.{row100, row200, row300, row400, row500, row250, row550, countOf, ruleOf, obeys};
+ghost use Rattle.format.specs.Records.{scale, row100, row200, row300, row400, row500, row250, row550, countOf, ruleOf, obeys};
 ghost use Rattle.format.specs.declared.Rule.the-variants.{Indicator};
 
 fn rule_100(i: usize) -> Rule
@@ -40,9 +41,9 @@ fn rule_200(i: usize) -> Rule
     }
 }
 
-fn rule_300(n: usize, i: usize) -> Rule
+fn rule_300(n: usize, d: usize, i: usize) -> Rule
     requires { ⌜ n ≤ 288 ⌝ }
-    ensures { λ r. ⌜ r ≡ getD (row300 n) i Indicator ⌝ }
+    ensures { λ r. ⌜ r ≡ getD (row300 (scale n d)) i Indicator ⌝ }
 {
     if i < 1 {
         return Rule::Indicator;
@@ -51,7 +52,7 @@ fn rule_300(n: usize, i: usize) -> Rule
         return Rule::Date;
     }
     if i < n + 2 {
-        return Rule::Value;
+        return Rule::Value(d);
     }
     match i - n {
         2 => Rule::Quality,
@@ -89,8 +90,8 @@ fn rule_500(i: usize) -> Rule
 }
 
 // One table, which a 250's many fields are looked up in at one step.
-fn rule_250(i: usize) -> Rule
-    ensures { λ r. ⌜ r ≡ getD row250 i Indicator ⌝ }
+fn rule_250(d: usize, i: usize) -> Rule
+    ensures { λ r. ⌜ r ≡ getD (row250 d) i Indicator ⌝ }
 {
     match i {
         1 => Rule::Nmi,
@@ -110,7 +111,7 @@ fn rule_250(i: usize) -> Rule
         15 => Rule::Quality,
         16 => Rule::Reason,
         17 => Rule::Description,
-        18 => Rule::Value,
+        18 => Rule::Value(d),
         19 => Rule::Unit,
         20 => Rule::NextRead,
         21 => Rule::Time,
@@ -131,27 +132,27 @@ fn rule_550(i: usize) -> Rule
     }
 }
 
-// The rule of the field of a number from 0, in a record of the kind; n is that of a 300.
-pub fn rule_at(kind: u64, n: usize, i: usize) -> Rule
+// The rule of the field of a number from 0, in a record of the kind; n is that of a 300, d the decimals that a value may have.
+pub fn rule_at(kind: u64, n: usize, d: usize, i: usize) -> Rule
     requires { ⌜ n ≤ 288 ⌝ }
-    ensures { λ r. ⌜ r ≡ ruleOf kind n i ⌝ }
+    ensures { λ r. ⌜ r ≡ ruleOf kind (scale n d) i ⌝ }
 {
     match kind {
         100 => rule_100(i),
         200 => rule_200(i),
-        300 => rule_300(n, i),
+        300 => rule_300(n, d, i),
         400 => rule_400(i),
         500 => rule_500(i),
-        250 => rule_250(i),
+        250 => rule_250(d, i),
         550 => rule_550(i),
         _ => Rule::Indicator,
     }
 }
 
-// How many fields a record of the kind has.
+// How many fields a record of the kind has: decimals make no field more or less, so none are asked for.
 pub fn count_of(kind: u64, n: usize) -> usize
     requires { ⌜ n ≤ 288 ⌝ }
-    ensures { λ r. ⌜ r ≡ countOf kind n ⌝ }
+    ensures { λ r. ⌜ r ≡ countOf kind (scale n 0) ⌝ }
 {
     match kind {
         100 => 5,
@@ -189,11 +190,11 @@ pub fn obeys(kind: u64, rule: Rule, f: &[u8]) -> bool
         Rule::Suffix => text_rules::suffix(f),
         Rule::Stream => text_rules::data_stream(f),
         Rule::Serial => text_rules::serial(f),
-        Rule::Unit => text_rules::unit(f),
+        Rule::Unit => is_number(units::number(f)),
         Rule::Length => is_number(number_rules::interval_length(f)),
         Rule::NextRead => is_number(date_rules::next_read_date(f)),
         Rule::Date => is_number(date_rules::date(f)),
-        Rule::Value => is_value(f),
+        Rule::Value(d) => is_value(f, up_to_six(d)),
         Rule::Quality => is_graded(quality_rules::quality(f, kind)),
         Rule::Reason => is_number(number_rules::reason(f)),
         Rule::Description => text_rules::description(f),

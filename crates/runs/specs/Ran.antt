@@ -4,7 +4,7 @@ use mathlib.Core.Path.{_≡_}
 use mathlib.Core.List.{List}
 use Rattle.ground.specs.Lists.{part}
 use Rattle.format.specs.Cut.{fields, field}
-use Rattle.format.specs.Records.{firstIn, lastIn}
+use Rattle.format.specs.Records.{noScale, firstIn, lastIn}
 use Rattle.format.specs.Day.{rowAt, tagAt}
 use Rattle.format.specs.Faults.{faultIn}
 use Rattle.format.specs.Quality.{qualityOf}
@@ -28,11 +28,11 @@ pub record Grades (file : List ℕ) (at e q flag method : ℕ) : Type 0 where
 
 -- every field meets its rule; its intervals, where its quality stands, and its mark
 pub record Ran (file : List ℕ) (at e from to q : ℕ) (t : Tag) : Type 0 where
-  pub fault : faultIn 400 0 0 0 (fields (part file at e)) ≡ Fine
+  pub fault : faultIn 400 noScale 0 0 (fields (part file at e)) ≡ Fine
   pub spans : Spans file at e from to
   pub quality : Starts file (fields (part file at e)) at 3 q e
   pub tag : t ≡ tagAt 400 (rowAt at (part file at e)) 3
 
 abbrev pub Runs : List ℕ → ℕ → ℕ → Run → Type 0
 Runs file at e (run.Of from to q t) = Ran file at e from to q t
-Runs file at e (run.Broken o i) = Broken file at e 400 0 o i
+Runs file at e (run.Broken o i) = Broken file at e 400 noScale o i

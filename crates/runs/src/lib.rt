@@ -7,7 +7,7 @@ use says::start_of;
 ghost use mathlib.Core.Path.{_≡_};
 ghost use Rattle.format.specs.Cut.{fields};
 ghost use Rattle.ground.specs.Lists.{part};
-ghost use Rattle.format.specs.Records.{firstIn};
+ghost use Rattle.format.specs.Records.{noScale, firstIn};
 ghost use Rattle.record.specs.Walk.{Typed, Along};
 ghost use Rattle.runs.specs.Ran.{Spans, Grades, Runs};
 
@@ -29,7 +29,7 @@ fn reasoned(
     flag: u8,
     method: u8,
 ) -> Run
-    requires { ⌜ Typed (now file) at e 400 0 × Along (now file) at e 400 0 4 b × Spans (now file) at e from to × Grades (now file) at e q flag method ⌝ }
+    requires { ⌜ Typed (now file) at e 400 noScale × Along (now file) at e 400 noScale 4 b × Spans (now file) at e from to × Grades (now file) at e q flag method ⌝ }
     ensures { λ r. ⌜ Runs (now (file .entry)) at e r ⌝ }
 {
     let x = b + 1;
@@ -59,7 +59,7 @@ fn reasoned(
 
 // From its quality on, behind b.
 fn graded(file: &[u8], at: usize, e: usize, b: usize, from: usize, to: usize) -> Run
-    requires { ⌜ Typed (now file) at e 400 0 × Along (now file) at e 400 0 3 b × Spans (now file) at e from to ⌝ }
+    requires { ⌜ Typed (now file) at e 400 noScale × Along (now file) at e 400 noScale 3 b × Spans (now file) at e from to ⌝ }
     ensures { λ r. ⌜ Runs (now (file .entry)) at e r ⌝ }
 {
     let q = b + 1;
@@ -73,7 +73,7 @@ fn graded(file: &[u8], at: usize, e: usize, b: usize, from: usize, to: usize) ->
 
 // From its last interval on, behind b.
 fn ended(file: &[u8], at: usize, e: usize, b: usize, from: usize) -> Run
-    requires { ⌜ Typed (now file) at e 400 0 × Along (now file) at e 400 0 2 b × (from ≡ firstIn (fields (part (now file) at e))) ⌝ }
+    requires { ⌜ Typed (now file) at e 400 noScale × Along (now file) at e 400 noScale 2 b × (from ≡ firstIn (fields (part (now file) at e))) ⌝ }
     ensures { λ r. ⌜ Runs (now (file .entry)) at e r ⌝ }
 {
     let p = b + 1;
@@ -87,7 +87,7 @@ fn ended(file: &[u8], at: usize, e: usize, b: usize, from: usize) -> Run
 
 // The 400 from at to e, of which the number of fields is known: an indicator has three bytes, so the reading starts behind it.
 pub fn run_at(file: &[u8], at: usize, e: usize) -> Run
-    requires { ⌜ Typed (now file) at e 400 0 ⌝ }
+    requires { ⌜ Typed (now file) at e 400 noScale ⌝ }
     ensures { λ r. ⌜ Runs (now (file .entry)) at e r ⌝ }
 {
     let b = at + 3;

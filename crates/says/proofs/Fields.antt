@@ -1,6 +1,6 @@
 -- What a field at a place of the file says of the record that it stands in: a number, a quality with reason and description. Assumes nothing.
 use Prim.Native.Nat.{ℕ, _+_, _-_, _^_, _≤_, _<_}
-use mathlib.Core.Path.{_≡_, sym, _∙_, ap}
+use mathlib.Core.Path.{_≡_, refl, sym, _∙_, ap}
 use mathlib.Core.List.{List}
 use mathlib.Core.Bool.{Bool, true, false, cond}
 use native.Mathlib.Nat.{add-zero}
@@ -9,10 +9,11 @@ use native.Mathlib.Decide.{decLt}
 use lib.ListN.{length, getD, take, drop}
 use lib.Dec.{eqb}
 use mir.Val.{Fits}
-use mir.Syntax.{w16}
+use mir.Syntax.{w8, w16}
 use Rattle.ground.specs.Lists.{part}
 use Rattle.ground.proofs.Spans.{part-length}
 use Rattle.format.specs.Numbers.{numberIn, that, numberOf, smallOf, intervalOf, lengthOf, intervalsOf, reasonOf, valueOf}
+use Rattle.format.specs.Units.{unitOf}
 use Rattle.format.specs.Dates.{isDate, dateOf}
 use Rattle.format.specs.Records.{indicatorOf, kindIn, millionths}
 use Rattle.format.specs.Quality.{flagIn, methodIn, qualityOf}
@@ -24,6 +25,7 @@ use Rattle.format.specs.declared.Graded.{Graded}
 use Rattle.format.specs.declared.Tag.{Tag}
 use Rattle.format.proofs.Cut.{start-zero}
 use Rattle.format.proofs.Numbers.{under, number-under, small-under}
+use Rattle.format.proofs.Units.{known-small, unit-known}
 use Rattle.format.proofs.Total.{millionths-below}
 use Rattle.lines.specs.Places.{Cut, Rest, Starts}
 use Rattle.lines.proofs.Cuts.{rest-first}
@@ -91,6 +93,16 @@ module _ (s : List ℕ) {x : Number} {v : ℕ} (e : x ≡ valueOf 6 s) (q : v �
 pub intervals-say : {f g : List ℕ} {x : Number} {v n : ℕ} → n ≡ intervalsOf v → v ≡ numberIn x → x ≡ lengthOf f → f ≡ g
     → n ≡ intervalsOf (numberIn (lengthOf g))
 intervals-say i e q h = i ∙ ap intervalsOf (says lengthOf e q h)
+
+unit-below : (s : List ℕ) → numberIn (unitOf s) < 23
+unit-below s = number-below 23 (unitOf s) (omega arith) (one (unitOf s) refl)
+  where
+    one : (x : Number) → unitOf s ≡ x → under 23 x
+    one (Is u) e = known-small u (unit-known s u e)
+    one Bad e = tt
+
+pub unit-fits : (s : List ℕ) {x : Number} {v : ℕ} → x ≡ unitOf s → v ≡ numberIn x → Fits w8 v
+unit-fits s {x} {v} e q = let h : v ≡ numberIn (unitOf s) = q ∙ ap numberIn e in omega (arith, unit-below s)
 
 reason-below : (s : List ℕ) → numberIn (reasonOf s) < 65536
 unfolding reasonOf

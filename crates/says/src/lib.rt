@@ -4,6 +4,7 @@ use format::Number;
 use format::Tag;
 use lines::pieces::field_at;
 use lines::pieces::first_field;
+use units::named_decimals;
 ghost use mathlib.Core.Path.{_≡_};
 ghost use mathlib.Core.Bool.{cond};
 ghost use Prim.Native.Nat.{_≤_, _<_, _^_};
@@ -13,6 +14,7 @@ ghost use Rattle.ground.specs.Lists.{part};
 ghost use Rattle.format.specs.Cut.{fields, field};
 ghost use Rattle.format.specs.Texts.{versionOf};
 ghost use Rattle.format.specs.Numbers.{numberIn, intervalOf, lengthOf, intervalsOf, reasonOf};
+ghost use Rattle.format.specs.Units.{unitOf, decimalsNamed};
 ghost use Rattle.format.specs.Dates.{dateOf, timeOf, loadOf, readTimeOf};
 ghost use Rattle.format.specs.Quality.{flagIn, methodIn};
 ghost use Rattle.format.specs.Records.{kindIn, millionths};
@@ -59,6 +61,14 @@ pub fn intervals_at(file: &[u8], a: usize, e: usize) -> usize
     ensures { λ r. ⌜ r ≡ intervalsOf (numberIn (lengthOf (field 0 (fields (part (now (file .entry)) a e))))) ⌝ }
 {
     number_rules::intervals(number_in(number_rules::interval_length(first_field(file, a, e))))
+}
+
+// The number of the unit that the field names.
+pub fn unit_at(file: &[u8], a: usize, e: usize) -> u8
+    requires { ⌜ (a ≤ e) × (e ≤ length (now file)) ⌝ }
+    ensures { λ r. ⌜ r ≡ numberIn (unitOf (field 0 (fields (part (now (file .entry)) a e)))) ⌝ }
+{
+    number_in(units::number(first_field(file, a, e))) as u8
 }
 
 pub fn date_at(file: &[u8], a: usize, e: usize) -> u64
@@ -163,4 +173,13 @@ pub fn tag_at(file: &[u8], a: usize, e: usize, kind: u64) -> Tag
         start: start_of(y, n),
         length: n,
     }
+}
+
+// How many decimals a value may have in the unit that the field names.
+pub fn decimals_at(file: &[u8], a: usize, e: usize) -> usize
+    requires { ⌜ (a ≤ e) × (e ≤ length (now file)) ⌝ }
+    ensures is { λ r. ⌜ r ≡ decimalsNamed (field 0 (fields (part (now (file .entry)) a e))) ⌝ }
+    ensures few { λ r. ⌜ r ≤ 6 ⌝ }
+{
+    named_decimals(first_field(file, a, e))
 }

@@ -1,6 +1,6 @@
 -- One field held to its rule, at a likely length or by its end. Assumes nothing.
 use Prim.Native.Nat.{ℕ, _+_, _-_, _≤_, _<_}
-use mathlib.Core.Path.{_≡_, refl, sym, _∙_}
+use mathlib.Core.Path.{_≡_, refl, sym, ap, _∙_}
 use mathlib.Core.List.{List, [], _∷_}
 use mathlib.Core.Bool.{Bool, true, false, cond}
 use native.Mathlib.Nat.{add-zero}
@@ -11,14 +11,16 @@ use lib.Dec.{eqb}
 use borrow.Author.Tests.{eqb-true, eq-eqb, le-leb}
 use Rattle.ground.specs.Lists.{all, spanOf, other, part, same}
 use Rattle.ground.specs.Digits.{isDigit}
+use Rattle.ground.specs.Text.{bytes}
 use Rattle.ground.proofs.Lists.{rest}
 use Rattle.ground.proofs.Same.{same-sound}
 use Rattle.ground.proofs.Spans.{span-le, span-block, part-length, part-take}
 use Rattle.ground.proofs.Prefix.{prefix-most}
 use Rattle.ground.proofs.Tests.{or-true}
-use Rattle.format.specs.Bytes.{isAlnum, isLetter, isCapital, areAll, isText, endSpace}
+use Rattle.format.specs.Bytes.{capital, isAlnum, isLetter, isCapital, areAll, isText, endSpace}
 use Rattle.format.specs.Texts.{isNmi, isSuffix, isStream, isDescription, isDirection}
-use Rattle.format.specs.Numbers.{isNumber, orEmpty, reasonOf}
+use Rattle.format.specs.Numbers.{isNumber, orEmpty, reasonOf, valueOf}
+use Rattle.format.specs.Units.{units, sameLetters, unitFrom, unitOf, decimalsNamed}
 use Rattle.format.specs.Dates.{dateOf, timeOf, nextReadOf, loadOf}
 use Rattle.format.specs.Quality.{standsAlone, qualityOf}
 use Rattle.format.specs.Cut.{fields, field}
@@ -28,6 +30,8 @@ use Rattle.format.specs.declared.Rule.the-variants as rule
 use Rattle.format.specs.declared.Number.{Number}
 use Rattle.format.specs.declared.Number.the-variants.{Is}
 use Rattle.format.proofs.Cut.{field-here}
+use Rattle.format.proofs.Units.{named-some}
+use Rattle.format.proofs.ValueText.{value-still}
 use Rattle.quick_values.specs.Shapes.{isThousandths}
 use Rattle.quick_values.proofs.Shapes.{thousandths-value, thousandths-plain}
 use Rattle.ground.proofs.Bytes.{holds-none}
@@ -35,7 +39,7 @@ use Rattle.quick_dates.proofs.CommonDates.{date-plain, time-plain}
 use Rattle.tries.specs.Holds.{Ended, heldOf}
 use Rattle.tries.specs.declared.Held.{Held}
 use Rattle.tries.specs.declared.Held.the-variants.{To, Broken}
-use Rattle.lines.specs.Places.{Stops}
+use Rattle.lines.specs.Places.{Stops, Cut}
 use Rattle.lines.proofs.Cuts.{first-is}
 use Rattle.lines.proofs.Commas.{stops-comma, span-is, field-is, long}
 
@@ -78,6 +82,13 @@ none-ended file a e within le s =
     let w : a + 0 - a ≡ 0 = omega arith in
     rw add-zero at (ended-at file a e 0 within le s (rw w) (λ f. eqb (length f) 0) (rw w))
 
+pub kwh-ended : (file : List ℕ) (a e : ℕ) → e ≤ length file → a ≤ e → Stops file a e 3 → {o : Bool} → o ≡ same (part file a (a + 3)) (bytes "kWh") → o ≡ true
+    → Ended (λ f. same f (bytes "kWh")) a (part file a e) (To (a + 3))
+kwh-ended file a e within le s eo t =
+    let h : same (part file a (a + 3)) (bytes "kWh") ≡ true = sym eo ∙ t in
+    let q : part file a (a + 3) ≡ bytes "kWh" = same-sound (part file a (a + 3)) (bytes "kWh") h in
+    ended-at file a e 3 within le s (rw q) (λ f. same f (bytes "kWh")) h
+
 -- ---- the rule of such a field
 
 ended-by : (p q : List ℕ → Bool) → ((f : List ℕ) → p f ≡ true → q f ≡ true) → (a : ℕ) (s : List ℕ) (r : Held) → Ended p a s r → Ended q a s r
@@ -103,6 +114,10 @@ module _ (a : ℕ) (s : List ℕ) (r : Held) (x : Rule) where
   pub ended-stream : x ≡ rule.Stream → Ended (areAll isAlnum 2 2) a s r → (k : ℕ) → Ended (obeys k x) a s r
   unfolding obeys isStream isSuffix
   ended-stream e h k = rw e (ended-by (areAll isAlnum 2 2) (obeys k rule.Stream) (λ f t. rw (t, or-true (eqb (length f) 0))) a s r h)
+
+  pub ended-unit : x ≡ rule.Unit → Ended (λ f. same f (bytes "kWh")) a s r → (k : ℕ) → Ended (obeys k x) a s r
+  unfolding obeys units sameLetters unitFrom unitOf same capital
+  ended-unit e h k = rw e (ended-by (λ f. same f (bytes "kWh")) (obeys k rule.Unit) (λ f t. rw (same-sound f (bytes "kWh") t)) a s r h)
 
   pub ended-direction : x ≡ rule.Direction → Ended (λ f. same f (69 ∷ [])) a s r → (k : ℕ) → Ended (obeys k x) a s r
   unfolding obeys isDirection
@@ -164,12 +179,39 @@ module _ (file : List ℕ) (a e m k : ℕ) (x : Rule) (le : a ≤ e) (within : e
   unfolding heldOf
   held-broken t = rw (← held-is, t)
 
--- of a value
-module _ (file : List ℕ) (a e : ℕ) (le : a ≤ e) (within : e ≤ length file) where
-  pub held-thousandths : {o : Bool} → 5 < e - a → getD file (a + 5) 0 ≡ 44 → o ≡ isThousandths (take (a + 5 - a) (drop a file)) → o ≡ true
-      → To (a + 5) ≡ heldOf 300 rule.Value a (part file a e)
+-- of a value of at most d decimals
+module _ (file : List ℕ) (a e d : ℕ) (le : a ≤ e) (within : e ≤ length file) where
+  pub held-thousandths : {o : Bool} → 5 < e - a → getD file (a + 5) 0 ≡ 44 → o ≡ isThousandths (take (a + 5 - a) (drop a file)) → o ≡ true → 3 ≤ d
+      → To (a + 5) ≡ heldOf 300 (rule.Value d) a (part file a e)
   unfolding obeys
-  held-thousandths h c eo t =
+  held-thousandths h c eo t three =
       let q : isThousandths (part file a (a + 5)) ≡ true = sym eo ∙ t in
-      held-ended 300 rule.Value a (part file a e) (a + 5)
-      (ended-at file a e 5 within le (stops-comma file a e 5 within h c) (thousandths-plain _ q) (obeys 300 rule.Value) (thousandths-value _ q))
+      held-ended 300 (rule.Value d) a (part file a e) (a + 5)
+      (ended-at file a e 5 within le (stops-comma file a e 5 within h c) (thousandths-plain _ q) (obeys 300 (rule.Value d)) (thousandths-value d _ three q))
+
+-- of a quantity that has one decimal at the most, which every unit has
+pub quantity-short : (file : List ℕ) (a e b x : ℕ) → Cut file a e b x → {o : Bool} → o ≡ isNumber (valueOf 1 (take (b - a) (drop a file))) → o ≡ true
+    → To b ≡ heldOf 250 (rule.Value (decimalsNamed (field 1 (fields (part file a e))))) a (part file a e)
+unfolding heldOf obeys
+quantity-short file a e b x c eo t =
+    let d = decimalsNamed (field 1 (fields (part file a e))) in
+    let w : isNumber (valueOf d (part file a b)) ≡ true = value-still 1 d (part file a b) (named-some (field 1 (fields (part file a e)))) (sym eo ∙ t) in
+    rw (c .here, w, ← (c .to))
+
+-- of a quantity: the field ends at b, the next one starts at x, and d are the decimals of the unit that stands there
+module _ (file : List ℕ) (a e b x : ℕ) (c : Cut file a e b x) {d : ℕ} {f : List ℕ} (u : f ≡ field 0 (fields (part file x e))) (ed : d ≡ decimalsNamed f)
+    {o : Bool} (eo : o ≡ isNumber (valueOf d (take (b - a) (drop a file)))) where
+  own : d ≡ decimalsNamed (field 1 (fields (part file a e)))
+  own = ed ∙ ap decimalsNamed (u ∙ sym (c .later 0))
+
+  asked : o ≡ obeys 250 (rule.Value (decimalsNamed (field 1 (fields (part file a e))))) (field 0 (fields (part file a e)))
+  unfolding obeys
+  asked = rw (c .here, ← own) eo
+
+  pub quantity-to : o ≡ true → To b ≡ heldOf 250 (rule.Value (decimalsNamed (field 1 (fields (part file a e))))) a (part file a e)
+  unfolding heldOf
+  quantity-to t = rw (← asked, t, ← (c .to))
+
+  pub quantity-broken : o ≡ false → Broken ≡ heldOf 250 (rule.Value (decimalsNamed (field 1 (fields (part file a e))))) a (part file a e)
+  unfolding heldOf
+  quantity-broken t = rw (← asked, t)

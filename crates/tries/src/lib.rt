@@ -3,12 +3,16 @@
 use classes::Class;
 use classes::all_in;
 use format::Rule;
+use leaf::bytes::same_bytes;
+use lines::pieces::field_at;
 use lines::pieces::field_end;
+use lines::pieces::first_field;
 use quick_dates::is_date;
 use quick_dates::is_time;
 use quick_values::is_value;
 use quick_values::thousandths;
 use rows::obeys;
+use units::named_decimals;
 ghost use mathlib.Core.Path.{_≡_};
 ghost use mathlib.Core.Bool.{true, false};
 ghost use mathlib.Core.List.{[], _∷_};
@@ -16,9 +20,12 @@ ghost use Prim.Native.Nat.{ℕ, _≤_};
 ghost use lib.ListN.{length};
 ghost use lib.Dec.{eqb};
 ghost use Rattle.ground.specs.Lists.{part, same};
+ghost use Rattle.ground.specs.Text.{bytes};
 ghost use Rattle.format.specs.Bytes.{isAlnum, areAll};
 ghost use Rattle.format.specs.Numbers.{isNumber};
+ghost use Rattle.format.specs.Units.{decimalsNamed};
 ghost use Rattle.format.specs.Dates.{dateOf, timeOf};
+ghost use Rattle.format.specs.Cut.{fields, field};
 ghost use Rattle.format.specs.Records.{obeys};
 ghost use Rattle.format.specs.declared.Rule.the-variants.{Value};
 ghost use Rattle.lines.specs.Places.{Stops};
@@ -105,6 +112,20 @@ fn none_to(file: &[u8], a: usize, e: usize) -> Held
     Held::Broken
 }
 
+// `kWh`, the commonest unit.
+fn kwh_to(file: &[u8], a: usize, e: usize) -> Held
+    requires { ⌜ (a ≤ e) × (e ≤ length (now file)) ⌝ }
+    ensures { λ r. ⌜ Ended (λ f. same f (bytes "kWh")) a (part (now (file .entry)) a e) r ⌝ }
+{
+    if ends(file, a, e, 3) {
+        let z = a + 3;
+        if same_bytes(&file[a..z], b"kWh") {
+            return Held::To(z);
+        }
+    }
+    Held::Broken
+}
+
 // At the likely length of the rule: a field that does not meet it so may still meet it.
 fn tried(file: &[u8], a: usize, e: usize, rule: Rule) -> Held
     requires { ⌜ (a ≤ e) × (e ≤ length (now file)) ⌝ }
@@ -114,6 +135,7 @@ fn tried(file: &[u8], a: usize, e: usize, rule: Rule) -> Held
         Rule::Nmi => alnum_to(file, a, e, 10),
         Rule::Suffix => alnum_to(file, a, e, 2),
         Rule::Stream => alnum_to(file, a, e, 2),
+        Rule::Unit => kwh_to(file, a, e),
         Rule::Direction => one_to(file, a, e, 69),
         Rule::Date => date_to(file, a, e),
         Rule::NextRead => date_to(file, a, e),
@@ -150,12 +172,27 @@ pub fn field_held(file: &[u8], a: usize, e: usize, kind: u64, rule: Rule) -> Hel
     }
 }
 
-// A value of a 300. Its commonest shape, a digit, a point and three digits, is tried first. Nearly every field of a 5-minute file is a value, so its rule
-// is asked by `is_value`, which needs no number, and not through `obeys`, which would first look for the rule among all.
-pub fn value_held(file: &[u8], a: usize, e: usize) -> Held
-    requires { ⌜ (a ≤ e) × (e ≤ length (now file)) ⌝ }
-    ensures { λ r. ⌜ r ≡ heldOf 300 Value a (part (now (file .entry)) a e) ⌝ }
+// A value of a 300, of at most d decimals, by its end: nearly every field of a 5-minute file is a value, so its rule is asked by `is_value`, which needs no
+// number, and not through `obeys`, which would first look for the rule among all.
+fn value_ended(file: &[u8], a: usize, e: usize, d: usize) -> Held
+    requires { ⌜ (a ≤ e) × (e ≤ length (now file)) × (d ≤ 6) ⌝ }
+    ensures { λ r. ⌜ r ≡ heldOf 300 (Value d) a (part (now (file .entry)) a e) ⌝ }
 {
+    let t = a + field_end(&file[a..e]);
+    if is_value(&file[a..t], d) {
+        return Held::To(t);
+    }
+    Held::Broken
+}
+
+// The same, its commonest shape tried first, where three decimals are allowed: a digit, a point and three digits.
+pub fn value_held(file: &[u8], a: usize, e: usize, d: usize) -> Held
+    requires { ⌜ (a ≤ e) × (e ≤ length (now file)) × (d ≤ 6) ⌝ }
+    ensures { λ r. ⌜ r ≡ heldOf 300 (Value d) a (part (now (file .entry)) a e) ⌝ }
+{
+    if d < 3 {
+        return value_ended(file, a, e, d);
+    }
     if 5 < e - a {
         let z = a + 5;
         if file[z] == 44 {
@@ -164,8 +201,23 @@ pub fn value_held(file: &[u8], a: usize, e: usize) -> Held
             }
         }
     }
-    let t = a + field_end(&file[a..e]);
-    if is_value(&file[a..t]) {
+    value_ended(file, a, e, d)
+}
+
+// A 250's quantity: its decimals are those of its unit, which the field behind it names. Every unit has one decimal at least, so most quantities need no look
+// at theirs.
+pub fn quantity_held(file: &[u8], a: usize, e: usize) -> Held
+    requires { ⌜ (a ≤ e) × (e ≤ length (now file)) ⌝ }
+    ensures { λ r. ⌜ r ≡ heldOf 250 (Value (decimalsNamed (field 1 (fields (part (now (file .entry)) a e))))) a (part (now (file .entry)) a e) ⌝ }
+{
+    let q = field_at(file, a, e);
+    let t = q.to;
+    if is_value(&file[a..t], 1) {
+        return Held::To(t);
+    }
+    let x = q.next;
+    let d = named_decimals(first_field(file, x, e));
+    if is_value(&file[a..t], d) {
         return Held::To(t);
     }
     Held::Broken

@@ -9,8 +9,8 @@ ghost use Prim.Native.Nat.{_-_, _^_, min};
 ghost use Rattle.format.specs.Numbers.{fractionOf, amount, valueOf, areDigits, isRead, isIndexRead};
 ghost use Rattle.format.proofs.Numbers.{under};
 
-// Ten to the power of 6 - n.
-fn tens(n: usize) -> u64
+// Ten to the power of 6 - n: the millionths that the last of n decimals counts.
+pub fn tens(n: usize) -> u64
     ensures { λ r. ⌜ r ≡ 10 ^ (6 - n) ⌝ }
 {
     if 5 < n {
@@ -27,7 +27,7 @@ fn tens(n: usize) -> u64
 }
 
 // No more than six.
-fn up_to_six(d: usize) -> usize
+pub fn up_to_six(d: usize) -> usize
     ensures { λ r. ⌜ r ≡ min d 6 ⌝ }
 {
     if d < 6 {

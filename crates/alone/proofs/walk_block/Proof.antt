@@ -2,22 +2,23 @@
 use Prim.Native.Nat.{_-_}
 use lib.ListN.{length}
 use borrow.Author.Needs.{needs}
-use Rattle.alone.specs.Walk.{Walking}
-use Rattle.alone.proofs.Walks.{walking-first, turned-walking, turned-less, turned-refused, turned-over}
+use mathlib.Core.Path.{_≡_}
+use Rattle.alone.specs.Walk.{leftOf, topOf, wholeOf, Walking}
+use Rattle.alone.proofs.Walks.{walking-first, walked-first, turned-walking, turned-left, turned-less, turned-refused, turned-over}
 use Rattle.alone.proofs.walk_block.Statement.{statement}
 use Rattle.alone.proofs.walk_block.Tie as tie
 
 abbrev Inv-loop : tie.InvT-loop
-Inv-loop memory start e n t₀ t = Walking memory start n t
+Inv-loop memory start e n decimals t₀ t = Walking memory start t × (wholeOf memory start n decimals ≡ leftOf memory start (topOf memory start n) t)
 
 abbrev μ-loop : tie.MeasureT-loop
-μ-loop memory start e n t₀ t = length memory - t .at
+μ-loop memory start e n decimals t₀ t = length memory - t .at
 
 new-requires : tie.Need-new-requires Inv-loop μ-loop
 new-requires c κs = search needs
 
 loop-holds : tie.Need-loop-holds Inv-loop μ-loop
-loop-holds c = search walking-first
+loop-holds c = (search walking-first, search walked-first)
 
 turn-requires : tie.Need-turn-requires Inv-loop μ-loop
 turn-requires c κs = search needs
@@ -29,7 +30,7 @@ loop-less : tie.Need-loop-less Inv-loop μ-loop
 loop-less c = search turned-less
 
 loop-again : tie.Need-loop-again Inv-loop μ-loop
-loop-again c = search turned-walking
+loop-again c = (search turned-walking, search turned-left)
 
 enum-known-turn-2 : tie.Need-enum-known-turn-2 Inv-loop μ-loop
 enum-known-turn-2 c = search needs
@@ -44,7 +45,7 @@ end-requires : tie.Need-end-requires Inv-loop μ-loop
 end-requires c κs = (search needs, search turned-over, search needs, search needs)
 
 returns-2 : tie.Need-returns-2 Inv-loop μ-loop
-returns-2 c = search needs
+returns-2 c = cc
 
 pub walk-block-spec : {M : Type 1} → statement M
 walk-block-spec =

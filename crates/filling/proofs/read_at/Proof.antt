@@ -14,7 +14,7 @@ returns : tie.Need-returns
 returns c = search at-15
 
 fill-day-requires : tie.Need-fill-day-requires
-fill-day-requires c κs = ready _ _ _ _ _ _ (c .before .before .before .before .before .before .before .enough .ensures) (c .before .before .before .before .before .before .before .before .before .before .before .before .before .before .before .pre) (c .before .before .before .before .before .before .if1 .left)
+fill-day-requires c κs = ready _ _ _ _ _ _ _ (c .before .before .before .before .before .before .before .enough .ensures) (c .before .before .before .before .before .before .before .before .before .before .before .before .before .before .before .pre) (c .before .before .before .before .before .before .if1 .left)
 
 same-length : tie.Need-same-length
 same-length c = search needs

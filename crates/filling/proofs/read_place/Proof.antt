@@ -17,6 +17,9 @@ enum-known-p c = search needs
 intervals-of-requires : tie.Need-intervals-of-requires
 intervals-of-requires c κs = (search under-order, search under-within)
 
+unit-of-requires : tie.Need-unit-of-requires
+unit-of-requires c κs = (search under-order, search under-within)
+
 read-at-requires : tie.Need-read-at-requires
 read-at-requires c κs = search day-here
 
@@ -52,6 +55,7 @@ read-place-spec =
     bare-requires
     enum-known-p
     intervals-of-requires
+    unit-of-requires
     read-at-requires
     returns
     same-length

@@ -2,8 +2,8 @@
 use Prim.Native.Nat.{_-_, _≤_}
 use Rattle.format.specs.Cut.{fields}
 use Rattle.ground.specs.Lists.{part}
-use Rattle.record.proofs.Turns.{Noted, held-past, along-first, along-stops, along-on, along-end, noted-none, noted-first, noted-second}
-use Rattle.record.specs.Walk.{firstAsked, secondAsked, Along}
+use Rattle.record.proofs.Turns.{Noted, turn-stops, turn-on, turn-past, asked-for, along-first, along-end, noted-none, noted-first, noted-second}
+use Rattle.record.specs.Walk.{firstAsked, secondAsked, scaleAt, Along}
 use borrow.Author.Needs.{needs}
 use mathlib.Core.Path.{_≡_}
 use native.Mathlib.Omega.{arith}
@@ -11,10 +11,10 @@ use Rattle.record.proofs.check_fields.Statement.{statement}
 use Rattle.record.proofs.check_fields.Tie as tie
 
 abbrev Inv-loop : tie.InvT-loop
-Inv-loop file at e kind n v w p₀ q₀ b₀ i₀ p q b i = (v ≡ firstAsked kind n) × (w ≡ secondAsked kind) × Along file at e kind n i b × Noted (fields (part file at e)) at i v p × Noted (fields (part file at e)) at i w q × (1 ≤ i)
+Inv-loop file at e kind n d v w p₀ q₀ b₀ i₀ p q b i = (v ≡ firstAsked kind (scaleAt file at e kind n d .n)) × (w ≡ secondAsked kind) × Along file at e kind (scaleAt file at e kind n d) i b × Noted (fields (part file at e)) at i v p × Noted (fields (part file at e)) at i w q × (1 ≤ i)
 
 abbrev μ-loop : tie.MeasureT-loop
-μ-loop file at e kind n v w p₀ q₀ b₀ i₀ p q b i = e - b
+μ-loop file at e kind n d v w p₀ q₀ b₀ i₀ p q b i = e - b
 
 first-asked-requires : tie.Need-first-asked-requires Inv-loop μ-loop
 first-asked-requires c κs = search needs
@@ -26,16 +26,13 @@ add-b : tie.Need-add-b Inv-loop μ-loop
 add-b c = search needs
 
 loop-holds : tie.Need-loop-holds Inv-loop μ-loop
-loop-holds c = (search needs, search needs, search along-first, search noted-none, search noted-none, omega arith)
+loop-holds c = (search asked-for, search needs, search along-first, search noted-none, search noted-none, omega arith)
 
 add-a : tie.Need-add-a Inv-loop μ-loop
 add-a c = search needs
 
-rule-at-requires : tie.Need-rule-at-requires Inv-loop μ-loop
-rule-at-requires c κs = search needs
-
-field-held-requires : tie.Need-field-held-requires Inv-loop μ-loop
-field-held-requires c κs = search needs
+held-at-requires : tie.Need-held-at-requires Inv-loop μ-loop
+held-at-requires c κs = search needs
 
 enum-known-h : tie.Need-enum-known-h Inv-loop μ-loop
 enum-known-h c = search needs
@@ -50,7 +47,7 @@ add-t19 : tie.Need-add-t19 Inv-loop μ-loop
 add-t19 c = search needs
 
 returns : tie.Need-returns Inv-loop μ-loop
-returns c = search along-stops
+returns c = search turn-stops
 
 noted-requires : tie.Need-noted-requires Inv-loop μ-loop
 noted-requires c κs = search needs
@@ -62,10 +59,10 @@ add-passed : tie.Need-add-passed Inv-loop μ-loop
 add-passed c = search needs
 
 passed-requires : tie.Need-passed-requires Inv-loop μ-loop
-passed-requires c κs = (c .before .before .before .before .before .before .before .before .before .before .before .before .pre, along-on _ _ _ _ _ _ _ (c .before .before .before .before .before .before .before .before .before .before .before .before .pre) (c .before .before .before .before .before .before .before .before .loop .inv .2) _ _ (c .before .before .before .before .before .before .before .loop-test .taken) (c .before .before .before .before .before .before .rule-at .ensures) (c .before .before .before .before .before .field-held .ensures) (c .before .before .before .h .given .1), omega arith)
+passed-requires c κs = (c .before .before .before .before .before .before .before .before .before .before .before .pre .0, turn-on _ _ _ _ _ _ _ _ (c .before .before .before .before .before .before .before .before .before .before .before .pre .0) (c .before .before .before .before .before .before .before .loop .inv .2) (c .before .before .before .before .before .before .loop-test .taken) (c .before .before .before .before .before .held-at .ensures) (c .before .before .before .h .given .1), omega arith, c .before .before .before .before .before .before .before .before .before .before .before .pre .1)
 
 loop-less : tie.Need-loop-less Inv-loop μ-loop
-loop-less c = let p = held-past _ _ _ _ (c .before .before .before .before .before .before .field-held .ensures) (c .before .before .before .before .h .given .1) in omega (arith, p, c .passed .ensures .on)
+loop-less c = let p = turn-past _ _ _ _ _ _ _ _ (c .before .before .before .before .before .before .before .before .before .before .before .before .pre .0) (c .before .before .before .before .before .before .before .before .loop .inv .2) (c .before .before .before .before .before .before .before .loop-test .taken) (c .before .before .before .before .before .before .held-at .ensures) (c .before .before .before .before .h .given .1) in omega (arith, p, c .passed .ensures .on)
 
 loop-again : tie.Need-loop-again Inv-loop μ-loop
 loop-again c = (search needs, search needs, c .passed .ensures .along, search noted-first, search noted-second, omega (arith, c .passed .ensures .more))
@@ -84,8 +81,7 @@ check-fields-spec =
     add-b
     loop-holds
     add-a
-    rule-at-requires
-    field-held-requires
+    held-at-requires
     enum-known-h
     enum-told
     sub-t18

@@ -19,7 +19,7 @@ returns-3 : tie.Need-returns-3
 returns-3 c = search needs
 
 pass-values-requires : tie.Need-pass-values-requires
-pass-values-requires c κs = (typed-300 _ _ _ _ _ 0 0 (c .before .before .if1 .left) (c .before .before .before .before .pre .0), along-300 _ _ _ _ _ _ _ (c .before .before .if1 .left) (c .before .before .before .before .pre .1), omega arith, omega arith)
+pass-values-requires c κs = (typed-300 _ _ _ _ _ _ 0 0 (c .before .before .if1 .left) (c .before .before .before .before .pre .0), along-300 _ _ _ _ _ _ _ _ (c .before .before .if1 .left) (c .before .before .before .before .pre .1), omega arith, omega arith)
 
 returns-4 : tie.Need-returns-4
 returns-4 c = search (goes-none, goes-values)

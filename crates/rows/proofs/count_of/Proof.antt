@@ -1,6 +1,6 @@
 -- `rows::count_of` meets its contract. Assumes nothing.
 use Rattle.format.specs.Records.{rowOf}
-use Rattle.rows.proofs.Rows.{count-is, count-300, count-900}
+use Rattle.rows.proofs.Rows.{count-is, count-day, count-900}
 use borrow.Author.Needs.{needs}
 use Rattle.rows.proofs.count_of.Statement.{statement}
 use Rattle.rows.proofs.count_of.Tie as tie
@@ -17,7 +17,7 @@ unfolding rowOf
 returns-2 c = search count-is
 
 returns-3 : tie.Need-returns-3
-returns-3 c = search count-300
+returns-3 c = search count-day
 
 returns-4 : tie.Need-returns-4
 unfolding rowOf

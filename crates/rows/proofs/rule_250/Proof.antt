@@ -2,7 +2,8 @@
 use Rattle.format.specs.Records.{row250}
 use Rattle.rows.proofs.Rows.{off-row, past-arms}
 use borrow.Author.Needs.{needs}
-use mathlib.Core.Path.{refl}
+use mathlib.Core.Path.{_≡_, refl}
+use native.Mathlib.Omega.{arith}
 use Rattle.rows.proofs.rule_250.Statement.{statement}
 use Rattle.rows.proofs.rule_250.Tie as tie
 
@@ -58,7 +59,7 @@ returns-17 : tie.Need-returns-17
 returns-17 c = search needs
 
 returns-18 : tie.Need-returns-18
-returns-18 c = search needs
+returns-18 c = let h : c .before .args .i ≡ 18 = omega arith in rw h
 
 returns-19 : tie.Need-returns-19
 returns-19 c = search needs
@@ -73,7 +74,7 @@ returns-22 : tie.Need-returns-22
 returns-22 c = search needs
 
 returns-23 : tie.Need-returns-23
-returns-23 c = off-row row250 (c .before .args .i) (λ h. past-arms 22 (c .before .args .i) (c .match .rest) h) refl
+returns-23 c = off-row (row250 (c .before .args .d)) (c .before .args .i) (λ h. past-arms 22 (c .before .args .i) (c .match .rest) h) refl
 
 pub rule-250-spec : {M : Type 1} → statement M
 rule-250-spec =

@@ -38,7 +38,7 @@ returns-8 : tie.Need-returns-8
 returns-8 c = search row-behind
 
 returns-9 : tie.Need-returns-9
-returns-9 c = row-past (c .before .before .before .before .args .n) (c .before .before .before .before .args .i) (omega arith)
+returns-9 c = row-past (c .before .before .before .before .args .n) (c .before .before .before .before .args .d) (c .before .before .before .before .args .i) (omega arith)
 
 pub rule-300-spec : {M : Type 1} → statement M
 rule-300-spec =

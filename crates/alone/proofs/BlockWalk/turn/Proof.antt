@@ -42,8 +42,8 @@ step-requires c κs = (search needs, search handed-looked)
 enum-known-step : tie.Need-enum-known-step
 enum-known-step c = search needs
 
-add-t21 : tie.Need-add-t21
-add-t21 c = let h : c .before .before .before .before .before .before .before .before .before .before .before .before .before .args .self .at + c .before .step2 .given .0 .1 .0 ≤ c .before .before .before .before .before .before .before .before .before .handed .given .0 .1 .0 .end = search stop-within in let r : c .before .before .before .before .before .before .before .before .before .handed .given .0 .1 .0 .end + 2 ≤ length (c .before .before .before .before .before .before .before .before .before .before .before .before .before .args .memory .now) = search handed-room in omega (arith, h, r)
+add-t20 : tie.Need-add-t20
+add-t20 c = let h : c .before .before .before .before .before .before .before .before .before .before .before .before .before .args .self .at + c .before .step2 .given .0 .1 .0 ≤ c .before .before .before .before .before .before .before .before .before .handed .given .0 .1 .0 .end = search stop-within in let r : c .before .before .before .before .before .before .before .before .before .handed .given .0 .1 .0 .end + 2 ≤ length (c .before .before .before .before .before .before .before .before .before .before .before .before .before .args .memory .now) = search handed-room in omega (arith, h, r)
 
 enum-known-step-2 : tie.Need-enum-known-step-2
 enum-known-step-2 c = search needs
@@ -69,7 +69,7 @@ turn-spec =
     returns-2
     step-requires
     enum-known-step
-    add-t21
+    add-t20
     enum-known-step-2
     returns-3
     returns-4)

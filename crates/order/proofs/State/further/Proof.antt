@@ -5,7 +5,7 @@ use Rattle.order.proofs.State.further.Statement.{statement}
 use Rattle.order.proofs.State.further.Tie as tie
 
 run-requires : tie.Need-run-requires
-run-requires c κs = (c .before .before .pre .0, search typed-400, search (c .before .before .pre .3))
+run-requires c κs = (c .before .before .pre .0, search typed-400, search (c .before .before .pre .2))
 
 returns : tie.Need-returns
 returns c = (search further-400, search needs)
@@ -23,7 +23,7 @@ on-requires : tie.Need-on-requires
 on-requires c κs = (search ready, c .before .before .before .before .if1 .left)
 
 returns-2 : tie.Need-returns-2
-returns-2 c = walk-stops _ _ _ _ _ (c .before .before .before .before .before .before .args .self) _ (c .before .before .before .before .before .before .pre .2) (c .before .before .before .check-fields .ensures) _ _ (c .before .w .given .1)
+returns-2 c = walk-stops _ _ _ _ (c .before .before .before .before .before .before .args .self) _ (c .before .before .before .check-fields .ensures) _ _ (c .before .w .given .1)
 
 returns-3 : tie.Need-returns-3
 returns-3 c = (search walk-on, search needs)

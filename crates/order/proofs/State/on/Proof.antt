@@ -10,7 +10,7 @@ on-100-requires : tie.Need-on-100-requires
 on-100-requires c κs = search asked
 
 on-200-requires : tie.Need-on-200-requires
-on-200-requires c κs = (search needs, search asked)
+on-200-requires c κs = (search needs, search asked, search asked)
 
 on-300-requires : tie.Need-on-300-requires
 on-300-requires c κs = (search needs, search asked, search asked)
@@ -43,10 +43,10 @@ returns-5 : tie.Need-returns-5
 returns-5 c = (search went, search needs)
 
 returns-6 : tie.Need-returns-6
-returns-6 c = let k = c .before .before .before .pre .0 .kept in let y = c .before .before .before .pre .0 .typed in (search went, kept-closed _ _ (c .on-550 .ensures) (omega arith) (λ z. omega arith) (omega arith) (omega arith) (omega arith))
+returns-6 c = let k = c .before .before .before .pre .0 .kept in let y = c .before .before .before .pre .0 .typed in (search went, kept-closed _ _ (c .on-550 .ensures) (omega arith) (λ z. omega arith) (omega arith) (omega arith) (omega arith) (omega arith))
 
 returns-7 : tie.Need-returns-7
-returns-7 c = let k = c .before .before .before .pre .0 .kept in let y = c .before .before .before .pre .0 .typed in (search went, kept-closed _ _ (c .on-900 .ensures) (omega arith) (λ z. omega arith) (omega arith) (omega arith) (omega arith))
+returns-7 c = let k = c .before .before .before .pre .0 .kept in let y = c .before .before .before .pre .0 .typed in (search went, kept-closed _ _ (c .on-900 .ensures) (omega arith) (λ z. omega arith) (omega arith) (omega arith) (omega arith) (omega arith))
 
 pub on-spec : {M : Type 1} → statement M
 on-spec =

@@ -37,7 +37,7 @@ closed-requires : tie.Need-closed-requires
 closed-requires c κs = search needs
 
 returns-3 : tie.Need-returns-3
-returns-3 c = let k = c .before .before .before .before .before .before .before .before .before .pre .0 in let h = c .before .before .before .before .before .before .before .before .before .pre .1 in (on250-on _ _ _ _ _ (c .before .before .before .before .before .before .before .before .before .args .self) _ h (c .before .before .before .before .before .before .before .before .before .pre .2) (c .before .before .before .before .before .before .before .tag-at .ensures) (c .before .before .before .before .before .before .across .ensures) _ (c .before .before .before .before .before .if1 .left) (c .before .before .before .before .tag-at2 .ensures) (c .before .before .before .across2 .ensures) _ (c .before .before .if2 .left) (c .closed .ensures), kept-closed _ _ (c .closed .ensures) (omega arith) (λ z. omega arith) (omega arith) (omega arith) (omega arith))
+returns-3 c = let k = c .before .before .before .before .before .before .before .before .before .pre .0 in let h = c .before .before .before .before .before .before .before .before .before .pre .1 in (on250-on _ _ _ _ _ (c .before .before .before .before .before .before .before .before .before .args .self) _ h (c .before .before .before .before .before .before .before .before .before .pre .2) (c .before .before .before .before .before .before .before .tag-at .ensures) (c .before .before .before .before .before .before .across .ensures) _ (c .before .before .before .before .before .if1 .left) (c .before .before .before .before .tag-at2 .ensures) (c .before .before .before .across2 .ensures) _ (c .before .before .if2 .left) (c .closed .ensures), kept-closed _ _ (c .closed .ensures) (omega arith) (λ z. omega arith) (omega arith) (omega arith) (omega arith) (omega arith))
 
 pub on-250-spec : {M : Type 1} → statement M
 on-250-spec =

@@ -41,7 +41,7 @@ add-t12 : tie.Need-add-t12
 add-t12 c = search needs
 
 returns-3 : tie.Need-returns-3
-returns-3 c = (search on300-on, record { known = search under-known; begun = λ z. omega arith; within = search no-tag-within; small = search needs; channels = omega arith; days = omega arith })
+returns-3 c = (search on300-on, record { known = search under-known; begun = λ z. omega arith; within = search no-tag-within; small = search needs; few = search needs; channels = omega arith; days = omega arith })
 
 pub on-300-spec : {M : Type 1} → statement M
 on-300-spec =

@@ -37,7 +37,7 @@ first-mark-requires : tie.Need-first-mark-requires
 first-mark-requires c κs = search needs
 
 returns-4 : tie.Need-returns-4
-returns-4 c = let k = c .before .before .before .before .before .before .before .before .before .pre .0 in let h = c .before .before .before .before .before .before .before .before .before .pre .1 in (search on400-on, record { known = omega arith; begun = λ z. omega arith; within = search (picked-within, ran-within); small = k .small; channels = omega arith; days = omega arith })
+returns-4 c = let k = c .before .before .before .before .before .before .before .before .before .pre .0 in let h = c .before .before .before .before .before .before .before .before .before .pre .1 in (search on400-on, record { known = omega arith; begun = λ z. omega arith; within = search (picked-within, ran-within); small = k .small; few = k .few; channels = omega arith; days = omega arith })
 
 pub on-400-spec : {M : Type 1} → statement M
 on-400-spec =

@@ -22,7 +22,7 @@ closed-requires : tie.Need-closed-requires
 closed-requires c κs = search needs
 
 returns-2 : tie.Need-returns-2
-returns-2 c = (search on500-on, kept-closed _ _ (c .closed .ensures) (omega arith) (λ z. omega arith) (omega arith) (omega arith) (omega arith))
+returns-2 c = (search on500-on, kept-closed _ _ (c .closed .ensures) (omega arith) (λ z. omega arith) (omega arith) (omega arith) (omega arith) (omega arith))
 
 pub on-500-spec : {M : Type 1} → statement M
 on-500-spec =
