@@ -16,6 +16,7 @@ use Rattle.ground.proofs.Tests.{and-true, and-false}
 use Rattle.ground.proofs.Cases.{by}
 use Rattle.ground.proofs.From.{length-from}
 use Rattle.ground.proofs.Room.{put-then, put-as, put-kept}
+use Rattle.format.specs.Units.{decimalsOf}
 use Rattle.format.specs.Quality.{Mark, noMark}
 use Rattle.format.specs.Day.{Five, Day}
 use Rattle.format.specs.Block.{fitValue, loadText, comma, crlf, markText, valuesText, coverText, runsIn, isUniform, topText, tailText, blockOf, recordsOf}
@@ -47,20 +48,23 @@ module _ (h : DayHead) (n : ℕ) (vs : List ℕ) (l : Five) (text : List ℕ) wh
       unfolding fitOf fitWith
       marks-unfit t = rw (← f, not-true b t, and-false)
 
-      pub day-measured : {x : Measured} → not b ≡ false → x ≡ measureOf vs → x ≡ fitOf h n vs l text
+      pub day-measured : {d : ℕ} {x : Measured} → not b ≡ false → d ≡ decimalsOf (h .unit) → x ≡ measureOf d vs → x ≡ fitOf h n vs l text
       unfolding fitOf fitWith measureOf
-      day-measured t q = rw (← e, not-false a s, ← f, not-false b t) (q ∙ by (all fitValue vs) (λ z. rw z) (λ z. rw z))
+      day-measured {d} t z q =
+          rw (← e, not-false a s, ← f, not-false b t, ← z) (q ∙ by (all (fitValue d) vs) (λ w. rw w) (λ w. rw w))
 
   module _ (r : FitDay h n vs l text) where
-    fits : (fitHead h && all fitValue vs ≡ true) × (fitMarks l text n ≡ true)
+    fits : (fitHead h && all (fitValue (decimalsOf (h .unit))) vs ≡ true) × (fitMarks l text n ≡ true)
     unfolding fitWith
-    fits = and-true (fitHead h && all fitValue vs) (fitMarks l text n) (r .fit)
+    fits = and-true (fitHead h && all (fitValue (decimalsOf (h .unit))) vs) (fitMarks l text n) (r .fit)
 
     pub ready-marked : Marked l text n
     ready-marked = record { long = r .ready .long; fit = fits .1; few = r .ready .few }
 
     pub values-few : {k : ℕ} → k ≡ length (valuesText vs) → k ≤ 4320
-    values-few e = omega (arith, values-most vs (and-true (fitHead h) (all fitValue vs) (fits .0) .1), r .ready .values, r .ready .few)
+    values-few e =
+        let d = decimalsOf (h .unit) in
+        omega (arith, values-most d vs (and-true (fitHead h) (all (fitValue d) vs) (fits .0) .1), r .ready .values, r .ready .few)
 
     pub first-fit : {t : Tag} → t ≡ tagFrom l 0 → fitTag text t ≡ true
     first-fit e = marked-fit l text n 0 (r .ready .some) ready-marked e

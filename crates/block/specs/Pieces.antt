@@ -5,6 +5,7 @@ use mathlib.Core.List.{List}
 use mathlib.Core.Bool.{Bool, true, cond, _&&_}
 use lib.ListN.{length}
 use Rattle.ground.specs.Lists.{all, from}
+use Rattle.format.specs.Units.{decimalsOf}
 use Rattle.format.specs.Day.{Five, Day}
 use Rattle.format.specs.Block.{fitValue, valuesText, blockOf, recordsOf}
 use Rattle.format.specs.declared.DayHead.{DayHead}
@@ -16,10 +17,10 @@ use Rattle.value_texts.specs.declared.Measured.the-variants.{Bytes, Unfit}
 -- the day of n intervals that has these values and the marks of these lists
 unfoldable pub dayWith : DayHead → ℕ → List ℕ → Five → List ℕ → Day
 dayWith h n vs l text =
-    record { date = h .date; n = n; update = h .update; load = h .load; values = vs; marks = from (marksFrom l text) 0 n }
+    record { date = h .date; n = n; unit = h .unit; update = h .update; load = h .load; values = vs; marks = from (marksFrom l text) 0 n }
 
 unfoldable pub fitWith : DayHead → ℕ → List ℕ → Five → List ℕ → Bool
-fitWith h n vs l text = fitHead h && all fitValue vs && fitMarks l text n
+fitWith h n vs l text = fitHead h && all (fitValue (decimalsOf (h .unit))) vs && fitMarks l text n
 
 -- the bytes of a fit day's values
 unfoldable pub fitOf : DayHead → ℕ → List ℕ → Five → List ℕ → Measured

@@ -11,6 +11,7 @@ use heads::put_front;
 use heads::put_uniform;
 use heads::put_varied;
 use marks::mark_len;
+use units::decimals;
 use value_texts::Measured;
 use value_texts::measure_values;
 ghost use mathlib.Core.Path.{_≡_};
@@ -42,7 +43,7 @@ pub fn fit_day(
     if !fit_marks(flags, methods, reasons, starts, lengths, text, n) {
         return Measured::Unfit;
     }
-    measure_values(values)
+    measure_values(values, decimals(day.unit))
 }
 
 // The block's bytes and records, where the values of a fit day have k bytes. It takes the values only so that its contract can speak of them.

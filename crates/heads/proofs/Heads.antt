@@ -9,6 +9,7 @@ use borrow.Author.Tests.{eq-eqb, ne-eqb, not-true, not-false}
 use Rattle.ground.specs.Room.{Put}
 use Rattle.ground.proofs.Digits.{length-padded}
 use Rattle.ground.proofs.Room.{put-kept}
+use Rattle.format.specs.Units.{isUnit}
 use Rattle.format.specs.Dates.{isDate, isTime}
 use Rattle.format.specs.Block.{loadText, valuesText}
 use Rattle.format.specs.declared.DayHead.{DayHead}
@@ -16,23 +17,28 @@ use Rattle.heads.specs.Heads.{frontText, timesText, fitHead}
 
 -- ---- the head
 
-module _ (h : DayHead) {a : Bool} (e : a ≡ isDate (h .date)) where
-  pub date-unfit : not a ≡ true → false ≡ fitHead h
+module _ (h : DayHead) {u : Bool} (i : u ≡ isUnit (h .unit)) where
+  pub unit-unfit : not u ≡ true → false ≡ fitHead h
   unfolding fitHead
-  date-unfit t = rw (← e, not-true a t)
+  unit-unfit t = rw (← i, not-true u t)
 
-  module _ {b : Bool} (s : not a ≡ false) (f : b ≡ isTime (h .update)) where
-    pub update-unfit : not b ≡ true → false ≡ fitHead h
+  module _ {a : Bool} (k : not u ≡ false) (e : a ≡ isDate (h .date)) where
+    pub date-unfit : not a ≡ true → false ≡ fitHead h
     unfolding fitHead
-    update-unfit t = rw (← e, not-false a s, ← f, not-true b t)
+    date-unfit t = rw (← i, not-false u k, ← e, not-true a t)
 
-    pub no-load : not b ≡ false → h .load ≡ 0 → true ≡ fitHead h
-    unfolding fitHead
-    no-load t z = rw (← e, not-false a s, ← f, not-false b t, eq-eqb (h .load) 0 z)
+    module _ {b : Bool} (s : not a ≡ false) (f : b ≡ isTime (h .update)) where
+      pub update-unfit : not b ≡ true → false ≡ fitHead h
+      unfolding fitHead
+      update-unfit t = rw (← i, not-false u k, ← e, not-false a s, ← f, not-true b t)
 
-    pub some-load : {x : Bool} → not b ≡ false → (h .load ≡ 0 → ⊥) → x ≡ isTime (h .load) → x ≡ fitHead h
-    unfolding fitHead
-    some-load t z q = rw (← e, not-false a s, ← f, not-false b t, ne-eqb (h .load) 0 z) q
+      pub no-load : not b ≡ false → h .load ≡ 0 → true ≡ fitHead h
+      unfolding fitHead
+      no-load t z = rw (← i, not-false u k, ← e, not-false a s, ← f, not-false b t, eq-eqb (h .load) 0 z)
+
+      pub some-load : {x : Bool} → not b ≡ false → (h .load ≡ 0 → ⊥) → x ≡ isTime (h .load) → x ≡ fitHead h
+      unfolding fitHead
+      some-load t z q = rw (← i, not-false u k, ← e, not-false a s, ← f, not-false b t, ne-eqb (h .load) 0 z) q
 
 -- ---- how long its pieces are
 

@@ -5,6 +5,7 @@ use mathlib.Core.Bool.{Bool, _&&_, _||_}
 use lib.Dec.{eqb}
 use Rattle.ground.specs.Text.{bytes}
 use Rattle.ground.specs.Digits.{padded}
+use Rattle.format.specs.Units.{isUnit}
 use Rattle.format.specs.Dates.{isDate, isTime}
 use Rattle.format.specs.Block.{loadText, comma, crlf, valuesText}
 use Rattle.format.specs.declared.DayHead.{DayHead}
@@ -17,6 +18,6 @@ frontText date vs = bytes "300," ++ padded 8 date ++ comma ++ valuesText vs
 unfoldable pub timesText : ℕ → ℕ → List ℕ
 timesText update load = comma ++ padded 14 update ++ comma ++ loadText load ++ crlf
 
--- its date and its times meet their rules; a load time of 0 is none
+-- its unit is one, and its date and its times meet their rules; a load time of 0 is none
 unfoldable pub fitHead : DayHead → Bool
-fitHead h = isDate (h .date) && isTime (h .update) && (eqb (h .load) 0 || isTime (h .load))
+fitHead h = isUnit (h .unit) && isDate (h .date) && isTime (h .update) && (eqb (h .load) 0 || isTime (h .load))

@@ -1,4 +1,4 @@
-// The 300 of a day block, but for its 400s: whether the day's date and times are fit, and the pieces that the record is written in.
+// The 300 of a day block, but for its 400s: whether the day's unit, date and times are fit, and the pieces that the record is written in.
 use date_rules::calendar::is_date;
 use date_rules::calendar::is_time;
 use field_texts::marks::put_load;
@@ -8,6 +8,7 @@ use marks::put_mark;
 use text::bytes::put_byte;
 use text::bytes::put_bytes;
 use text::digits::put_digits;
+use units::is_unit;
 use value_texts::put_values;
 ghost use mathlib.Core.Path.{_≡_};
 ghost use mathlib.Core.Bool.{true};
@@ -20,10 +21,13 @@ ghost use Rattle.format.specs.Block.{markText};
 ghost use Rattle.fit.specs.Tags.{markOf, fitTag};
 ghost use Rattle.heads.specs.Heads.{frontText, timesText, fitHead};
 
-// The date and the times meet their rules; a load time of 0 is none.
+// The unit is one, and the date and the times meet their rules; a load time of 0 is none.
 pub fn fit_head(day: DayHead) -> bool
     ensures { λ r. ⌜ r ≡ fitHead day ⌝ }
 {
+    if !is_unit(day.unit) {
+        return false;
+    }
     if !is_date(day.date as u64) {
         return false;
     }

@@ -8,6 +8,6 @@ use Rattle.format.specs.Block.{fitValue, valuesText}
 use Rattle.value_texts.specs.declared.Measured.{Measured}
 use Rattle.value_texts.specs.declared.Measured.the-variants.{Bytes, Unfit}
 
--- the length of their text, or that one is not fit
-unfoldable pub measureOf : List ℕ → Measured
-measureOf vs = cond (all fitValue vs) (Bytes (length (valuesText vs))) Unfit
+-- the length of their text, or that one is not fit where a value has at most d decimals
+unfoldable pub measureOf : ℕ → List ℕ → Measured
+measureOf d vs = cond (all (fitValue d) vs) (Bytes (length (valuesText vs))) Unfit

@@ -2,6 +2,7 @@
 use field_texts::values::put_value;
 use field_texts::values::value_len;
 use text::bytes::put_byte;
+use value_rules::tens;
 ghost use mathlib.Core.Path.{_≡_};
 ghost use Prim.Native.Nat.{_+_, _≤_};
 ghost use lib.ListN.{length};
@@ -18,15 +19,20 @@ pub enum Measured {
 // A value is below this.
 const LIMIT: u64 = 10000000000000;
 
-pub fn measure_values(values: &[u64]) -> Measured
+// Where values have at most d decimals. More than six are as six: a value has no smaller part.
+pub fn measure_values(values: &[u64], d: usize) -> Measured
     requires { ⌜ length (now values) ≤ 288 ⌝ }
-    ensures { λ r. ⌜ r ≡ measureOf (now (values .entry)) ⌝ }
+    ensures { λ r. ⌜ r ≡ measureOf d (now (values .entry)) ⌝ }
 {
+    let part = tens(d);
     let mut bytes: usize = 0;
     let mut i: usize = 0;
     while i < values.len() {
         let v = values[i];
         if LIMIT <= v {
+            return Measured::Unfit;
+        }
+        if v % part != 0 {
             return Measured::Unfit;
         }
         bytes += value_len(v) + 1;

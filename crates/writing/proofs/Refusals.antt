@@ -1,19 +1,19 @@
 -- Each way out of the writer: the answer that the meaning gives there, and what it leaves of the room. Assumes nothing.
 use Prim.Native.Nat.{ℕ, _≤_, _<_}
 use mathlib.Core.Path.{_≡_, refl, sym, ap₂, _∙_}
-use mathlib.Core.Bool.{Bool, true, false, cond, not, _&&_, _||_}
+use mathlib.Core.Bool.{Bool, true, false, cond, not, _&&_}
 use mathlib.Core.List.{List, [], _∷_}
 use native.Mathlib.Omega.{arith}
 use lib.ListN.{length, take}
 use lib.Seq.{length-take-le}
-use lib.Dec.{leb, eqb}
+use lib.Dec.{leb}
 use borrow.Author.Tests.{eq-eqb, ne-eqb, le-leb, lt-leb, leb-true, not-true, not-false}
 use Rattle.ground.specs.Lists.{all, from}
 use Rattle.ground.specs.Room.{Put}
 use Rattle.ground.proofs.Tests.{and-true}
 use Rattle.ground.proofs.Room.{sets-front}
 use Rattle.format.specs.Numbers.{intervalsOf}
-use Rattle.format.specs.Dates.{isDate, isTime}
+use Rattle.format.specs.Units.{decimalsOf}
 use Rattle.format.specs.Answers.{Answer, accepted, refusal, writtenAs}
 use Rattle.format.specs.Day.{Five, five, Day, enoughFor}
 use Rattle.format.specs.Block.{given, intervalsGiven, markGiven, dayGiven, fitMark, fitValue, fitDay, isInside, fitGiven, valuesText, blockOf, enough, writeOf, roomOf}
@@ -129,13 +129,10 @@ module _ (n : ℕ) (vs fs ms rs ss ls : List ℕ) {b : Bool} (f : b ≡ enoughFo
       }
 
 -- the tests of a fit day, in the order of the code
-reorder : (i d u o v m : Bool) → (i && (d && u && o && v && m)) ≡ (d && u && o && v && (i && m))
-reorder true d u o v m = refl
-reorder false true true true true m = refl
-reorder false true true true false m = refl
-reorder false true true false v m = refl
-reorder false true false o v m = refl
-reorder false false u o v m = refl
+reorder : (i d m : Bool) → i && (d && m) ≡ d && (i && m)
+reorder true d m = refl
+reorder false true m = refl
+reorder false false m = refl
 
 module _ (h : DayHead) (vs fs ms rs ss ls text : List ℕ) {n : ℕ} (e : n ≡ intervalsOf (h .length)) where
   same-day : dayGiven (given h vs fs ms rs ss ls text) ≡ dayWith h n (take n vs) (five fs ms rs ss ls) text
@@ -147,8 +144,8 @@ module _ (h : DayHead) (vs fs ms rs ss ls text : List ℕ) {n : ℕ} (e : n ≡ 
   same-fit =
       let l = five fs ms rs ss ls in
       rw (← e)
-      (reorder (all (insideAt l text) (from (λ j. j) 0 n)) (isDate (h .date)) (isTime (h .update)) (eqb (h .load) 0 || isTime (h .load))
-      (all fitValue (take n vs)) (all fitMark (from (marksFrom l text) 0 n)))
+      (reorder (all (insideAt l text) (from (λ j. j) 0 n)) (fitHead h && all (fitValue (decimalsOf (h .unit))) (take n vs))
+      (all fitMark (from (marksFrom l text) 0 n)))
 
   pub no-length : {a : Answer} (room : List ℕ) → n ≡ 0 → a ≡ refusal 16 → a ≡ writeOf (given h vs fs ms rs ss ls text) (length room)
   unfolding writeOf intervalsGiven

@@ -11,16 +11,18 @@ use Rattle.ground.specs.Runs.{glue, runs}
 use Rattle.format.specs.Bytes.{fieldByte, endSpace, isText}
 use Rattle.format.specs.Texts.{isDescription}
 use Rattle.format.specs.Numbers.{isLength, intervalsOf, noReason}
+use Rattle.format.specs.Units.{units, isUnit, unitAt, decimalsOf}
 use Rattle.format.specs.Dates.{isLeap, daysInMonth, isDay, isDate, isTime}
 use Rattle.format.specs.Quality.{standsAlone, takesMethod, noMethod, needsReason, across, sameMark}
 use Rattle.format.specs.Records.{agrees}
 use Rattle.format.specs.Day.{enoughFor}
 use Rattle.format.specs.Answers.{accepted, refusal}
-use Rattle.format.specs.Block.{Given, given, intervalsGiven, markGiven, dayGiven, fitQuality, fitReason, fitMark, fitValue, fitDay, isInside, fitGiven, fractionText, valueText, qualityText, reasonText, loadText, crlf, markText, valuesText, runText, coverText, runsIn, isUniform, topText, tailText, blockOf, recordsOf, enough, writeOf, roomOf}
+use Rattle.format.specs.Block.{Given, given, intervalsGiven, markGiven, dayGiven, fitQuality, fitReason, fitMark, smallValue, fitValue, fitDay, isInside, fitGiven, fractionText, valueText, qualityText, reasonText, loadText, crlf, markText, valuesText, runText, coverText, runsIn, isUniform, topText, tailText, blockOf, recordsOf, enough, writeOf, roomOf}
 
+-- in kWh
 abbrev day : Given
 day =
-    given (record { date = 20030922; length = 30; update = 20030922092231; load = 0 })
+    given (record { date = 20030922; length = 30; update = 20030922092231; load = 0; unit = 1 })
     (replicate 20 3000000 ++ replicate 28 4000000)
     (replicate 20 65 ++ replicate 28 69)
     (replicate 20 noMethod ++ replicate 28 52)
@@ -39,5 +41,5 @@ pub record Settled : Type 0 where
   pub room-kept : roomOf day (replicate 160 7) ≡ replicate 160 7
 
 pub settled : Settled
-unfolding same from padded widthFrom width dec glue runs fieldByte endSpace isText isDescription isLength intervalsOf isLeap daysInMonth isDay isDate isTime standsAlone takesMethod needsReason across sameMark agrees enoughFor intervalsGiven markGiven dayGiven fitQuality fitReason fitMark fitValue fitDay isInside fitGiven fractionText valueText qualityText reasonText loadText markText valuesText runText coverText runsIn isUniform topText tailText blockOf recordsOf enough writeOf roomOf
+unfolding same from padded widthFrom width dec glue runs fieldByte endSpace isText isDescription isLength intervalsOf units isUnit unitAt decimalsOf isLeap daysInMonth isDay isDate isTime standsAlone takesMethod needsReason across sameMark agrees enoughFor intervalsGiven markGiven dayGiven fitQuality fitReason fitMark smallValue fitValue fitDay isInside fitGiven fractionText valueText qualityText reasonText loadText markText valuesText runText coverText runsIn isUniform topText tailText blockOf recordsOf enough writeOf roomOf
 settled = record { written = refl; byte-for-byte = refl; tail-kept = refl; one-byte-short = refl; room-kept = refl }

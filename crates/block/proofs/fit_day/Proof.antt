@@ -16,6 +16,9 @@ fit-marks-requires c κs = search needs
 returns-2 : tie.Need-returns-2
 returns-2 c = search marks-unfit
 
+decimals-requires : tie.Need-decimals-requires
+decimals-requires c κs = search needs
+
 measure-values-requires : tie.Need-measure-values-requires
 measure-values-requires c κs = search needs
 
@@ -30,5 +33,6 @@ fit-day-spec =
     returns
     fit-marks-requires
     returns-2
+    decimals-requires
     measure-values-requires
     returns-3)
