@@ -32,9 +32,9 @@ checked-one (checked.Refused x) (checked.Accepted w k l) e = cc
 checked-one (checked.Refused x) (checked.Refused y) e = ap checked.Refused (refusal-one x y e)
 
 pub day-read-one : (x y : DayRead) → dayReadAs x ≡ dayReadAs y → x ≡ y
-day-read-one (dayRead.Read a b c d) (dayRead.Read w k l m) e = cc
-day-read-one (dayRead.Read a b c d) (dayRead.Refused y) e = cc
-day-read-one (dayRead.Refused x) (dayRead.Read w k l m) e = cc
+day-read-one (dayRead.Read a b c d u) (dayRead.Read w k l m v) e = cc
+day-read-one (dayRead.Read a b c d u) (dayRead.Refused y) e = cc
+day-read-one (dayRead.Refused x) (dayRead.Read w k l m v) e = cc
 day-read-one (dayRead.Refused x) (dayRead.Refused y) e = ap dayRead.Refused (refusal-one x y e)
 
 pub totalled-one : (x y : Totalled) → totalledAs x ≡ totalledAs y → x ≡ y

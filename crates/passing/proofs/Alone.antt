@@ -12,6 +12,7 @@ use borrow.Author.Tests.{eqb-false, eq-eqb, ne-eqb, not-false}
 use Rattle.ground.proofs.Tests.{and-true}
 use Rattle.ground.proofs.Cases.{by, both}
 use Rattle.format.specs.Numbers.{intervalsOf}
+use Rattle.format.specs.Units.{isUnit, decimalsOf}
 use Rattle.format.specs.Cut.{Lines, line, rest, lines, fields}
 use Rattle.format.specs.Records.{kindIn, dateIn, updateIn, loadIn}
 use Rattle.format.specs.Order.{first300, mayCome, inDay, Due, isVaried}
@@ -129,14 +130,14 @@ rest-walk x st end p k (line r ls) i u h f =
 pub inside-300 : (st : Due) (r : List ℕ) → kindIn (fields r) ≡ 300 → Inside (after st r)
 inside-300 st r k = rw (after-300 st r k) (by (isVaried (st .n) (fields r)) (λ t. rw t) (λ t. rw t))
 
--- behind a 200 of n intervals, the walk accepts exactly what is accepted as a block
-module _ (n : ℕ) (s : List ℕ) where
-  walk-block : (x : List ℕ) (ls : Lines) (ys : List ℕ) → lines s ≡ ls → blockWalkOf x (behind200 n) 0 0 ls ≡ accepted ys
-      → Accepted (behind200 n) s × (ys ≡ x ++ length (kindsOf ls) ∷ [])
+-- behind a 200 of n intervals and d decimals, the walk accepts exactly what is accepted as a block
+module _ (n d : ℕ) (s : List ℕ) where
+  walk-block : (x : List ℕ) (ls : Lines) (ys : List ℕ) → lines s ≡ ls → blockWalkOf x (behind200 n d) 0 0 ls ≡ accepted ys
+      → Accepted (behind200 n d) s × (ys ≡ x ++ length (kindsOf ls) ∷ [])
   unfolding blockWalkOf
   walk-block x (rest t) ys c e = not-accepted 2 0 0 0 ys e
   walk-block x (line r ls) ys c e =
-      let st : Due = behind200 n in
+      let st : Due = behind200 n d in
       let w = on-fine 0 0 (blockFaultOf st r) (blockWalkOf x (after st r) (0 + length r + 2) (0 + 1) ls) ys e in
       let v = alone-fine st r (w .0) in
       let k : kindIn (fields r) ≡ 300 = only first300 300 _ refl (fine-fit st r (v .1) .may) in
@@ -151,10 +152,10 @@ module _ (n : ℕ) (s : List ℕ) where
         g .says ∙ ap (λ (j : ℕ). x ++ j ∷ []) q,
       )
 
-  block-walk : (x : List ℕ) → Accepted (behind200 n) s → blockWalkOf x (behind200 n) 0 0 (lines s) ≡ accepted (x ++ length (kindsOf (lines s)) ∷ [])
+  block-walk : (x : List ℕ) → Accepted (behind200 n d) s → blockWalkOf x (behind200 n d) 0 0 (lines s) ≡ accepted (x ++ length (kindsOf (lines s)) ∷ [])
   unfolding blockWalkOf isForeign
   block-walk x a =
-      let st : Due = behind200 n in
+      let st : Due = behind200 n d in
       let w = headed st s a in
       let r : List ℕ = w .first in
       let q : 0 + 1 + length (kindsOf (w .others)) ≡ suc (length (kindsOf (w .others))) = omega arith in
@@ -167,64 +168,75 @@ module _ (n : ℕ) (s : List ℕ) where
 abbrev answerOf : ℕ → List ℕ → List ℕ
 answerOf n s = topSays n (lines s) ++ length (kindsOf (lines s)) ∷ []
 
-check-block : (m : ℕ) (s xs : List ℕ) → blockCheckOf m s ≡ accepted xs → (intervalsOf m ≢ 0) × Accepted (behind200 (intervalsOf m)) s × (xs ≡ answerOf (intervalsOf m) s)
-unfolding blockCheckOf
-check-block m s xs e =
-    by (eqb (intervalsOf m) 0)
-    (λ t. not-accepted 16 0 0 0 xs (rw t at e))
-    (λ t. let w = walk-block (intervalsOf m) s (topSays (intervalsOf m) (lines s)) (lines s) xs refl (rw t at e) in (eqb-false _ _ t, w .0, w .1))
+-- behind a 200 of m minutes and the unit y
+module _ (m y : ℕ) (s : List ℕ) where
+  abbrev stand : Due
+  stand = behind200 (intervalsOf m) (decimalsOf y)
 
-block-check : (m : ℕ) (s : List ℕ) → intervalsOf m ≢ 0 → Accepted (behind200 (intervalsOf m)) s → blockCheckOf m s ≡ accepted (answerOf (intervalsOf m) s)
-unfolding blockCheckOf
-block-check m s z a = rw (ne-eqb _ _ z) (block-walk (intervalsOf m) s (topSays (intervalsOf m) (lines s)) a)
+  check-block : (xs : List ℕ) → blockCheckOf m y s ≡ accepted xs → (intervalsOf m ≢ 0) × (isUnit y ≡ true) × Accepted stand s × (xs ≡ answerOf (intervalsOf m) s)
+  unfolding blockCheckOf
+  check-block xs e =
+      by (eqb (intervalsOf m) 0)
+      (λ t. not-accepted 16 0 0 0 xs (rw t at e))
+      (λ t. by (isUnit y)
+      (λ i.
+      let w = walk-block (intervalsOf m) (decimalsOf y) s (topSays (intervalsOf m) (lines s)) (lines s) xs refl (rw (t, i) at e) in
+      (eqb-false _ _ t, i, w .0, w .1))
+      (λ i. not-accepted 16 0 0 0 xs (rw (t, i) at e)))
+
+  block-check : intervalsOf m ≢ 0 → isUnit y ≡ true → Accepted stand s → blockCheckOf m y s ≡ accepted (answerOf (intervalsOf m) s)
+  unfolding blockCheckOf
+  block-check z i a = rw (ne-eqb _ _ z, i) (block-walk (intervalsOf m) (decimalsOf y) s (topSays (intervalsOf m) (lines s)) a)
 
 -- the numbers of an answer, one by one
-parts : (m : ℕ) (s : List ℕ) (t n u l k : ℕ) → intervalsOf m ≢ 0 → (a : Accepted (behind200 (intervalsOf m)) s) → t ∷ n ∷ u ∷ l ∷ k ∷ [] ≡ answerOf (intervalsOf m) s
-    → Alone m s t n u l k
-parts m s t n u l k z a e =
-    let w = headed (behind200 (intervalsOf m)) s a in
+parts : (m y : ℕ) (s : List ℕ) (t n u l k : ℕ) → intervalsOf m ≢ 0 → isUnit y ≡ true → (a : Accepted (behind200 (intervalsOf m) (decimalsOf y)) s)
+    → t ∷ n ∷ u ∷ l ∷ k ∷ [] ≡ answerOf (intervalsOf m) s → Alone m y s t n u l k
+parts m y s t n u l k z is a e =
+    let w = headed (behind200 (intervalsOf m) (decimalsOf y)) s a in
     let r : List ℕ = w .first in
     let q : t ∷ n ∷ u ∷ l ∷ k ∷ [] ≡ topSays (intervalsOf m) (line r (w .others)) ++ length (kindsOf (line r (w .others))) ∷ [] = rw (w .is) at e in
     let i : intervalsOf m ≡ n = cc in
     let d : dateIn (fields r) ≡ t = cc in
-    let y : updateIn (intervalsOf m) (fields r) ≡ u = cc in
+    let v : updateIn (intervalsOf m) (fields r) ≡ u = cc in
     let o : loadIn (intervalsOf m) (fields r) ≡ l = cc in
     let c : suc (length (kindsOf (w .others))) ≡ k = cc in
-    record { intervals = i; known = rw i at z; accepted = rw i at a; says = rw (w .is, ← i, d, y, o); records = rw (w .is) c }
+    record { intervals = i; known = rw i at z; unit-known = is; accepted = rw i at a; says = rw (w .is, ← i, d, v, o); records = rw (w .is) c }
 
 -- ---- the theorems
 
--- The check of a block accepts the bytes with these numbers exactly when they are accepted as a block behind a 200 of that interval length, and say these numbers.
-pub alone : (m : ℕ) (s : List ℕ) (t n u l k : ℕ) → (blockCheckOf m s ≡ accepted (t ∷ n ∷ u ∷ l ∷ k ∷ [])) ↔ Alone m s t n u l k
-alone m s t n u l k = (
-  λ e. (let w = check-block m s (t ∷ n ∷ u ∷ l ∷ k ∷ []) e in parts m s t n u l k (w .0) (w .1) (w .2)),
+-- The check of a block accepts the bytes with these numbers exactly when they are accepted as a block behind a 200 of that interval length and unit, and say these
+-- numbers.
+pub alone : (m y : ℕ) (s : List ℕ) (t n u l k : ℕ) → (blockCheckOf m y s ≡ accepted (t ∷ n ∷ u ∷ l ∷ k ∷ [])) ↔ Alone m y s t n u l k
+alone m y s t n u l k = (
+  λ e. (let w = check-block m y s (t ∷ n ∷ u ∷ l ∷ k ∷ []) e in parts m y s t n u l k (w .0) (w .1) (w .2) (w .3)),
   λ w. (let i = w .intervals in
-      let e : blockCheckOf m s ≡ accepted (answerOf n s) = rw i at (block-check m s (rw i (w .known)) (rw i (w .accepted))) in
+      let e : blockCheckOf m y s ≡ accepted (answerOf n s) = rw i at (block-check m y s (rw i (w .known)) (w .unit-known) (rw i (w .accepted))) in
       e ∙ rw (w .says, w .records)),
 )
 
--- A block that it accepts, with the date t and n intervals, is accepted in every state that awaits a block of n intervals and that date.
-pub alone-anywhere : (m : ℕ) (s : List ℕ) (t n u l k : ℕ) → Alone m s t n u l k → (st : Due) → Awaits st n t → Accepted st s
-alone-anywhere m s t n u l k w st h =
-    let d = headed (behind200 n) s (w .accepted) in
+-- A block that it accepts, with the date t and n intervals, is accepted in every state that awaits a block of n intervals, the unit's decimals and that date.
+pub alone-anywhere : (m y : ℕ) (s : List ℕ) (t n u l k : ℕ) → Alone m y s t n u l k → (st : Due) → Awaits st n (decimalsOf y) t → Accepted st s
+alone-anywhere m y s t n u l k w st h =
+    let d = headed (behind200 n (decimalsOf y)) s (w .accepted) in
     let e : topSays n (line (d .first) (d .others)) ≡ t ∷ n ∷ u ∷ l ∷ [] = rw (d .is) at (w .says) in
     let i : t ≡ dateIn (fields (d .first)) = cc in
-    accepted-there (behind200 n) st s (w .accepted) (rw (d .is, ← i) h)
+    accepted-there (behind200 n (decimalsOf y)) st s (w .accepted) (rw (d .is, ← i) h)
 
--- And the other way round: bytes that are accepted as a block in any state of so many intervals are accepted on their own, with a date later than the state's.
-pub anywhere-alone : (m : ℕ) (s : List ℕ) (st : Due) → intervalsOf m ≢ 0 → st .n ≡ intervalsOf m → Accepted st s
-    → (t u l : ℕ) × Alone m s t (st .n) u l (length (kindsOf (lines s))) × (st .date < t)
+-- And the other way round: bytes that are accepted as a block in any state of so many intervals and the unit's decimals are accepted on their own, with a date
+-- later than the state's.
+pub anywhere-alone : (m y : ℕ) (s : List ℕ) (st : Due) → intervalsOf m ≢ 0 → isUnit y ≡ true → st .n ≡ intervalsOf m → st .decimals ≡ decimalsOf y → Accepted st s
+    → (t u l : ℕ) × Alone m y s t (st .n) u l (length (kindsOf (lines s))) × (st .date < t)
 unfolding isOpen
-anywhere-alone m s st z i a =
+anywhere-alone m y s st z is i j a =
     let n : ℕ = st .n in
     let d : st .date < topDate (lines s) = accepted-later st s a in
-    let b : Accepted (behind200 n) s =
-    accepted-there st (behind200 n) s a (record { free = (refl, refl); intervals = refl; earlier = omega arith }) in
+    let b : Accepted (behind200 n (decimalsOf y)) s =
+    accepted-there st (behind200 n (decimalsOf y)) s a (record { free = (refl, refl); intervals = refl; decimals = sym j; earlier = omega arith }) in
     let w = headed st s a in
     let r : List ℕ = w .first in (
       dateIn (fields r),
       updateIn n (fields r),
       loadIn n (fields r),
-      record { intervals = sym i; known = rw i z; accepted = b; says = rw (w .is); records = refl },
+      record { intervals = sym i; known = rw i z; unit-known = is; accepted = b; says = rw (w .is); records = refl },
       rw (w .is) at d,
     )

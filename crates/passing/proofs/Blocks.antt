@@ -10,9 +10,9 @@ use borrow.Author.Tests.{eqb-true, lt-leb}
 use Rattle.ground.proofs.Tests.{and-true, or-other}
 use Rattle.ground.proofs.Cases.{by}
 use Rattle.format.specs.Cut.{Lines, line, rest, lines, fields}
-use Rattle.format.specs.Records.{kindIn, dateIn}
+use Rattle.format.specs.Records.{scale, kindIn, dateIn}
 use Rattle.format.specs.Order.{inDay, Due, alikeWith, on300}
-use Rattle.format.specs.Faults.{size, isOpen, isNotLater, covers, isOff, isAlike, isElsewhere, faultAt, faultOf}
+use Rattle.format.specs.Faults.{scaleOf, isOpen, isNotLater, covers, isOff, isAlike, isElsewhere, faultAt, faultOf}
 use Rattle.format.specs.File.{after}
 use Rattle.format.specs.Day.{Row, DayRows, dayFrom, daysFrom}
 use Rattle.passing.specs.Passes.{Passes, kindsOf, areUnder, isBlock, Free, Accepted, topDate, Awaits}
@@ -47,6 +47,7 @@ under-one k t f g = by (eqb k 400) (λ u. f (eqb-true _ _ u)) (λ u. g (eqb-true
 
 pub record Kept (st end : Due) : Type 0 where
   pub n : end .n ≡ st .n
+  pub decimals : end .decimals ≡ st .decimals
   pub date : end .date ≡ st .date
   pub version : end .version ≡ st .version
   pub channels : end .channels ≡ st .channels
@@ -57,6 +58,7 @@ kept-on : (a b c : Due) → Kept a b → Kept b c → Kept a c
 kept-on a b c x y =
     record {
       n = y .n ∙ x .n;
+      decimals = y .decimals ∙ x .decimals;
       date = y .date ∙ x .date;
       version = y .version ∙ x .version;
       channels = y .channels ∙ x .channels;
@@ -65,7 +67,7 @@ kept-on a b c x y =
     }
 
 pub under-kept : (st end : Due) (ls : Lines) → areUnder (kindsOf ls) ≡ true → Passes st ls end → Kept st end
-under-kept st end (rest t) b h = subst (Kept st) (h .1) (record { n = refl; date = refl; version = refl; channels = refl; days = refl; under = λ z. z })
+under-kept st end (rest t) b h = subst (Kept st) (h .1) (record { n = refl; decimals = refl; date = refl; version = refl; channels = refl; days = refl; under = λ z. z })
 under-kept st end (line r ls) b h =
     let w = and-true (eqb (kindIn (fields r)) 400 || eqb (kindIn (fields r)) 500) (areUnder (kindsOf ls)) b in
     kept-on st (after st r) end (one (w .0)) (under-kept (after st r) end ls (w .1) (h .1))
@@ -73,8 +75,8 @@ under-kept st end (line r ls) b h =
     one : (eqb (kindIn (fields r)) 400 || eqb (kindIn (fields r)) 500) ≡ true → Kept st (after st r)
     one t =
         under-one (kindIn (fields r)) t
-        (λ k. subst (Kept st) (sym (after-400 st r k)) (record { n = refl; date = refl; version = refl; channels = refl; days = refl; under = λ z. refl }))
-        (λ k. subst (Kept st) (sym (after-500 st r k)) (record { n = refl; date = refl; version = refl; channels = refl; days = refl; under = λ z. refl }))
+        (λ k. subst (Kept st) (sym (after-400 st r k)) (record { n = refl; decimals = refl; date = refl; version = refl; channels = refl; days = refl; under = λ z. refl }))
+        (λ k. subst (Kept st) (sym (after-500 st r k)) (record { n = refl; decimals = refl; date = refl; version = refl; channels = refl; days = refl; under = λ z. refl }))
 
 -- ---- what a reading finds
 
@@ -99,7 +101,7 @@ one-day st b a p c =
 -- the state with other counts
 unfoldable pub counting : ℕ → ℕ → ℕ → Due → Due
 counting v c d st =
-    record { expect = st .expect; version = v; n = st .n; date = st .date; next = st .next; shared = st .shared; channels = c; days = d }
+    record { expect = st .expect; version = v; n = st .n; decimals = st .decimals; date = st .date; next = st .next; shared = st .shared; channels = c; days = d }
 
 -- no fault goes by the counts
 module _ (v c d : ℕ) where
@@ -124,18 +126,18 @@ module _ (v c d : ℕ) where
   unfolding counting isOpen
   free-counting st f = f
 
--- a 300 is fit in each state of its n that has an earlier date
-module _ (a st : Due) (r : List ℕ) (k : kindIn (fields r) ≡ 300) (f : Fit a r) (w : Awaits st (a .n) (dateIn (fields r))) where
+-- a 300 is fit in each state of its n and decimals that has an earlier date
+module _ (a st : Due) (r : List ℕ) (k : kindIn (fields r) ≡ 300) (f : Fit a r) (w : Awaits st (a .n) (a .decimals) (dateIn (fields r))) where
   fit-there : Fit st r
   unfolding isNotLater isOff isAlike isElsewhere
   fit-there =
-      let o : Ok 300 (a .n) (fields r) = subst (λ (x : ℕ). Ok x (size a x) (fields r)) k (f .ok) in
-      let o₁ : Ok 300 (st .n) (fields r) = subst (λ (n : ℕ). Ok 300 n (fields r)) (sym (w .intervals)) o in
+      let o : Ok 300 (scale (a .n) (a .decimals)) (fields r) = subst (λ (x : ℕ). Ok x (scaleOf a x (fields r)) (fields r)) k (f .ok) in
+      let o₁ : Ok 300 (scale (st .n) (st .decimals)) (fields r) = rw (w .intervals, w .decimals) o in
       record {
         bytes = f .bytes;
         free = rw k (w .free .1);
         may = rw k (w .free .0);
-        ok = subst (λ (x : ℕ). Ok x (size st x) (fields r)) (sym k) o₁;
+        ok = subst (λ (x : ℕ). Ok x (scaleOf st x (fields r)) (fields r)) (sym k) o₁;
         rises = rw (k, lt-leb _ _ (w .earlier));
         cover = rw k;
         apart = rw k;
@@ -145,15 +147,15 @@ module _ (a st : Due) (r : List ℕ) (k : kindIn (fields r) ≡ 300) (f : Fit a 
   after-there : after st r ≡ counting (st .version) (st .channels) (st .days + 1) (after a r)
   unfolding counting
   after-there =
-      let e : on300 st (fields r) ≡ counting (st .version) (st .channels) (st .days + 1) (on300 a (fields r)) = rw (w .intervals) in
+      let e : on300 st (fields r) ≡ counting (st .version) (st .channels) (st .days + 1) (on300 a (fields r)) = rw (w .intervals, w .decimals) in
       after-300 st r k ∙ e ∙ ap (counting (st .version) (st .channels) (st .days + 1)) (sym (after-300 a r k))
 
--- what is accepted as a block in one state is in every state that awaits a block of its n and date
-pub accepted-there : (a st : Due) (b : List ℕ) → Accepted a b → Awaits st (a .n) (topDate (lines b)) → Accepted st b
+-- what is accepted as a block in one state is in every state that awaits a block of its n, decimals and date
+pub accepted-there : (a st : Due) (b : List ℕ) → Accepted a b → Awaits st (a .n) (a .decimals) (topDate (lines b)) → Accepted st b
 accepted-there a st b h w =
     let d = headed a b h in
     let e = d .is in
-    let x : Awaits st (a .n) (dateIn (fields (d .first))) = subst (λ (ls : Lines). Awaits st (a .n) (topDate ls)) e w in
+    let x : Awaits st (a .n) (a .decimals) (dateIn (fields (d .first))) = subst (λ (ls : Lines). Awaits st (a .n) (a .decimals) (topDate ls)) e w in
     let c : Due → Due = counting (st .version) (st .channels) (st .days + 1) in
     let p : Passes (after st (d .first)) (d .others) (c (h .end)) =
     subst (λ (s : Due). Passes s (d .others) (c (h .end))) (sym (after-there a st (d .first) (d .kind) (d .fit) x))

@@ -9,7 +9,7 @@ use lib.Dec.{eqb}
 use borrow.Author.Tests.{eqb-true, eqb-false, eq-eqb, le-leb}
 use Rattle.ground.proofs.Cases.{by}
 use Rattle.format.specs.Cut.{Lines, line, rest, lines, fields}
-use Rattle.format.specs.Records.{kindIn, rowOf, countOf, intervalsIn, firstIn, lastIn}
+use Rattle.format.specs.Records.{Scale, scale, kindIn, rowOf, countOf, intervalsIn, unitIn, firstIn, lastIn}
 use Rattle.format.specs.Order.{mayCome, inVaried, isEnd, Due, begun, isVaried, on300, on400}
 use Rattle.format.specs.Answers.{accepted}
 use Rattle.format.specs.File.{after, checkOf}
@@ -50,16 +50,17 @@ covers-on st end q j (line r ls) o x e h a =
     let w : j ≡ st .n = omega arith in
     rw i (eq-eqb _ _ w))
 
-pub count-300 : (n : ℕ) → countOf 300 n ≡ n + 7
+pub count-300 : (z : Scale) → countOf 300 z ≡ z .n + 7
 unfolding countOf rowOf
-count-300 n = omega (arith, length-append (replicate n Value) (Quality ∷ Reason ∷ Description ∷ Time ∷ Load ∷ []), length-replicate n Value)
+count-300 z =
+    omega (arith, length-append (replicate (z .n) (Value (z .decimals))) (Quality ∷ Reason ∷ Description ∷ Time ∷ Load ∷ []), length-replicate (z .n) (Value (z .decimals)))
 
 -- the block of a 300 that is passed
-sound-block : (st end : Due) (q : ℕ) (r : List ℕ) (ls : Lines) → Shut end → kindIn (fields r) ≡ 300 → Passes st (line r ls) end → isSound (blockFound q r ls (st .n)) ≡ true
+sound-block : (st end : Due) (q : ℕ) (r : List ℕ) (ls : Lines) (u : ℕ) → Shut end → kindIn (fields r) ≡ 300 → Passes st (line r ls) end → isSound (blockFound q r ls (st .n) u) ≡ true
 unfolding isSound
-sound-block st end q r ls o k a =
+sound-block st end q r ls u o k a =
     let f = fine-fit st r (a .0) in
-    let count : length (fields r) ≡ st .n + 7 = rw k at (f .ok .0) ∙ count-300 (st .n) in
+    let count : length (fields r) ≡ st .n + 7 = rw k at (f .ok .0) ∙ count-300 (scale (st .n) (st .decimals)) in
     let p : Passes (on300 st (fields r)) ls end = rw (after-300 st r k) at (a .1) in
     by (isVaried (st .n) (fields r))
     (λ v. rw (eq-eqb _ _ count, v, covers-on (on300 st (fields r)) end (q + length r + 2) 0 ls o (rw v) refl (omega arith) p))
@@ -79,7 +80,7 @@ passed-days st end q c (line r ls) o g h a =
     let k : kindIn (fields r) ≡ 300 = eqb-true _ _ i in
     let t : eqb (kindIn (fields r)) 200 ≡ false = rw k in
     let m : mayCome (st .expect) 300 ≡ true = rw k at (f .may) in
-    let b : isSound (blockFound q r ls (intervalsIn (c .cells))) ≡ true = rw (h m) at (sound-block st end q r ls o k a) in
+    let b : isSound (blockFound q r ls (intervalsIn (c .cells)) (unitIn (c .cells))) ≡ true = rw (h m) at (sound-block st end q r ls (unitIn (c .cells)) o k a) in
     rw (i, b) (passed-days (after st r) end (q + length r + 2) c ls o (s .counts) (rw t at w) (a .1)))
     (λ i. rw i (passed-days (after st r) end (q + length r + 2) _ ls o (s .counts) (rw (channel-on (kindIn (fields r)) q c r) w) (a .1)))
 

@@ -17,9 +17,9 @@ use Rattle.format.specs.File.{after, walkOf}
 use Rattle.format.specs.Day.{Row, DayRows, rowAt, runsFrom, dayFrom, daysFrom, noChannel, daysOf}
 use Rattle.format.proofs.Cut.{bytesOf, bytes-lines}
 use Rattle.format.proofs.States.{not-ended}
-use Rattle.passing.specs.Passes.{Passes, kindsOf}
+use Rattle.passing.specs.Passes.{Passes, kindsOf, headIn}
 use Rattle.passing.proofs.Fit.{Fit, fine-fit, head}
-use Rattle.passing.proofs.Steps.{days-more, days-skip, channel-on}
+use Rattle.passing.proofs.Steps.{days-more, days-skip, cells-on, channel-on}
 use Rattle.passing.proofs.Counts.{Holds, counts-begun, holds-begun, counted}
 use Rattle.passing.specs.Passes.{Counts}
 
@@ -95,6 +95,7 @@ record Split (a e : Due) (p : ℕ) (c : Row) (ls m : Lines) : Type 0 where
   is : daysFrom p c (onto ls m) ≡ before ++ daysFrom (p + length (bytesOf ls)) behind m
   count : a .days + length before ≡ e .days
   holds : Holds e (intervalsIn (behind .cells))
+  cells : behind .cells ≡ headIn (c .cells) ls
 
 module _ (a e : Due) (p : ℕ) (c : Row) (r : List ℕ) (ls m : Lines) (f : Fit a r) (n : Counts a) (h : Holds a (intervalsIn (c .cells))) where
   split-line : ((c′ : Row) → Counts (after a r) → Holds (after a r) (intervalsIn (c′ .cells)) → Split (after a r) e (p + length r + 2) c′ ls m) → Split a e p c (line r ls) m
@@ -114,6 +115,7 @@ module _ (a e : Due) (p : ℕ) (c : Row) (r : List ℕ) (ls m : Lines) (f : Fit 
             ∙ ap (λ (x : List DayRows). dayFrom p c r (onto ls m) ∷ x) (w .is ∙ ap (λ (i : ℕ). w .before ++ daysFrom i (w .behind) m) u);
         count = (let n : after a r .days ≡ a .days + 1 = (rw t at (s .days)) in omega (arith, w .count));
         holds = w .holds;
+        cells = w .cells ∙ ap (λ (x : ℕ). headIn (cond (eqb x 200) (fields r) (c .cells)) ls) (sym k);
       })
       (λ t.
       let w = g (cond (eqb (kindIn (fields r)) 200) (rowAt p r) c) (s .counts) (rw (channel-on (kindIn (fields r)) p c r) o) in
@@ -123,6 +125,7 @@ module _ (a e : Due) (p : ℕ) (c : Row) (r : List ℕ) (ls m : Lines) (f : Fit 
         is = days-skip p r (onto ls m) c (eqb-false _ _ t) ∙ w .is ∙ ap (λ (i : ℕ). w .before ++ daysFrom i (w .behind) m) u;
         count = (let n : after a r .days ≡ a .days = (rw t at (s .days)) in omega (arith, w .count));
         holds = w .holds;
+        cells = w .cells ∙ ap (λ (fs : List (List ℕ)). headIn fs ls) (cells-on (kindIn (fields r)) p c r);
       })
 
 days-lines : (a e : Due) (p : ℕ) (c : Row) (ls m : Lines) → Passes a ls e → Counts a → Holds a (intervalsIn (c .cells)) → Split a e p c ls m
@@ -134,6 +137,7 @@ days-lines a e p c (rest t) m h n g =
       is = ap (λ (i : ℕ). daysFrom i c m) u;
       count = omega (arith, ap (λ (s : Due). s .days) (h .1));
       holds = subst (λ (s : Due). Holds s (intervalsIn (c .cells))) (h .1) g;
+      cells = refl;
     }
 days-lines a e p c (line r ls) m h n g = split-line a e p c r ls m (fine-fit a r (h .0)) n g (λ c′. days-lines (after a r) e (p + length r + 2) c′ ls m (h .1))
 
@@ -143,6 +147,7 @@ days-lines a e p c (line r ls) m h n g = split-line a e p c r ls m (fine-fit a r
 pub record Onward (e : Due) (x y : List ℕ) : Type 0 where
   pub channel : Row
   pub intervals : intervalsIn (channel .cells) ≡ e .n
+  pub cells : channel .cells ≡ headIn (noChannel .cells) (lines x)
   pub is : drop (e .days) (daysOf (x ++ y)) ≡ daysFrom (length x) channel (lines y)
 
 pub days-append : (e : Due) (x y : List ℕ) → Passes begun (lines x) e → mayCome (e .expect) 300 ≡ true → Onward e x y
@@ -154,6 +159,7 @@ days-append e x y h u =
     record {
       channel = w .behind;
       intervals = sym (w .holds u);
+      cells = w .cells;
       is =
           ap (λ (ls : Lines). drop (e .days) (daysFrom 0 noChannel ls)) (lines-behind begun e x y h)
           ∙ ap (drop (e .days)) (w .is)

@@ -13,17 +13,17 @@ use Rattle.ground.proofs.Cases.{by}
 use Rattle.ground.proofs.Spans.{span-le, all-span, spanned-all}
 use Rattle.format.specs.Bytes.{plain}
 use Rattle.format.specs.Cut.{fields}
-use Rattle.format.specs.Records.{kindIn, countOf, dateIn, firstIn, lastIn}
+use Rattle.format.specs.Records.{Scale, kindIn, countOf, dateIn, firstIn, lastIn}
 use Rattle.format.specs.Order.{Expected, mayCome, inVaried, Due}
-use Rattle.format.specs.Faults.{_▹_, f3, isOpen, f10, f4, size, f5, faultIn, f6, f7, isNotLater, f8, covers, isOff, f9, isAlike, f11, isElsewhere, f12, faultAt, faultOf}
+use Rattle.format.specs.Faults.{_▹_, f3, isOpen, f10, f4, scaleOf, f5, faultIn, f6, f7, isNotLater, f8, covers, isOff, f9, isAlike, f11, isElsewhere, f12, faultAt, faultOf}
 use Rattle.format.specs.declared.Fault.{Fault}
 use Rattle.format.specs.declared.Fault.the-variants.{Fine}
 use Rattle.format.proofs.States.{no-kind}
 use Rattle.format.proofs.Faults.{both-fine, stop-fine}
 
--- what 5, 6 and 7 ask of the fields of a record of the kind k; n is the number of a 300's intervals
-abbrev pub Ok : ℕ → ℕ → List (List ℕ) → Type 0
-Ok k n fs = (length fs ≡ countOf k n) × (faultIn k n 0 0 fs ≡ Fine) × (f7 k n fs ≡ Fine)
+-- what 5, 6 and 7 ask of the fields of a record of the kind k, whose rules are made from z
+abbrev pub Ok : ℕ → Scale → List (List ℕ) → Type 0
+Ok k z fs = (length fs ≡ countOf k z) × (faultIn k z 0 0 fs ≡ Fine) × (f7 k (z .n) fs ≡ Fine)
 
 -- ---- a record without a fault
 
@@ -32,7 +32,7 @@ module _ (st : Due) (r : List ℕ) where
     pub bytes : all plain r ≡ true
     pub free : isOpen st (kindIn (fields r)) ≡ false
     pub may : mayCome (st .expect) (kindIn (fields r)) ≡ true
-    pub ok : Ok (kindIn (fields r)) (size st (kindIn (fields r))) (fields r)
+    pub ok : Ok (kindIn (fields r)) (scaleOf st (kindIn (fields r)) (fields r)) (fields r)
     pub rises : isNotLater st (kindIn (fields r)) (fields r) ≡ false
     pub cover : isOff st (kindIn (fields r)) (fields r) ≡ false
     pub apart : isAlike st (kindIn (fields r)) (fields r) ≡ false
@@ -60,22 +60,22 @@ module _ (st : Due) (r : List ℕ) where
   unfolding faultOf faultAt
   fine-fit e =
       let k : ℕ = kindIn (fields r) in
-      let n : ℕ = size st k in
       let fs : List (List ℕ) = fields r in
+      let z : Scale = scaleOf st k fs in
       let s₁₂ : Fault = f12 st k fs in
       let s₁₁ : Fault = f11 st k fs ▹ s₁₂ in
       let s₉ : Fault = f9 st k fs ▹ s₁₁ in
       let s₈ : Fault = f8 st k fs ▹ s₉ in
-      let s₇ : Fault = f7 k n fs ▹ s₈ in
-      let s₆ : Fault = f6 k n fs ▹ s₇ in
-      let s₅ : Fault = f5 k n fs ▹ s₆ in
+      let s₇ : Fault = f7 k (z .n) fs ▹ s₈ in
+      let s₆ : Fault = f6 k z fs ▹ s₇ in
+      let s₅ : Fault = f5 k z fs ▹ s₆ in
       let s₄ : Fault = f4 st k ▹ s₅ in
       let a = both-fine (f3 r) (f10 st k ▹ s₄) e in
       let b = both-fine (f10 st k) s₄ (a .1) in
       let c = both-fine (f4 st k) s₅ (b .1) in
-      let d = both-fine (f5 k n fs) s₆ (c .1) in
-      let i = both-fine (f6 k n fs) s₇ (d .1) in
-      let j = both-fine (f7 k n fs) s₈ (i .1) in
+      let d = both-fine (f5 k z fs) s₆ (c .1) in
+      let i = both-fine (f6 k z fs) s₇ (d .1) in
+      let j = both-fine (f7 k (z .n) fs) s₈ (i .1) in
       let f = both-fine (f8 st k fs) s₉ (j .1) in
       let g = both-fine (f9 st k fs) s₁₁ (f .1) in
       let h = both-fine (f11 st k fs) s₁₂ (g .1) in

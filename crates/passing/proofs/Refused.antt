@@ -2,13 +2,14 @@
 use Prim.Native.Nat.{ℕ, _+_, _<_}
 use mathlib.Core.Path.{_≡_, refl, sym, ap, ap₂, _∙_}
 use mathlib.Core.Logic.{_≢_}
-use mathlib.Core.Bool.{Bool, true, false, _&&_}
+use mathlib.Core.Bool.{Bool, true, false, not, _&&_, _||_}
 use mathlib.Core.List.{List, [], _∷_, _++_}
 use native.Mathlib.Omega.{arith}
 use lib.ListN.{length}
 use lib.Dec.{eqb}
 use Rattle.ground.proofs.Cases.{by}
 use Rattle.format.specs.Numbers.{intervalsOf}
+use Rattle.format.specs.Units.{isUnit, decimalsOf}
 use Rattle.format.specs.Cut.{Lines, line, rest, lines, fields}
 use Rattle.format.specs.Records.{kindIn}
 use Rattle.format.specs.Order.{first300, inDay, isEnd, Due, due, begun}
@@ -86,14 +87,15 @@ module _ (y : List ℕ) (v c a b x q j i : ℕ) (n : x ≢ 4) where
       rw (after-counting v c d st r w) (same-under d (after st r) (p + length r + 2) (k + 1) ls (inside-after st r w) (omega arith) g))
       e
 
-  -- behind a 200
-  same-block : (d m : ℕ) (ls : Lines) → j < length (kindsOf ls) → blockWalkOf y (behind200 m) 0 0 ls ≡ refused x q j i → walkOf (due first300 v m 0 c d) (a + 0) (b + 0) ls ≡ refused x (a + q) (b + j) i
+  -- behind a 200 of m intervals and w decimals
+  same-block : (d m w : ℕ) (ls : Lines) → j < length (kindsOf ls) → blockWalkOf y (behind200 m w) 0 0 ls ≡ refused x q j i
+      → walkOf (due first300 v m w 0 c d) (a + 0) (b + 0) ls ≡ refused x (a + q) (b + j) i
   unfolding counting
-  same-block d m (rest t) l e = absurd (let z : ⊥ = omega (arith, at-end (behind200 m) 0 0 t e) in z)
-  same-block d m (line r ls) l e =
-      step d (behind200 m) 0 0 r ls refl
+  same-block d m w (rest t) l e = absurd (let z : ⊥ = omega (arith, at-end (behind200 m w) 0 0 t e) in z)
+  same-block d m w (line r ls) l e =
+      step d (behind200 m w) 0 0 r ls refl
       (λ f g.
-      let st : Due = behind200 m in
+      let st : Due = behind200 m w in
       let h : kindIn (fields r) ≡ 300 = only first300 300 _ refl (fine-fit st r (alone-fine st r f .1) .may) in
       let s : after (counting v c d st) r ≡ counting v c (d + 1) (after st r) = after-300 (counting v c d st) r h ∙ ap (counting v c (d + 1)) (sym (after-300 st r h)) in
       rw s (same-under (d + 1) (after st r) (0 + length r + 2) (0 + 1) ls (inside-300 st r h) (omega arith) g))
@@ -101,22 +103,23 @@ module _ (y : List ℕ) (v c a b x q j i : ℕ) (n : x ≢ 4) where
 
 -- ---- the theorem
 
--- Behind any 200 of that interval length, the check of a file refuses the record as the block's check does: the same number and field, and place and record number
--- counted on from the block's start.
-pub refused-there : (m : ℕ) (s : List ℕ) (x q j i : ℕ) → blockCheckOf m s ≡ refused x q j i → x ≢ 4 → x ≢ 16 → j < length (kindsOf (lines s))
-    → (before : List ℕ) (v c d : ℕ) → Leads before (due first300 v (intervalsOf m) 0 c d)
+-- Behind any 200 of that interval length and unit, the check of a file refuses the record as the block's check does: the same number and field, and place and record
+-- number counted on from the block's start.
+pub refused-there : (m u : ℕ) (s : List ℕ) (x q j i : ℕ) → blockCheckOf m u s ≡ refused x q j i → x ≢ 4 → x ≢ 16 → j < length (kindsOf (lines s))
+    → (before : List ℕ) (v c d : ℕ) → Leads before (due first300 v (intervalsOf m) (decimalsOf u) 0 c d)
     → walkOf begun 0 0 (lines (before ++ s)) ≡ refused x (length before + q) (length (kindsOf (lines before)) + j) i
 unfolding blockCheckOf
-refused-there m s x q j i e n z l before v c d h =
+refused-there m u s x q j i e n z l before v c d h =
     let a : ℕ = 0 + length before in
     let b : ℕ = 0 + length (kindsOf (lines before)) in
     let n₁ : ℕ = intervalsOf m in
-    by (eqb n₁ 0)
+    let w : ℕ = decimalsOf u in
+    by (eqb n₁ 0 || not (isUnit u))
     (λ t. absurd (z (let g : refused 16 0 0 0 ≡ refused x q j i = (rw t at e) in let y : x ≡ 16 = cc in y)))
     (λ t.
-    let g : blockWalkOf (topSays n₁ (lines s)) (behind200 n₁) 0 0 (lines s) ≡ refused x q j i = rw t at e in
-    let u : a ≡ length before + 0 = omega arith in
-    let w : b ≡ length (kindsOf (lines before)) + 0 = omega arith in
-    walk-append begun (due first300 v n₁ 0 c d) 0 0 before s h
-    ∙ ap₂ (λ (p k : ℕ). walkOf (due first300 v n₁ 0 c d) p k (lines s)) u w
-    ∙ same-block (topSays n₁ (lines s)) v c (length before) (length (kindsOf (lines before))) x q j i n d n₁ (lines s) l g)
+    let g : blockWalkOf (topSays n₁ (lines s)) (behind200 n₁ w) 0 0 (lines s) ≡ refused x q j i = rw t at e in
+    let y : a ≡ length before + 0 = omega arith in
+    let k : b ≡ length (kindsOf (lines before)) + 0 = omega arith in
+    walk-append begun (due first300 v n₁ w 0 c d) 0 0 before s h
+    ∙ ap₂ (λ (p k : ℕ). walkOf (due first300 v n₁ w 0 c d) p k (lines s)) y k
+    ∙ same-block (topSays n₁ (lines s)) v c (length before) (length (kindsOf (lines before))) x q j i n d n₁ w (lines s) l g)

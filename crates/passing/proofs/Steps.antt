@@ -58,9 +58,9 @@ module _ (p : ℕ) (r : List ℕ) (ls : Lines) where
   unfolding runsFrom
   runs-end e = rw (ne-eqb _ _ e)
 
-  -- the block of a 300
-  abbrev pub blockFound : ℕ → BlockRows
-  blockFound n = record { n = n; top = rowAt p r; runs = runsFrom (p + length r + 2) ls }
+  -- the block of a 300, of n intervals in the unit u
+  abbrev pub blockFound : ℕ → ℕ → BlockRows
+  blockFound n u = record { n = n; unit = u; top = rowAt p r; runs = runsFrom (p + length r + 2) ls }
 
   pub days-more : (c : Row) → kindIn (fields r) ≡ 300 → daysFrom p c (line r ls) ≡ dayFrom p c r ls ∷ daysFrom (p + length r + 2) c ls
   unfolding daysFrom
@@ -70,6 +70,9 @@ module _ (p : ℕ) (r : List ℕ) (ls : Lines) where
   unfolding daysFrom
   days-skip c e = rw (ne-eqb _ _ e)
 
--- n of the 200 that a reading has behind a record of the kind k at p
+-- the fields and the n of the 200 that a reading has behind a record of the kind k at p
+pub cells-on : (k p : ℕ) (c : Row) (r : List ℕ) → cond (eqb k 200) (rowAt p r) c .cells ≡ cond (eqb k 200) (fields r) (c .cells)
+cells-on k p c r = by (eqb k 200) (λ t. rw t) (λ t. rw t)
+
 pub channel-on : (k p : ℕ) (c : Row) (r : List ℕ) → intervalsIn (cond (eqb k 200) (rowAt p r) c .cells) ≡ cond (eqb k 200) (intervalsIn (fields r)) (intervalsIn (c .cells))
 channel-on k p c r = by (eqb k 200) (λ t. rw t) (λ t. rw t)

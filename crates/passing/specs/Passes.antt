@@ -3,17 +3,19 @@
 use Prim.Native.Nat.{ℕ, _<_}
 use mathlib.Core.Path.{_≡_}
 use mathlib.Core.Logic.{_≢_}
-use mathlib.Core.Bool.{Bool, true, false, _&&_, _||_}
+use mathlib.Core.Bool.{Bool, true, false, cond, _&&_, _||_}
 use mathlib.Core.List.{List, [], _∷_}
 use lib.ListN.{length}
 use lib.Dec.{eqb}
 use Rattle.ground.specs.Lists.{all}
 use Rattle.format.specs.Numbers.{intervalsOf}
+use Rattle.format.specs.Units.{isUnit, decimalsOf}
 use Rattle.format.specs.Cut.{Lines, line, rest, lines, fields}
-use Rattle.format.specs.Records.{kindIn, dateIn}
+use Rattle.format.specs.Records.{kindIn, unitIn, dateIn}
 use Rattle.format.specs.Order.{mayCome, Due, begun}
 use Rattle.format.specs.Faults.{isOpen, faultOf}
 use Rattle.format.specs.File.{after, behind200, topSays}
+use Rattle.format.specs.Day.{noChannel}
 use Rattle.format.specs.declared.Fault.the-variants.{Fine}
 
 -- ---- passed
@@ -31,6 +33,15 @@ Leads before st = Passes begun (lines before) st
 abbrev pub kindsOf : Lines → List ℕ
 kindsOf (rest t) = []
 kindsOf (line r ls) = kindIn (fields r) ∷ kindsOf ls
+
+-- the fields of the last 200 in these lines, fs where there is none
+abbrev pub headIn : List (List ℕ) → Lines → List (List ℕ)
+headIn fs (rest t) = fs
+headIn fs (line r ls) = headIn (cond (eqb (kindIn (fields r)) 200) (fields r) fs) ls
+
+-- the unit of the last 200 in these bytes: the one that a day right behind them stands under
+abbrev pub unitBefore : List ℕ → ℕ
+unitBefore before = unitIn (headIn (noChannel .cells) (lines before))
 
 -- ---- accepted as a block
 
@@ -61,20 +72,23 @@ topDate (line r ls) = dateIn (fields r)
 
 -- ---- where a block may stand
 
--- a block of n intervals with this date may stand here: behind a 200 of that n, or under it behind another day of an earlier date
-pub record Awaits (st : Due) (n date : ℕ) : Type 0 where
+-- a block of n intervals with this date, whose values have at most d decimals, may stand here: behind a 200 of that n and a unit of these decimals, or under it
+-- behind another day of an earlier date
+pub record Awaits (st : Due) (n d date : ℕ) : Type 0 where
   pub free : Free st
   pub intervals : st .n ≡ n
+  pub decimals : st .decimals ≡ d
   pub earlier : st .date < date
 
 -- ---- a block on its own
 
--- behind a 200 of this interval length, of n intervals, the bytes b are accepted as a block: its 300 says the date t, the update time u and the load time l, and
--- it has k records
-pub record Alone (minutes : ℕ) (b : List ℕ) (t n u l k : ℕ) : Type 0 where
+-- behind a 200 of this interval length, of n intervals, and this unit, the bytes b are accepted as a block: its 300 says the date t, the update time u and the
+-- load time l, and it has k records
+pub record Alone (minutes unit : ℕ) (b : List ℕ) (t n u l k : ℕ) : Type 0 where
   pub intervals : intervalsOf minutes ≡ n
   pub known : n ≢ 0
-  pub accepted : Accepted (behind200 n) b
+  pub unit-known : isUnit unit ≡ true
+  pub accepted : Accepted (behind200 n (decimalsOf unit)) b
   pub says : topSays n (lines b) ≡ t ∷ n ∷ u ∷ l ∷ []
   pub records : length (kindsOf (lines b)) ≡ k
 

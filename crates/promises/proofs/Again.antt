@@ -15,7 +15,7 @@ use Rattle.ground.proofs.Cases.{split, by, both}
 use Rattle.ground.proofs.Tests.{or-right}
 use Rattle.format.specs.Numbers.{isLength, intervalsOf}
 use Rattle.format.specs.Quality.{Mark}
-use Rattle.format.specs.Records.{intervalsIn}
+use Rattle.format.specs.Records.{unitIn, decimalsIn, intervalsIn}
 use Rattle.format.specs.Answers.{Answer, accepted, refusal}
 use Rattle.format.specs.Day.{Day, dayOf, Five, Outcome, outcome, over, overFive, enoughFor, roomFor, readOf}
 use Rattle.format.specs.Block.{Given, intervalsGiven, markGiven, dayGiven, fitDay, isInside, fitGiven, blockOf, recordsOf, enough, writeOf, leftBy, roomOf}
@@ -66,7 +66,7 @@ known n (inr (inr e)) = rw e (refl, refl)
 module _ (file : List ℕ) (day : Day) (head : Record) (b : List ℕ) (r : ReadsAs head b day) (tags : List Tag) (m : map (markOf file) tags ≡ day .marks)
     (q : Each (Points file) tags) (vs : List ℕ) (ms : Five) where
   abbrev pub handed : Given
-  handed = handedOn file (day .date) (day .n) (day .update) (day .load) (over (day .values) vs) (overFive tags ms)
+  handed = handedOn file (day .date) (day .n) (day .update) (day .load) (day .unit) (over (day .values) vs) (overFive tags ms)
 
   n-is : day .n ≡ intervalsIn head
   unfolding dayIn dayOf
@@ -76,11 +76,11 @@ module _ (file : List ℕ) (day : Day) (head : Record) (b : List ℕ) (r : Reads
   interval-length = known (day .n) (subst (λ (n : ℕ). (n ≡ 288) ⊎ ((n ≡ 96) ⊎ (n ≡ 48))) (sym n-is) (intervals-of head (r .is-head)))
 
   values-long : length (day .values) ≡ day .n
-  values-long = ap (λ (x : Day). length (x .values)) (r .is) ∙ value-count (intervalsIn head) (r .block) (r .good) ∙ sym n-is
+  values-long = ap (λ (x : Day). length (x .values)) (r .is) ∙ value-count (intervalsIn head) (decimalsIn head) (unitIn head) (r .block) (r .good) ∙ sym n-is
 
   tags-long : length tags ≡ day .n
   tags-long =
-      sym (length-map tags (markOf file)) ∙ ap length m ∙ ap (λ (x : Day). length (x .marks)) (r .is) ∙ mark-count (intervalsIn head) (r .block) (r .good) ∙ sym n-is
+      sym (length-map tags (markOf file)) ∙ ap length m ∙ ap (λ (x : Day). length (x .marks)) (r .is) ∙ mark-count (intervalsIn head) (decimalsIn head) (unitIn head) (r .block) (r .good) ∙ sym n-is
 
   column : (c : Tag → ℕ) (ws : List ℕ) (i : ℕ) → i < length tags → getD (over (map c tags) ws) i (c noTag) ≡ c (getD tags i noTag)
   column c ws i l = List·getD-append (map c tags) (drop (length (map c tags)) ws) (c noTag) i (omega (arith, length-map tags c)) ∙ List·getD-map c tags i noTag
@@ -103,7 +103,7 @@ module _ (file : List ℕ) (day : Day) (head : Record) (b : List ℕ) (r : Reads
   pub handed-day : dayGiven handed ≡ day
   unfolding dayGiven intervalsGiven
   handed-day =
-      let told : ℕ → List ℕ → List Mark → Day = λ n x y. record { date = day .date; n = n; update = day .update; load = day .load; values = x; marks = y } in
+      let told : ℕ → List ℕ → List Mark → Day = λ n x y. record { date = day .date; n = n; unit = day .unit; update = day .update; load = day .load; values = x; marks = y } in
       ap (λ (n : ℕ). told n (take n (over (day .values) vs)) (from (markGiven handed) 0 n)) (interval-length .1)
       ∙ ap₂ (told (day .n)) (take-at (day .values) (drop (length (day .values)) vs) (day .n) values-long) marks-handed
 
@@ -164,25 +164,26 @@ module _ (g : Given) (w : Writable g) (room : List ℕ) where
   written-again : (k : ℕ) (content : Content) (more : List Day) → drop k (meanings content) ≡ dayGiven g ∷ more → WrittenAgain k content room (writeOf g (length room)) (roomOf g room)
   unfolding dayGiven
   written-again k content more e =
-      record { day = dayGiven g; more = more; is = e; same = λ head i n. by-the-grammar g w head i n; written = fits; no-room = fits-not }
+      record { day = dayGiven g; more = more; is = e; same = λ head i n u. by-the-grammar g w head i n u; written = fits; no-room = fits-not }
 
-handed-alike : (file : List ℕ) (o : Outcome) (t n u l t₁ n₁ u₁ l₁ : ℕ) (vs : List ℕ) (ms : Five) → o .answer ≡ accepted (t ∷ n ∷ u ∷ l ∷ [])
-    → o ≡ outcome (accepted (t₁ ∷ n₁ ∷ u₁ ∷ l₁ ∷ [])) vs ms → handedOn file t n u l (o .values) (o .marks) ≡ handedOn file t₁ n₁ u₁ l₁ vs ms
-handed-alike file o t n u l t₁ n₁ u₁ l₁ vs ms a e =
-    let b : o .answer ≡ accepted (t₁ ∷ n₁ ∷ u₁ ∷ l₁ ∷ []) = ap (λ (x : Outcome). x .answer) e in
+handed-alike : (file : List ℕ) (o : Outcome) (t n u l m t₁ n₁ u₁ l₁ m₁ : ℕ) (vs : List ℕ) (ms : Five) → o .answer ≡ accepted (t ∷ n ∷ u ∷ l ∷ m ∷ [])
+    → o ≡ outcome (accepted (t₁ ∷ n₁ ∷ u₁ ∷ l₁ ∷ m₁ ∷ [])) vs ms → handedOn file t n u l m (o .values) (o .marks) ≡ handedOn file t₁ n₁ u₁ l₁ m₁ vs ms
+handed-alike file o t n u l m t₁ n₁ u₁ l₁ m₁ vs ms a e =
+    let b : o .answer ≡ accepted (t₁ ∷ n₁ ∷ u₁ ∷ l₁ ∷ m₁ ∷ []) = ap (λ (x : Outcome). x .answer) e in
     let p : t ≡ t₁ = cc in
     let q : n ≡ n₁ = cc in
     let r : u ≡ u₁ = cc in
     let s : l ≡ l₁ = cc in
-    ap (λ (x : Outcome). handedOn file t n u l (x .values) (x .marks)) e ∙ rw (p, q, r, s)
+    let v : m ≡ m₁ = cc in
+    ap (λ (x : Outcome). handedOn file t n u l m (x .values) (x .marks)) e ∙ rw (p, q, r, s, v)
 
 module _ (file : List ℕ) (v c d : ℕ) (h : InFormat file v c d) (k : ℕ) (vs : List ℕ) (ms : Five) where
   abbrev left : Outcome
   left = readOf file k vs ms
 
-  module _ (t n u l : ℕ) (a : left .answer ≡ accepted (t ∷ n ∷ u ∷ l ∷ [])) where
+  module _ (t n u l m : ℕ) (a : left .answer ≡ accepted (t ∷ n ∷ u ∷ l ∷ m ∷ [])) where
     abbrev g : Given
-    g = handedOn file t n u l (left .values) (left .marks)
+    g = handedOn file t n u l m (left .values) (left .marks)
 
     some : k < d
     some = split d k (λ b. absurd (let o : left .answer ≡ refusal 14 = ap (λ (x : Outcome). x .answer) (day-none file v c d h k b vs ms) in let z : true ≡ false = cc in true≢false z)) (λ b. b)
@@ -197,7 +198,7 @@ module _ (file : List ℕ) (v c d : ℕ) (h : InFormat file v c d) (k : ℕ) (vs
         subst (StandsAt file (o .rows .block .top .place)) (sym (o .only (exact .day) (record { v = v; c = c; d = d; how = h; more = exact .more; is = exact .is }))) (o .stands)
 
     -- the lists were long enough
-    filled : left ≡ outcome (accepted (exact .day .date ∷ exact .day .n ∷ exact .day .update ∷ exact .day .load ∷ [])) (over (exact .day .values) vs) (overFive (exact .tags) ms)
+    filled : left ≡ outcome (accepted (exact .day .date ∷ exact .day .n ∷ exact .day .update ∷ exact .day .load ∷ exact .day .unit ∷ [])) (over (exact .day .values) vs) (overFive (exact .tags) ms)
     filled =
         by (roomFor (exact .day .n) vs ms)
         (λ r. exact .reads r)
@@ -207,7 +208,7 @@ module _ (file : List ℕ) (v c d : ℕ) (h : InFormat file v c d) (k : ℕ) (vs
     asRead = handed file (exact .day) (stands .head) (stands .block) (stands .reads) (exact .tags) (exact .marks) (exact .points) vs ms
 
     handed-read : g ≡ asRead
-    handed-read = handed-alike file left t n u l (exact .day .date) (exact .day .n) (exact .day .update) (exact .day .load) (over (exact .day .values) vs) (overFive (exact .tags) ms) a filled
+    handed-read = handed-alike file left t n u l m (exact .day .date) (exact .day .n) (exact .day .update) (exact .day .load) (exact .day .unit) (over (exact .day .values) vs) (overFive (exact .tags) ms) a filled
 
     -- so what a reading answered and left is written as day k
     pub again : (room : List ℕ) → WrittenAgain k (h .content) room (writeOf g (length room)) (roomOf g room)

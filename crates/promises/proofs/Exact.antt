@@ -11,7 +11,7 @@ use Rattle.ground.proofs.Lists.{map-replicate}
 use Rattle.ground.proofs.Cases.{split, same-or, by}
 use Rattle.format.specs.Quality.{Mark}
 use Rattle.format.specs.Cut.{Lines, line, rest, lines, fields}
-use Rattle.format.specs.Records.{kindIn, intervalsIn, firstIn, lastIn, markAt}
+use Rattle.format.specs.Records.{kindIn, unitIn, intervalsIn, firstIn, lastIn, markAt}
 use Rattle.format.specs.Order.{isVaried}
 use Rattle.format.specs.Answers.{Answer, accepted, refused, refusal}
 use Rattle.format.specs.File.{checkOf}
@@ -124,7 +124,7 @@ module _ (file : List ℕ) where
       (λ t. day-marks ls k q (cond (eqb (kindIn (fields r)) 200) (rowAt p r) c) x xs n (ap (drop k) (sym (days-skip p r ls c t)) ∙ e))
     where
       here : (k : ℕ) → drop k (dayFrom p c r ls ∷ daysFrom (p + length r + 2) c ls) ≡ x ∷ xs → ((j : ℕ) → drop j (daysFrom (p + length r + 2) c ls) ≡ x ∷ xs → Marks x) → Marks x
-      here zero e later = let y : dayFrom p c r ls ≡ x = cc in subst (λ (w : DayRows). Marks w) y (tags-marks file p (intervalsIn (c .cells)) r ls h)
+      here zero e later = let y : dayFrom p c r ls ≡ x = cc in subst (λ (w : DayRows). Marks w) y (tags-marks file p (intervalsIn (c .cells)) (unitIn (c .cells)) r ls h)
       here (suc k) e later = later k e
 
   module _ (xs : List ℕ) (a : checkOf file ≡ accepted xs) (k : ℕ) (vs : List ℕ) (ms : Five) where

@@ -129,7 +129,7 @@ pub record GivenBack (d : Day) (block : List ℕ) : Type 1 where
   pub marks : map (markOf file) tags ≡ d .marks
   pub read : (κs : Lfts 7) (a : Dens κs read-kinds.ps) (x : resT read-kinds.r κs .Denot) (e : AtExit (endedOf 7 read-kinds.ps read-kinds.r) κs) → read-reads.Learnt κs a x e
       → fileLent κs a ≡ file → dayAsked κs a ≡ 0 → roomFor (d .n) (valuesLent κs a) (marksLent κs a) ≡ true
-      → left κs a x e ≡ outcome (accepted (d .date ∷ d .n ∷ d .update ∷ d .load ∷ [])) (over (d .values) (valuesLent κs a)) (overFive tags (marksLent κs a))
+      → left κs a x e ≡ outcome (accepted (d .date ∷ d .n ∷ d .update ∷ d .load ∷ d .unit ∷ [])) (over (d .values) (valuesLent κs a)) (overFive tags (marksLent κs a))
 
 module _ (κs : Lfts 8) (b : Dens κs write-kinds.ps) (y : resT write-kinds.r κs .Denot) (f : AtExit (endedOf 8 write-kinds.ps write-kinds.r) κs) (w : write-reads.Learnt κs b y f) where
   -- what it was called with, and what it left
@@ -151,14 +151,14 @@ module _ (κs : Lfts 8) (b : Dens κs write-kinds.ps) (y : resT write-kinds.r κ
 
   -- what `read_day` answered and left of a day of a file, handed in with the file as its text, is written as that day
   pub rewrite : (μs : Lfts 7) (a : Dens μs read-kinds.ps) (x : resT read-kinds.r μs .Denot) (e : AtExit (endedOf 7 read-kinds.ps read-kinds.r) μs) → read-reads.Learnt μs a x e
-      → (v c d : ℕ) (h : InFormat (fileLent μs a) v c d) (date n update load : ℕ) → left μs a x e .answer ≡ accepted (date ∷ n ∷ update ∷ load ∷ [])
-      → handedIn ≡ handedOn (fileLent μs a) date n update load (left μs a x e .values) (left μs a x e .marks)
+      → (v c d : ℕ) (h : InFormat (fileLent μs a) v c d) (date n update load unit : ℕ) → left μs a x e .answer ≡ accepted (date ∷ n ∷ update ∷ load ∷ unit ∷ [])
+      → handedIn ≡ handedOn (fileLent μs a) date n update load unit (left μs a x e .values) (left μs a x e .marks)
       → WrittenAgain (dayAsked μs a) (h .content) roomLent (writtenAs y) roomLeft
-  rewrite μs a x e p v c d h date n update load r g =
+  rewrite μs a x e p v c d h date n update load unit r g =
       let o : Outcome = readOf (fileLent μs a) (dayAsked μs a) (valuesLent μs a) (marksLent μs a) in
-      let t : handedIn ≡ handedOn (fileLent μs a) date n update load (o .values) (o .marks) =
-      g ∙ ap (λ (u : Outcome). handedOn (fileLent μs a) date n update load (u .values) (u .marks)) p in
-      let z = again (fileLent μs a) v c d h (dayAsked μs a) (valuesLent μs a) (marksLent μs a) date n update load (ap (λ (u : Outcome). u .answer) (sym p) ∙ r) roomLent in
+      let t : handedIn ≡ handedOn (fileLent μs a) date n update load unit (o .values) (o .marks) =
+      g ∙ ap (λ (u : Outcome). handedOn (fileLent μs a) date n update load unit (u .values) (u .marks)) p in
+      let z = again (fileLent μs a) v c d h (dayAsked μs a) (valuesLent μs a) (marksLent μs a) date n update load unit (ap (λ (u : Outcome). u .answer) (sym p) ∙ r) roomLent in
       let s = subst (λ (q : Given). WrittenAgain (dayAsked μs a) (h .content) roomLent (writeOf q (length roomLent)) (roomOf q roomLent)) (sym t) z in
       rw (w .0, w .1) s
 

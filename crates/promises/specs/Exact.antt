@@ -25,9 +25,9 @@ pub record ReadExactly (file : List ℕ) (k : ℕ) (content : Content) (vs : Lis
   pub tags : List Tag
   pub marks : map (markOf file) tags ≡ day .marks
   pub points : Each (Points file) tags
-  -- the lists are long enough: "The answer also has the date, n, update time and load time"; "Lists longer than n keep their tail"
+  -- the lists are long enough: "The answer also has the date, n, update time and load time", and by 02, 8, the unit; "Lists longer than n keep their tail"
   pub reads : roomFor (day .n) vs ms ≡ true
-      → left ≡ outcome (accepted (day .date ∷ day .n ∷ day .update ∷ day .load ∷ [])) (over (day .values) vs) (overFive tags ms)
+      → left ≡ outcome (accepted (day .date ∷ day .n ∷ day .update ∷ day .load ∷ day .unit ∷ [])) (over (day .values) vs) (overFive tags ms)
   -- "a lent list [..] is too short"
   pub short : roomFor (day .n) vs ms ≡ false → left ≡ outcome (refusal 15) vs ms
 

@@ -7,7 +7,7 @@ use mathlib.Core.List.{List, [], _∷_, _++_, map, append-nil}
 use native.Mathlib.Omega.{arith}
 use lib.ListN.{length, getD, replicate, getD-replicate, length-map}
 use lib.Dec.{eqb}
-use borrow.Author.Tests.{ne-eqb, ltb-true}
+use borrow.Author.Tests.{ne-eqb}
 use Rattle.ground.specs.Lists.{all}
 use Rattle.ground.specs.Text.{bytes}
 use Rattle.ground.specs.Digits.{padded}
@@ -15,6 +15,7 @@ use Rattle.ground.specs.Runs.{Run, run, spell}
 use Rattle.ground.proofs.Tests.{and-true}
 use Rattle.ground.proofs.Cases.{by}
 use Rattle.format.specs.Numbers.{numberIn}
+use Rattle.format.specs.Units.{isUnit, decimalsOf}
 use Rattle.format.specs.Dates.{isDate, isTime}
 use Rattle.format.specs.Quality.{standsAlone, takesMethod, qualityOf, Mark, noMark}
 use Rattle.format.specs.Records.{dateIn, millionths, firstIn, lastIn, markAt, markIn}
@@ -22,7 +23,7 @@ use Rattle.format.specs.Order.{Due, isVaried}
 use Rattle.format.specs.Day.{coverOf, eachOf, valuesOf, Day, marksOf, dayOf}
 use Rattle.format.specs.Block.{fitQuality, fitMark, fitValue, fitDay, valueText, qualityText, reasonText, loadText, comma, crlf, markText, valuesText, runsIn, isUniform, topText, tailText, blockOf}
 use Rattle.format.proofs.NumberText.{date-back, time-back, load-back}
-use Rattle.format.proofs.ValueText.{value-back}
+use Rattle.format.proofs.ValueText.{value-same, value-back}
 use Rattle.format.proofs.CoverText.{runs-spell, runs-are-proper, uniform-is, uniform}
 use Rattle.format.proofs.Forms.{uniform-top, uniform-tail, varied-top, varied-tail}
 use Rattle.passing.specs.Passes.{Accepted, Awaits}
@@ -45,20 +46,26 @@ pub record Whole (d : Day) : Type 0 where
   pub few : d .n < 10 ^ 4
 
 pub record Parts (d : Day) : Type 0 where
+  pub unit : isUnit (d .unit) ≡ true
   pub date : isDate (d .date) ≡ true
   pub update : isTime (d .update) ≡ true
   pub load : (eqb (d .load) 0 || isTime (d .load)) ≡ true
-  pub values : all fitValue (d .values) ≡ true
+  pub values : all (fitValue (decimalsOf (d .unit))) (d .values) ≡ true
   pub marks : all fitMark (d .marks) ≡ true
 
 pub parts : (d : Day) → fitDay d ≡ true → Parts d
 unfolding fitDay
 parts d h =
-    let a = and-true (isDate (d .date) && isTime (d .update) && (eqb (d .load) 0 || isTime (d .load)) && all fitValue (d .values)) (all fitMark (d .marks)) h in
-    let b = and-true (isDate (d .date) && isTime (d .update) && (eqb (d .load) 0 || isTime (d .load))) (all fitValue (d .values)) (a .0) in
-    let c = and-true (isDate (d .date) && isTime (d .update)) (eqb (d .load) 0 || isTime (d .load)) (b .0) in
-    let e = and-true (isDate (d .date)) (isTime (d .update)) (c .0) in
-    record { date = e .0; update = e .1; load = c .1; values = b .1; marks = a .1 }
+    let u = isUnit (d .unit) in
+    let t = isDate (d .date) in
+    let l = eqb (d .load) 0 || isTime (d .load) in
+    let v = all (fitValue (decimalsOf (d .unit))) (d .values) in
+    let a = and-true (u && t && isTime (d .update) && l && v) (all fitMark (d .marks)) h in
+    let b = and-true (u && t && isTime (d .update) && l) v (a .0) in
+    let c = and-true (u && t && isTime (d .update)) l (b .0) in
+    let e = and-true (u && t) (isTime (d .update)) (c .0) in
+    let f = and-true u t (e .0) in
+    record { unit = f .0; date = f .1; update = e .1; load = c .1; values = b .1; marks = a .1 }
 
 -- ---- what is read
 
@@ -73,15 +80,15 @@ cover-says p a (run k m ∷ c) h =
     ∙ ap (λ (x : ℕ). replicate x (markIn row) ++ spell c) w
     ∙ ap (λ (x : Mark). replicate k x ++ spell c) (written-mark a k m (h .0) (h .1) (h .2))
 
-values-back : (vs : List ℕ) → all fitValue vs ≡ true → map millionths (map valueText vs) ≡ vs
-unfolding millionths fitValue
-values-back [] h = refl
-values-back (v ∷ vs) h =
-    let w = and-true (fitValue v) (all fitValue vs) h in
-    rw (value-back v (ltb-true _ _ (w .0)), values-back vs (w .1))
+values-back : (m : ℕ) (vs : List ℕ) → all (fitValue m) vs ≡ true → map millionths (map valueText vs) ≡ vs
+unfolding millionths
+values-back m [] h = refl
+values-back m (v ∷ vs) h =
+    let w = and-true (fitValue m v) (all (fitValue m) vs) h in
+    rw (value-same m (valueText v) v (value-back m v (w .0)), values-back m vs (w .1))
 
-day-is : {t t′ n u u′ l l′ : ℕ} {vs vs′ : List ℕ} {ms ms′ : List Mark} → t ≡ t′ → u ≡ u′ → l ≡ l′ → vs ≡ vs′ → ms ≡ ms′
-    → _≡_ {A = Day} (record { date = t; n = n; update = u; load = l; values = vs; marks = ms }) (record { date = t′; n = n; update = u′; load = l′; values = vs′; marks = ms′ })
+day-is : {t t′ n m u u′ l l′ : ℕ} {vs vs′ : List ℕ} {ms ms′ : List Mark} → t ≡ t′ → u ≡ u′ → l ≡ l′ → vs ≡ vs′ → ms ≡ ms′
+    → _≡_ {A = Day} (record { date = t; n = n; unit = m; update = u; load = l; values = vs; marks = ms }) (record { date = t′; n = n; unit = m; update = u′; load = l′; values = vs′; marks = ms′ })
 day-is a b c d e = rw (a, b, c, d, e)
 
 -- ---- the 300 of a written day, with any quality, reason and description
@@ -90,11 +97,11 @@ module _ (d : Day) (w : Whole d) (q s x : List ℕ) (c : Carried 300 q s x) wher
   top : Record
   top = topWritten (d .date) (d .update) (d .load) (d .values) q s x
 
-  top-is : IsRecord 300 (d .n) top
+  top-is : IsRecord 300 (d .n) (decimalsOf (d .unit)) top
   unfolding top
   top-is =
       let p = parts d (w .fit) in
-      top-record (d .date) (d .update) (d .load) (d .values) q s x (d .n) (w .values) (p .date) (p .update) (p .load) (p .values) c
+      top-record (d .date) (d .update) (d .load) (d .values) q s x (d .n) (decimalsOf (d .unit)) (w .values) (p .date) (p .update) (p .load) (p .values) c
 
   says : TopSays (d .n) top (padded 8 (d .date)) (map valueText (d .values)) q s x (padded 14 (d .update)) (loadText (d .load))
   unfolding top
@@ -112,14 +119,14 @@ module _ (d : Day) (w : Whole d) (q s x : List ℕ) (c : Carried 300 q s x) wher
   -- the day that it and its 400s say
   day-by : (runs : List Record)
       → ((p : ℕ) → cond (isVaried (d .n) top) (coverOf (λ x. markAt 400 3 (x .cells)) (rowsAt p runs)) (replicate (d .n) (markAt 300 (d .n + 2) top)) ≡ d .marks)
-      → dayIn (d .n) (record { top = top; runs = runs; extra = [] }) ≡ d
+      → dayIn (d .n) (d .unit) (record { top = top; runs = runs; extra = [] }) ≡ d
   unfolding dayIn dayOf valuesOf marksOf eachOf
   day-by runs e =
       day-is
       date-by
       (says .update ∙ ap numberIn (time-back (d .update) (parts d (w .fit) .update)))
       (says .load ∙ ap numberIn (load-back (d .load) (parts d (w .fit) .load)))
-      (says .values ∙ values-back (d .values) (parts d (w .fit) .values))
+      (says .values ∙ values-back (decimalsOf (d .unit)) (d .values) (parts d (w .fit) .values))
       (e (0 + length (join top) + 2))
 
 -- ---- the two forms of the block
@@ -127,9 +134,9 @@ module _ (d : Day) (w : Whole d) (q s x : List ℕ) (c : Carried 300 q s x) wher
 -- a block of the grammar that is the day, and whose bytes are written
 pub record Written (d : Day) : Type 0 where
   pub block : Block
-  pub good : IsBlock (d .n) block
+  pub good : IsBlock (d .n) (decimalsOf (d .unit)) block
   pub bytes-are : text (rowsOf block) ≡ blockOf d
-  pub day : dayIn (d .n) block ≡ d
+  pub day : dayIn (d .n) (d .unit) block ≡ d
 
 uniform-all : (n : ℕ) (m : Mark) → 1 ≤ n → isUniform (replicate n m) ≡ true
 uniform-all zero m h = absurd (let z : ⊥ = omega arith in z)
@@ -212,14 +219,14 @@ module _ (d : Day) (w : Whole d) where
 
   -- ---- the theorem
 
-  pub back : (st : Due) → Awaits st (d .n) (d .date) → ReadsBack d st
+  pub back : (st : Due) → Awaits st (d .n) (decimalsOf (d .unit)) (d .date) → ReadsBack d st
   unfolding dayIn dayOf
   back st a =
       let r = written in
-      let e : dayIn (st .n) (r .block) ≡ d = ap (λ (n : ℕ). dayIn n (r .block)) (a .intervals) ∙ r .day in
-      let g : IsBlock (st .n) (r .block) = subst (λ (n : ℕ). IsBlock n (r .block)) (sym (a .intervals)) (r .good) in
+      let e : (u : ℕ) → u ≡ d .unit → dayIn (st .n) u (r .block) ≡ d = λ u i. ap₂ (λ (n v : ℕ). dayIn n v (r .block)) (a .intervals) i ∙ r .day in
+      let g : IsBlock (st .n) (st .decimals) (r .block) = rw (a .intervals, a .decimals) (r .good) in
       let t : dateIn (r .block .top) ≡ d .date = ap (λ (x : Day). x .date) (r .day) in
       record {
         accepted = subst (Accepted st) (r .bytes-are) (block-accepted (r .block) st g (a .free) (rw t (a .earlier)));
-        same = λ p c n. subst (λ (x : List ℕ). Reads p c x d) (r .bytes-are) (subst (Reads p c (text (rowsOf (r .block)))) e (block-reads (r .block) (st .n) g p c n));
+        same = λ p c n u. subst (λ (x : List ℕ). Reads p c x d) (r .bytes-are) (subst (Reads p c (text (rowsOf (r .block)))) (e _ u) (block-reads (r .block) (st .n) (st .decimals) g p c n));
       }

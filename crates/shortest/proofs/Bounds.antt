@@ -14,6 +14,7 @@ use Rattle.ground.proofs.Digits.{length-padded, dec-most}
 use Rattle.format.specs.Bytes.{endSpace, isText}
 use Rattle.format.specs.Texts.{isDescription}
 use Rattle.format.specs.Numbers.{noReason}
+use Rattle.format.specs.Units.{decimalsOf}
 use Rattle.format.specs.Quality.{noMethod, Mark}
 use Rattle.format.specs.Day.{Day}
 use Rattle.format.specs.Block.{fitReason, fitMark, qualityText, reasonText, loadText, markText, runText, coverText, runsIn, blockOf}
@@ -83,7 +84,7 @@ block-most d w h =
     omega (
       arith,
       length-block d,
-      values-most (d .values) (parts d (w .fit) .values),
+      values-most (decimalsOf (d .unit)) (d .values) (parts d (w .fit) .values),
       w .values,
       load-most (d .load),
       runs-least (d .marks),

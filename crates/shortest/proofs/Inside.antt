@@ -12,20 +12,22 @@ use Rattle.ground.specs.Digits.{isDigit}
 use Rattle.ground.proofs.Cases.{by}
 use Rattle.format.specs.Bytes.{areAll}
 use Rattle.format.specs.Numbers.{numberOf}
-use Rattle.format.specs.Cut.{Lines, line, rest, lines, fields}
-use Rattle.format.specs.Records.{isKind, indicatorOf, kindIn, rowOf, countOf, ruleOf, obeys, intervalsIn, qualitiesOf}
+use Rattle.format.specs.Units.{unitOf, decimalsOf, decimalsNamed}
+use Rattle.format.specs.Cut.{Lines, line, rest, lines, fields, field}
+use Rattle.format.specs.Records.{isKind, indicatorOf, kindIn, rowOf, countOf, ruleOf, obeys, unitField, unitIn, decimalsIn, intervalsIn, qualitiesOf}
 use Rattle.format.specs.Order.{mayCome, inDay, isEnd, Due, begun, isVaried, on300, afterOf}
 use Rattle.format.specs.Answers.{accepted}
 use Rattle.format.specs.Faults.{isOpen, faultIn, brokenIn, isNotLater, isOff, isAlike, isElsewhere, faultOf}
 use Rattle.format.specs.File.{after, walkOf, most, checkOf}
-use Rattle.format.specs.Day.{Row, rowAt, DayRows, runsFrom, dayFrom, daysFrom, daysOf, tagsOf, Day, marksOf, dayOf}
+use Rattle.format.specs.Day.{Row, rowAt, BlockRows, DayRows, runsFrom, dayFrom, daysFrom, daysOf, tagsOf, Day, marksOf, dayOf}
 use Rattle.format.specs.declared.Fault.the-variants.{Fine}
+use Rattle.format.specs.declared.Number.the-variants.{Is}
 use Rattle.format.proofs.Cut.{bytesOf, bytes-lines}
 use Rattle.format.proofs.States.{implied, not-ended}
-use Rattle.passing.specs.Passes.{kindsOf, Free, Accepted, Awaits, Leads}
+use Rattle.passing.specs.Passes.{kindsOf, unitBefore, Free, Accepted, Awaits, Leads}
 use Rattle.passing.proofs.Fit.{fine-fit, fit-fine, fit-cover, free-of, free-if}
 use Rattle.passing.proofs.Walk.{not-accepted, goes, walk-of, of-walk}
-use Rattle.passing.proofs.Steps.{after-300, runs-end, days-more}
+use Rattle.passing.proofs.Steps.{after-300, runs-end, blockFound, days-more}
 use Rattle.passing.proofs.Blocks.{headed, Kept, under-kept}
 use Rattle.passing.proofs.Files.{onto, lines-behind, passes-append, walk-append, Onward, days-append, runs-lines}
 use Rattle.theorems.specs.Days.{meant}
@@ -38,6 +40,7 @@ use Rattle.shortest.proofs.Tags.{tags-marks, read-is}
 -- behind a block that says the day d
 record Ended (st end : Due) (d : Day) : Type 0 where
   n : end .n ≡ st .n
+  decimals : end .decimals ≡ st .decimals
   date : end .date ≡ d .date
   version : end .version ≡ st .version
   channels : end .channels ≡ st .channels
@@ -53,6 +56,7 @@ module _ (st : Due) (b : List ℕ) (a : Accepted st b) where
       subst (λ (x : Due). Kept x (a .end)) (after-300 st (w .first) (w .kind)) (under-kept (after st (w .first)) (a .end) (w .others) (w .under) (w .passes)) in
       record {
         n = k .n;
+        decimals = k .decimals;
         date = k .date ∙ ap (λ (x : Day). x .date) (read-day st b a p c d n h);
         version = k .version;
         channels = k .channels;
@@ -63,13 +67,14 @@ module _ (st : Due) (b : List ℕ) (a : Accepted st b) where
   -- ---- where a block may stand
 
   -- behind another day of an earlier date
-  pub behind-day : (p : ℕ) (c : Row) (d : Day) → intervalsIn (c .cells) ≡ st .n → Reads p c b d → (date : ℕ) → d .date < date → Awaits (a .end) (st .n) date
-  behind-day p c d n h t l = let w = ended p c d n h in record { free = a .free; intervals = w .n; earlier = omega (arith, w .date) }
+  pub behind-day : (p : ℕ) (c : Row) (d : Day) → intervalsIn (c .cells) ≡ st .n → Reads p c b d → (date : ℕ) → d .date < date → Awaits (a .end) (st .n) (st .decimals) date
+  behind-day p c d n h t l = let w = ended p c d n h in record { free = a .free; intervals = w .n; decimals = w .decimals; earlier = omega (arith, w .date) }
 
--- behind a 200
-pub behind-200 : (st : Due) (r : List ℕ) → kindIn (fields r) ≡ 200 → (date : ℕ) → 1 ≤ date → Awaits (after st r) (intervalsIn (fields r)) date
-unfolding afterOf isOpen
-behind-200 st r k t l = rw k (record { free = (refl, refl); intervals = refl; earlier = l })
+-- behind a 200, in its unit u
+pub behind-200 : (st : Due) (r : List ℕ) (u : ℕ) → kindIn (fields r) ≡ 200 → unitOf (field unitField (fields r)) ≡ Is u → (date : ℕ) → 1 ≤ date
+    → Awaits (after st r) (intervalsIn (fields r)) (decimalsOf u) date
+unfolding afterOf isOpen decimalsIn decimalsNamed
+behind-200 st r u k e t l = rw k (record { free = (refl, refl); intervals = refl; decimals = rw e; earlier = l })
 
 -- ---- the records behind a block
 
@@ -126,28 +131,33 @@ module _ (before b behind : List ℕ) (st : Due) (d : Day) (h : Leads before st)
         ap (λ (l : List ℕ). drop (st .days) (daysOf l)) (append-assoc before b behind) ∙ onward .is ∙ ap (daysFrom p k) cut-there ∙ days-more p (w .first) ls k (w .kind),
       )
 
-  day-there : ((q : ℕ) → runsFrom q (lines behind) ≡ []) → meant rows ≡ d
-  unfolding rows
-  day-there none =
+  -- in the unit of the last 200 before it
+  day-there : ((q : ℕ) → runsFrom q (lines behind) ≡ []) → unitBefore before ≡ d .unit → meant rows ≡ d
+  unfolding rows dayOf
+  day-there none m =
       let w = headed st b a in
       let p : ℕ = length before in
-      ap₂ (λ (m : ℕ) (rs : List Row). dayOf (record { n = m; top = rowAt p (w .first); runs = rs })) (onward .intervals) (runs-lines (p + length (w .first) + 2) (w .others) (lines behind) none)
-      ∙ read-day st b a p c d n s
+      let e : dayOf (blockFound p (w .first) (w .others) (st .n) (unitIn (c .cells))) ≡ d = read-day st b a p c d n s in
+      let u : unitIn (onward .channel .cells) ≡ unitIn (c .cells) = ap unitIn (onward .cells) ∙ m ∙ sym (ap (λ (x : Day). x .unit) e) in
+      let top : ℕ → ℕ → List Row → BlockRows = λ i j rs. record { n = i; unit = j; top = rowAt p (w .first); runs = rs } in
+      ap₂ (λ (i j : ℕ). dayOf (top i j (runsFrom (p + length (w .first) + 2) (onto (w .others) (lines behind))))) (onward .intervals) u
+      ∙ ap (λ (rs : List Row). dayOf (top (st .n) (unitIn (c .cells)) rs)) (runs-lines (p + length (w .first) + 2) (w .others) (lines behind) none)
+      ∙ e
 
   tags-there : map (markOf file) (tagsOf (rows .block)) ≡ marksOf (rows .block)
   unfolding file rows
   tags-there =
       let w = headed st b a in
       let ls : Lines = onto (w .others) (lines behind) in
-      tags-marks file (length before) (intervalsIn (onward .channel .cells)) (w .first) ls
+      tags-marks file (length before) (intervalsIn (onward .channel .cells)) (unitIn (onward .channel .cells)) (w .first) ls
       (ap (drop (length before)) (append-assoc before b behind)
       ∙ drop-append-seam before (b ++ behind)
       ∙ sym (bytes-lines (b ++ behind))
       ∙ ap bytesOf cut-there)
 
-  pub stands : Stands before b behind st d
+  pub stands : unitBefore before ≡ d .unit → Stands before b behind st d
   unfolding file
-  stands =
+  stands m =
       record {
         end = a .end;
         goes-on = walks;
@@ -155,7 +165,7 @@ module _ (before b behind : List ℕ) (st : Due) (d : Day) (h : Leads before st)
         reads = λ xs e.
             (let w = walk-of file (accepted xs) e (not-accepted 1 0 0 0 xs) in
             let none = none-behind (a .end) (length (before ++ b)) (length (kindsOf (lines (before ++ b)))) (lines behind) xs (a .free) (sym walks ∙ w .1) in
-            read-is file (st .days) xs rows (days-there .0) d e (days-there .1) (day-there none) tags-there);
+            read-is file (st .days) xs rows (days-there .0) d e (days-there .1) (day-there none m) tags-there);
       }
 
 -- ---- a 900 behind a block

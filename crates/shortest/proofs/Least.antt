@@ -15,17 +15,17 @@ use Rattle.ground.specs.Runs.{Run, run, spell, proper}
 use Rattle.ground.proofs.Tests.{and-true}
 use Rattle.ground.proofs.Cases.{by, both}
 use Rattle.ground.proofs.Digits.{length-padded}
-use Rattle.format.specs.Numbers.{isNumber, numberIn, intervalOf, reasonOf, decimals, valueOf}
+use Rattle.format.specs.Numbers.{isNumber, numberIn, intervalOf, reasonOf, valueOf}
 use Rattle.format.specs.Dates.{dateOf, timeOf, loadOf}
 use Rattle.format.specs.Quality.{qualityOf, flagIn, methodIn, Mark, noMark}
 use Rattle.format.specs.Cut.{Lines, line, rest, fields}
-use Rattle.format.specs.Records.{kindIn, millionths, valuesIn, loadIn, firstIn, lastIn, markAt, markIn}
+use Rattle.format.specs.Records.{kindIn, unitIn, millionths, valuesIn, loadIn, firstIn, lastIn, markAt, markIn}
 use Rattle.format.specs.Order.{Due, isVaried}
 use Rattle.format.specs.File.{after}
 use Rattle.format.specs.Day.{BlockRows, runsFrom, coverOf, eachOf, valuesOf, Day, marksOf, dayOf}
 use Rattle.format.specs.Block.{qualityText, loadText, valueText, valuesText, markText, runText, coverText, runsIn, isUniform, topText, tailText, blockOf, recordsOf}
 use Rattle.format.proofs.NumberText.{small-shortest, reason-shortest, date-length, time-length, load-shortest}
-use Rattle.format.proofs.ValueText.{value-shortest}
+use Rattle.format.proofs.ValueText.{value-same, value-shortest}
 use Rattle.format.proofs.MarkText.{quality-shortest, length-mark}
 use Rattle.format.proofs.CoverText.{length-run, runs-fewest, cover-shortest, runs-spell, runs-are-proper, uniform-is}
 use Rattle.format.specs.declared.Number.the-variants.{Is}
@@ -37,10 +37,11 @@ use Rattle.passing.proofs.Blocks.{headed}
 use Rattle.passing.proofs.Steps.{after-300, after-400, runs-more, runs-end, blockFound}
 use Rattle.theorems.specs.Grammar.{Each, Record}
 use Rattle.theorems.proofs.Sizes.{size, size-append, length-record}
+use Rattle.theorems.proofs.Told.{fit-rec, fit-300}
 use Rattle.shortest.specs.Blocks.{Says}
 use Rattle.shortest.specs.Writer.{NoLonger}
-use Rattle.shortest.proofs.Shapes.{number-is, graded-is, said, Marking, Top, top-of, Stretch, stretch-of}
-use Rattle.shortest.proofs.Steps.{fit-record, read-day}
+use Rattle.shortest.proofs.Shapes.{number-is, value-is, graded-is, said, Marking, Top, top-of, Stretch, stretch-of}
+use Rattle.shortest.proofs.Steps.{read-day}
 
 -- ---- how long the written block is
 
@@ -59,18 +60,18 @@ mark-least k q s x m =
       reason-shortest s (numberIn (reasonOf s)) (number-is (reasonOf s) (m .reasoned)),
     )
 
-values-least : (vs : List (List ℕ)) → Each (λ v. isNumber (valueOf decimals v) ≡ true) vs → length (valuesText (map millionths vs)) ≤ size vs
-unfolding valuesText size millionths
-values-least [] h = zero-le
-values-least (v ∷ vs) h =
-    let t : List ℕ = valueText (numberIn (valueOf decimals v)) in
+values-least : (d : ℕ) (vs : List (List ℕ)) → Each (λ v. isNumber (valueOf d v) ≡ true) vs → length (valuesText (map millionths vs)) ≤ size vs
+unfolding valuesText size
+values-least d [] h = zero-le
+values-least d (v ∷ vs) h =
+    let t : List ℕ = valueText (millionths v) in
     let r : List ℕ = valuesText (map millionths vs) in
     omega (
       arith,
       length-append (t ++ 44 ∷ []) r,
       length-append t (44 ∷ []),
-      value-shortest v (numberIn (valueOf decimals v)) (number-is (valueOf decimals v) (h .0)),
-      values-least vs (h .1),
+      value-shortest v (millionths v) (value-same d v (millionths v) (value-is d v (h .0))),
+      values-least d vs (h .1),
     )
 
 interval-least : (s : List ℕ) (i : ℕ) → isNumber (intervalOf s) ≡ true → numberIn (intervalOf s) ≡ i → length (dec i) ≤ length s
@@ -126,7 +127,7 @@ module _ (a p : ℕ) (st : Due) (r : List ℕ) (ls : Lines) where
               length-append r (13 ∷ 10 ∷ bytesOf ls),
               w .bytes,
               length-record r,
-              stretch-least a k fs (stretch-of fs (fit-record st r f 400 (λ z. omega arith) q)) (c .0 ∙ e) l,
+              stretch-least a k fs (stretch-of fs (fit-rec st r 400 f q (λ z. omega arith) (λ z. omega arith))) (c .0 ∙ e) l,
             );
         records = omega (arith, w .records);
       }
@@ -200,10 +201,10 @@ marked-varied p q s x ls m c =
 
 -- ---- the 300
 
-top-least : (n : ℕ) (fs : Record) (t : Top n fs)
+top-least : (n d : ℕ) (fs : Record) (t : Top n d fs)
     → 32 + length (valuesText (valuesIn n fs)) + length (t .quality) + length (t .reason) + length (t .text) + length (loadText (loadIn n fs)) ≤ size fs
 unfolding size
-top-least n fs t =
+top-least n d fs t =
     let tail : Record = t .quality ∷ t .reason ∷ t .text ∷ t .update ∷ t .load ∷ [] in
     omega (
       arith,
@@ -213,18 +214,18 @@ top-least n fs t =
       date-length (t .date) (numberIn (dateOf (t .date))) (number-is (dateOf (t .date)) (t .dated)),
       time-length (t .update) (numberIn (timeOf (t .update))) (number-is (timeOf (t .update)) (t .updated)),
       ap (λ (x : List ℕ). length (valuesText x)) (t .says .values),
-      values-least (t .values) (t .valued),
+      values-least d (t .values) (t .valued),
       ap (λ (x : ℕ). length (loadText x)) (t .says .load),
       load-shortest (t .load) (numberIn (loadOf (t .load))) (number-is (loadOf (t .load)) (t .loaded)),
     )
 
 -- ---- the block
 
-module _ (st end : Due) (p : ℕ) (r : List ℕ) (ls : Lines) (k : kindIn (fields r) ≡ 300) (f : Fit st r) (h : Passes (after st r) ls end) (some : 1 ≤ st .n) where
+module _ (st end : Due) (p u : ℕ) (r : List ℕ) (ls : Lines) (k : kindIn (fields r) ≡ 300) (f : Fit st r) (h : Passes (after st r) ls end) (some : 1 ≤ st .n) where
   abbrev day : BlockRows
-  day = blockFound p r ls (st .n)
+  day = blockFound p r ls (st .n) u
 
-  marks-least : (t : Top (st .n) (fields r)) → Marked (marksOf day) (t .quality) (t .reason) (t .text) ls
+  marks-least : (t : Top (st .n) (st .decimals) (fields r)) → Marked (marksOf day) (t .quality) (t .reason) (t .text) ls
   unfolding marksOf eachOf
   marks-least t =
       by (isVaried (st .n) (fields r))
@@ -235,10 +236,10 @@ module _ (st end : Due) (p : ℕ) (r : List ℕ) (ls : Lines) (k : kindIn (field
   least : (recordsOf (dayOf day) ≤ length (kindsOf (line r ls))) × (length (blockOf (dayOf day)) ≤ length (bytesOf (line r ls)))
   unfolding dayOf valuesOf
   least =
-      let t = top-of (st .n) (fields r) (fit-record st r f 300 (λ z. omega arith) k) in
+      let t = top-of (st .n) (st .decimals) (fields r) (fit-300 st r f k .0) in
       let m = marks-least t in (
         omega (arith, m .records (dayOf day) refl),
-        omega (arith, length-block (dayOf day), m .bytes, top-least (st .n) (fields r) t, length-record r, length-append r (13 ∷ 10 ∷ bytesOf ls)),
+        omega (arith, length-block (dayOf day), m .bytes, top-least (st .n) (st .decimals) (fields r) t, length-record r, length-append r (13 ∷ 10 ∷ bytesOf ls)),
       )
 
 pub no-longer : (d : Day) → d .n ≢ 0 → (b : List ℕ) → Says b d → NoLonger d b
@@ -246,9 +247,10 @@ unfolding dayOf
 no-longer d z b h =
     let st : Due = h .st in
     let w = headed st b (h .accepted) in
-    let q : dayOf (blockFound (h .place) (w .first) (w .others) (st .n)) ≡ d = read-day (h .st) b (h .accepted) (h .place) (h .channel) d (h .intervals) (h .reads) in
+    let q : dayOf (blockFound (h .place) (w .first) (w .others) (st .n) (unitIn (h .channel .cells))) ≡ d =
+    read-day (h .st) b (h .accepted) (h .place) (h .channel) d (h .under .intervals) (h .reads) in
     let n : st .n ≡ d .n = ap (λ (x : Day). x .n) q in
-    let l = least st (h .accepted .end) (h .place) (w .first) (w .others) (w .kind) (w .fit) (w .passes) (omega arith) in
+    let l = least st (h .accepted .end) (h .place) (unitIn (h .channel .cells)) (w .first) (w .others) (w .kind) (w .fit) (w .passes) (omega arith) in
     record {
       records = omega (arith, l .0, ap recordsOf q, ap (λ (x : Lines). length (kindsOf x)) (w .is));
       bytes = omega (arith, l .1, ap (λ (x : Day). length (blockOf x)) q, ap (λ (x : Lines). length (bytesOf x)) (w .is), ap length (bytes-lines b));

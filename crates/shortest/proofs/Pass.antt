@@ -10,9 +10,9 @@ use lib.Dec.{eqb}
 use borrow.Author.Tests.{eqb-true, eq-eqb, le-leb, lt-leb}
 use Rattle.ground.proofs.Cases.{by}
 use Rattle.format.specs.Cut.{Lines, line, rest, lines, fields}
-use Rattle.format.specs.Records.{kindIn, intervalsIn, dateIn, firstIn, lastIn, markIn}
+use Rattle.format.specs.Records.{Scale, scaleFor, kindIn, unitIn, intervalsIn, dateIn, firstIn, lastIn, markIn}
 use Rattle.format.specs.Order.{mayCome, inDay, inVaried, shareWith, Due, isVaried, alikeWith, on300, on400, on500, afterOf}
-use Rattle.format.specs.Faults.{size, isOpen, isNotLater, covers, isOff, isAlike, isElsewhere, faultOf}
+use Rattle.format.specs.Faults.{scaleOf, isOpen, isNotLater, covers, isOff, isAlike, isElsewhere, faultOf}
 use Rattle.format.specs.File.{after, behind200}
 use Rattle.format.specs.Day.{Row, DayRows, runsFrom, dayFrom, daysFrom, Day, dayOf}
 use Rattle.format.specs.declared.Fault.the-variants.{Fine}
@@ -28,7 +28,7 @@ use Rattle.theorems.proofs.Says.{date-some, day-on}
 use Rattle.theorems.proofs.Meaning.{day-anywhere}
 use Rattle.theorems.proofs.Takes.{fields-of}
 use Rattle.theorems.proofs.Apart.{Apart, apart-on, end-apart, marked-end}
-use Rattle.shortest.specs.Blocks.{Reads, Says}
+use Rattle.shortest.specs.Blocks.{Reads, HeadOf, Says}
 
 -- ---- records as their fields, and as the lines of a file
 
@@ -44,23 +44,24 @@ lines-cut (fs ∷ rows) h = lines-row (join fs) (text rows) (fields-of fs (h .0)
 -- ---- one record
 
 -- the tests of a record of the kind k that go by the state
-record Tests (st : Due) (k : ℕ) (fs : Record) : Type 0 where
-  free : isOpen st k ≡ false
-  may : mayCome (st .expect) k ≡ true
-  rises : isNotLater st k fs ≡ false
-  cover : isOff st k fs ≡ false
-  apart : isAlike st k fs ≡ false
-  day : isElsewhere st k fs ≡ false
+pub record Tests (st : Due) (k : ℕ) (fs : Record) : Type 0 where
+  pub free : isOpen st k ≡ false
+  pub may : mayCome (st .expect) k ≡ true
+  pub rises : isNotLater st k fs ≡ false
+  pub cover : isOff st k fs ≡ false
+  pub apart : isAlike st k fs ≡ false
+  pub day : isElsewhere st k fs ≡ false
 
 record Tried (st : Due) (k : ℕ) (fs : Record) : Type 0 where
-  ok : Ok k (size st k) fs
+  ok : Ok k (scaleOf st k fs) fs
   tests : Tests st k fs
 
-module _ (st : Due) (k : ℕ) (fs : Record) (h : IsRecord k (size st k) fs) where
+-- a record of the grammar, held to the rules that are asked of it in this state
+module _ (st : Due) (k n d : ℕ) (fs : Record) (h : IsRecord k n d fs) (z : scaleFor k n d fs ≡ scaleOf st k fs) where
   pass : Tests st k fs → faultOf st (join fs) ≡ Fine
   pass t =
-      let w = fields-of fs (record-fields k (size st k) fs h) in
-      let e : Tried st (kindIn fs) fs = subst (λ (x : ℕ). Tried st x fs) (sym (h .indicator)) (record { ok = record-ok k (size st k) fs h; tests = t }) in
+      let w = fields-of fs (record-fields k n d fs h) in
+      let e : Tried st (kindIn fs) fs = subst (λ (x : ℕ). Tried st x fs) (sym (h .indicator)) (record { ok = subst (λ (x : Scale). Ok k x fs) z (record-ok k n d fs h); tests = t }) in
       let g : Tried st (kindIn (fields (join fs))) (fields (join fs)) = subst (λ (x : Record). Tried st (kindIn x) x) (sym (w .0)) e in
       fit-fine st (join fs)
       (record {
@@ -74,9 +75,9 @@ module _ (st : Due) (k : ℕ) (fs : Record) (h : IsRecord k (size st k) fs) wher
         day = g .tests .day;
       })
 
-  go-on : (ls : Lines) (end : Due) → Tests st k fs → Passes (afterOf st k fs) ls end → Passes st (line (join fs) ls) end
+  pub go-on : (ls : Lines) (end : Due) → Tests st k fs → Passes (afterOf st k fs) ls end → Passes st (line (join fs) ls) end
   go-on ls end t p =
-      let w = fields-of fs (record-fields k (size st k) fs h) in
+      let w = fields-of fs (record-fields k n d fs h) in
       let e : after st (join fs) ≡ afterOf st k fs = ap (λ (x : Record). afterOf st (kindIn x) x) (w .0) ∙ ap (λ (x : ℕ). afterOf st x fs) (h .indicator) in
       (pass t, subst (λ (x : Due). Passes x ls end) (sym e) p)
 
@@ -126,9 +127,9 @@ unfolding afterOf
 extras-pass [] st l f x = record { end = st; passes = (refl, refl); free = free-here st l f }
 extras-pass (r ∷ rs) st l f x =
     let w = extras-pass rs (on500 st r) refl (λ z. absurd (false≢true z)) (x .1) in
-    record { end = w .end; passes = go-on st 500 r (x .0 .0) (cut rs) (w .end) (tests-500 st r (x .0) l f) (w .passes); free = w .free }
+    record { end = w .end; passes = go-on st 500 0 0 r (x .0 .0) refl (cut rs) (w .end) (tests-500 st r (x .0) l f) (w .passes); free = w .free }
 
-runs-pass : (rs xs : List Record) (st : Due) → inVaried (st .expect) ≡ true → 1 ≤ st .next → Each (IsRecord 400 0) rs → Covers (st .n) (st .next) rs → Apart (st .shared) rs → Each (Extra (st .date)) xs
+runs-pass : (rs xs : List Record) (st : Due) → inVaried (st .expect) ≡ true → 1 ≤ st .next → Each (IsRecord 400 0 0) rs → Covers (st .n) (st .next) rs → Apart (st .shared) rs → Each (Extra (st .date)) xs
     → Done st (cut (rs ++ xs))
 unfolding afterOf alikeWith
 runs-pass [] xs st x o h cv a g = extras-pass xs st (implied inVaried inDay refl (st .expect) x) (λ z. omega arith) g
@@ -139,14 +140,14 @@ runs-pass (r ∷ rs) xs st x o h cv a g =
     let le : firstIn r ≤ lastIn r = cv .1 in
     let eq : firstIn r ≡ st .next = cv .0 in
     let w = runs-pass rs xs (on400 st r) refl (omega arith) (h .1) (cv .3) on g in
-    record { end = w .end; passes = go-on st 400 r (h .0) (cut (rs ++ xs)) (w .end) (tests-400 st r x (cv .0) (cv .1) (cv .2) no) (w .passes); free = w .free }
+    record { end = w .end; passes = go-on st 400 0 0 r (h .0) refl (cut (rs ++ xs)) (w .end) (tests-400 st r x (cv .0) (cv .1) (cv .2) no) (w .passes); free = w .free }
 
-block-pass : (b : Block) (st : Due) → IsBlock (st .n) b → Free st → st .date < dateIn (b .top) → Done st (cut (rowsOf b))
+block-pass : (b : Block) (st : Due) → IsBlock (st .n) (st .decimals) b → Free st → st .date < dateIn (b .top) → Done st (cut (rowsOf b))
 unfolding afterOf
 block-pass b st h f l = by (isVaried (st .n) (b .top)) varied alike
   where
     under : Done (on300 st (b .top)) (cut (b .runs ++ b .extra)) → Done st (cut (rowsOf b))
-    under w = record { end = w .end; passes = go-on st 300 (b .top) (h .top) (cut (b .runs ++ b .extra)) (w .end) (tests-300 st (b .top) f l) (w .passes); free = w .free }
+    under w = record { end = w .end; passes = go-on st 300 (st .n) (st .decimals) (b .top) (h .top) refl (cut (b .runs ++ b .extra)) (w .end) (tests-300 st (b .top) f l) (w .passes); free = w .free }
 
     varied : isVaried (st .n) (b .top) ≡ true → Done st (cut (rowsOf b))
     varied e =
@@ -159,14 +160,14 @@ block-pass b st h f l = by (isVaried (st .n) (b .top)) varied alike
 
 -- ---- the block
 
-kind-of : (k n : ℕ) (fs : Record) → IsRecord k n fs → kindIn (fields (join fs)) ≡ k
-kind-of k n fs h = ap kindIn (fields-of fs (record-fields k n fs h) .0) ∙ h .indicator
+kind-of : (k n d : ℕ) (fs : Record) → IsRecord k n d fs → kindIn (fields (join fs)) ≡ k
+kind-of k n d fs h = ap kindIn (fields-of fs (record-fields k n d fs h) .0) ∙ h .indicator
 
 -- records of the kinds that stand under a 300
 abbrev Under : List Record → Type 0
-Under rs = Each (λ r. (IsRecord 400 0 r) ⊎ (IsRecord 500 0 r)) rs
+Under rs = Each (λ r. (IsRecord 400 0 0 r) ⊎ (IsRecord 500 0 0 r)) rs
 
-under-of : (t : ℕ) (rs xs : List Record) → Each (IsRecord 400 0) rs → Each (Extra t) xs → Under (rs ++ xs)
+under-of : (t : ℕ) (rs xs : List Record) → Each (IsRecord 400 0 0) rs → Each (Extra t) xs → Under (rs ++ xs)
 under-of t [] [] h g = tt
 under-of t [] (x ∷ xs) h g = (inr (g .0 .0), under-of t [] xs h (g .1))
 under-of t (r ∷ rs) xs h g = (inl (h .0), under-of t rs xs (h .1) g)
@@ -175,63 +176,64 @@ under-fields : (rs : List Record) → Under rs → Each Fields rs
 under-fields [] h = tt
 under-fields (r ∷ rs) h = (one (h .0), under-fields rs (h .1))
   where
-    one : (IsRecord 400 0 r) ⊎ (IsRecord 500 0 r) → Fields r
-    one (inl i) = record-fields 400 0 r i
-    one (inr i) = record-fields 500 0 r i
+    one : (IsRecord 400 0 0 r) ⊎ (IsRecord 500 0 0 r) → Fields r
+    one (inl i) = record-fields 400 0 0 r i
+    one (inr i) = record-fields 500 0 0 r i
 
 under-kinds : (rs : List Record) → Under rs → areUnder (kindsOf (cut rs)) ≡ true
 under-kinds [] h = refl
 under-kinds (r ∷ rs) h = one (h .0) (under-kinds rs (h .1))
   where
-    one : (IsRecord 400 0 r) ⊎ (IsRecord 500 0 r) → areUnder (kindsOf (cut rs)) ≡ true → areUnder (kindsOf (cut (r ∷ rs))) ≡ true
-    one (inl i) e = rw (kind-of 400 0 r i) e
-    one (inr i) e = rw (kind-of 500 0 r i) e
+    one : (IsRecord 400 0 0 r) ⊎ (IsRecord 500 0 0 r) → areUnder (kindsOf (cut rs)) ≡ true → areUnder (kindsOf (cut (r ∷ rs))) ≡ true
+    one (inl i) e = rw (kind-of 400 0 0 r i) e
+    one (inr i) e = rw (kind-of 500 0 0 r i) e
 
 under-days : (p : ℕ) (c : Row) (rs : List Record) → Under rs → daysFrom p c (cut rs) ≡ []
 unfolding daysFrom
 under-days p c [] h = refl
 under-days p c (r ∷ rs) h = one (h .0) (under-days (p + length (join r) + 2) c rs (h .1))
   where
-    one : (IsRecord 400 0 r) ⊎ (IsRecord 500 0 r) → daysFrom (p + length (join r) + 2) c (cut rs) ≡ [] → daysFrom p c (cut (r ∷ rs)) ≡ []
-    one (inl i) e = rw (kind-of 400 0 r i) e
-    one (inr i) e = rw (kind-of 500 0 r i) e
+    one : (IsRecord 400 0 0 r) ⊎ (IsRecord 500 0 0 r) → daysFrom (p + length (join r) + 2) c (cut rs) ≡ [] → daysFrom p c (cut (r ∷ rs)) ≡ []
+    one (inl i) e = rw (kind-of 400 0 0 r i) e
+    one (inr i) e = rw (kind-of 500 0 0 r i) e
 
-runs-of : (p t : ℕ) (rs xs : List Record) → Each (IsRecord 400 0) rs → Each (Extra t) xs → runsFrom p (cut (rs ++ xs)) ≡ rowsAt p rs
+runs-of : (p t : ℕ) (rs xs : List Record) → Each (IsRecord 400 0 0) rs → Each (Extra t) xs → runsFrom p (cut (rs ++ xs)) ≡ rowsAt p rs
 unfolding runsFrom
 runs-of p t [] [] h g = refl
-runs-of p t [] (x ∷ xs) h g = rw (kind-of 500 0 x (g .0 .0))
+runs-of p t [] (x ∷ xs) h g = rw (kind-of 500 0 0 x (g .0 .0))
 runs-of p t (r ∷ rs) xs h g =
-    rw (kind-of 400 0 r (h .0), fields-of r (record-fields 400 0 r (h .0)) .0)
+    rw (kind-of 400 0 0 r (h .0), fields-of r (record-fields 400 0 0 r (h .0)) .0)
     (ap (λ (x : List Row). recordAt p r ∷ x) (runs-of (p + length (join r) + 2) t rs xs (h .1) g))
 
-module _ (b : Block) (n : ℕ) (h : IsBlock n b) where
+module _ (b : Block) (n d : ℕ) (h : IsBlock n d b) where
   under : Under (b .runs ++ b .extra)
   under = under-of (dateIn (b .top)) (b .runs) (b .extra) (h .runs) (h .extra)
 
   block-lines : lines (text (rowsOf b)) ≡ cut (rowsOf b)
-  block-lines = lines-cut (rowsOf b) (record-fields 300 n (b .top) (h .top), under-fields (b .runs ++ b .extra) under)
+  block-lines = lines-cut (rowsOf b) (record-fields 300 n d (b .top) (h .top), under-fields (b .runs ++ b .extra) under)
 
   -- the rows of a block, by its lines and by its fields
-  rows-same : (p : ℕ) → blockFound p (join (b .top)) (cut (b .runs ++ b .extra)) n ≡ blockAt p n b
-  rows-same p =
+  rows-same : (p u : ℕ) → blockFound p (join (b .top)) (cut (b .runs ++ b .extra)) n u ≡ blockAt p n u b
+  rows-same p u =
       let q : ℕ = p + length (join (b .top)) + 2 in
-      ap₂ (λ (x : Record) (y : List Row). record { n = n; top = recordAt p x; runs = y })
-      (fields-of (b .top) (record-fields 300 n (b .top) (h .top)) .0)
+      ap₂ (λ (x : Record) (y : List Row). record { n = n; unit = u; top = recordAt p x; runs = y })
+      (fields-of (b .top) (record-fields 300 n d (b .top) (h .top)) .0)
       (runs-of q (dateIn (b .top)) (b .runs) (b .extra) (h .runs) (h .extra))
 
-  pub block-reads : (p : ℕ) (c : Row) → intervalsIn (c .cells) ≡ n → Reads p c (text (rowsOf b)) (dayIn n b)
+  pub block-reads : (p : ℕ) (c : Row) → intervalsIn (c .cells) ≡ n → Reads p c (text (rowsOf b)) (dayIn n (unitIn (c .cells)) b)
   block-reads p c e =
       let ls : Lines = cut (b .runs ++ b .extra) in
+      let u : ℕ = unitIn (c .cells) in
       ap (λ (x : Lines). map meant (daysFrom p c x)) block-lines
-      ∙ ap (map meant) (days-more p (join (b .top)) ls c (kind-of 300 n (b .top) (h .top)))
+      ∙ ap (map meant) (days-more p (join (b .top)) ls c (kind-of 300 n d (b .top) (h .top)))
       ∙ ap (λ (x : List DayRows). meant (dayFrom p c (join (b .top)) ls) ∷ map meant x) (under-days (p + length (join (b .top)) + 2) c (b .runs ++ b .extra) under)
-      ∙ ap (λ (x : Day). x ∷ []) (ap (λ (m : ℕ). dayOf (blockFound p (join (b .top)) ls m)) e ∙ ap dayOf (rows-same p) ∙ day-anywhere p n b)
+      ∙ ap (λ (x : Day). x ∷ []) (ap (λ (m : ℕ). dayOf (blockFound p (join (b .top)) ls m u)) e ∙ ap dayOf (rows-same p u) ∙ day-anywhere p n u b)
 
-pub block-accepted : (b : Block) (st : Due) → IsBlock (st .n) b → Free st → st .date < dateIn (b .top) → Accepted st (text (rowsOf b))
+pub block-accepted : (b : Block) (st : Due) → IsBlock (st .n) (st .decimals) b → Free st → st .date < dateIn (b .top) → Accepted st (text (rowsOf b))
 block-accepted b st h f l =
     let w = block-pass b st h f l in
-    let e : lines (text (rowsOf b)) ≡ cut (rowsOf b) = block-lines b (st .n) h in
-    let k : isBlock (kindsOf (cut (rowsOf b))) ≡ true = rw (kind-of 300 (st .n) (b .top) (h .top)) (under-kinds (b .runs ++ b .extra) (under b (st .n) h)) in
+    let e : lines (text (rowsOf b)) ≡ cut (rowsOf b) = block-lines b (st .n) (st .decimals) h in
+    let k : isBlock (kindsOf (cut (rowsOf b))) ≡ true = rw (kind-of 300 (st .n) (st .decimals) (b .top) (h .top)) (under-kinds (b .runs ++ b .extra) (under b (st .n) (st .decimals) h)) in
     record {
       kinds = subst (λ (x : Lines). isBlock (kindsOf x) ≡ true) (sym e) k;
       end = w .end;
@@ -239,16 +241,16 @@ block-accepted b st h f l =
       free = w .free;
     }
 
--- every block of the grammar says, under a 200 of its n, the day that it is
-pub block-says : (b : Block) (n : ℕ) → IsBlock n b → (c : Row) → intervalsIn (c .cells) ≡ n → Says (text (rowsOf b)) (dayIn n b)
+-- every block of the grammar says, under a 200 of its n and decimals, the day that it is there
+pub block-says : (b : Block) (n d : ℕ) → IsBlock n d b → (c : Row) → HeadOf (behind200 n d) c → Says (text (rowsOf b)) (dayIn n (unitIn (c .cells)) b)
 unfolding isOpen
-block-says b n h c e =
-    let st : Due = behind200 n in
+block-says b n d h c e =
+    let st : Due = behind200 n d in
     record {
       st = st;
-      accepted = block-accepted b st h (refl, refl) (date-some n (b .top) (h .top));
+      accepted = block-accepted b st h (refl, refl) (date-some n d (b .top) (h .top));
       place = 0;
       channel = c;
-      intervals = e;
-      reads = block-reads b n h 0 c e;
+      under = e;
+      reads = block-reads b n d h 0 c (e .intervals);
     }

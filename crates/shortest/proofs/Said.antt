@@ -3,7 +3,7 @@ use Prim.Native.Nat.{ℕ, zero, suc, _+_, _-_, _^_}
 use mathlib.Core.Path.{_≡_, refl, sym, ap, _∙_}
 use mathlib.Core.Logic.{_≢_}
 use mathlib.Core.Bool.{Bool, true, false, cond, _||_, false≢true}
-use mathlib.Core.List.{List}
+use mathlib.Core.List.{List, [], _∷_, map}
 use native.Mathlib.Omega.{arith}
 use lib.ListN.{length, getD, drop, replicate}
 use lib.Dec.{eqb, ltb}
@@ -12,31 +12,34 @@ use Rattle.ground.specs.Lists.{all}
 use Rattle.ground.proofs.Cases.{by, both}
 use Rattle.ground.proofs.Digits.{all-append}
 use Rattle.ground.proofs.Tests.{or-right}
-use Rattle.format.specs.Numbers.{isNumber, numberIn, numberOf, smallOf, noReason, reasonOf}
+use Rattle.format.specs.Numbers.{isNumber, numberIn, numberOf, smallOf, noReason, reasonOf, valueOf}
+use Rattle.format.specs.Units.{isUnit, decimalsOf}
 use Rattle.format.specs.Dates.{isDate, isTime, dateOf, timeOf, loadOf}
 use Rattle.format.specs.Quality.{standsAlone, takesMethod, noMethod, withMethod, qualityOf, isGraded, flagIn, methodIn, Mark}
-use Rattle.format.specs.Cut.{Lines, line, rest, fields}
-use Rattle.format.specs.Records.{kindIn, firstIn, lastIn, markAt, markIn, agrees, qualitiesOf}
+use Rattle.format.specs.Cut.{Lines, line, rest, fields, field}
+use Rattle.format.specs.Records.{kindIn, unitField, unitIn, decimalsIn, millionths, firstIn, lastIn, markAt, markIn, agrees, qualitiesOf}
 use Rattle.format.specs.Order.{Due, isVaried}
 use Rattle.format.specs.File.{after}
 use Rattle.format.specs.Day.{runsFrom, coverOf, eachOf, valuesOf, Day, marksOf, dayOf}
-use Rattle.format.specs.Block.{fitQuality, fitReason, fitMark, fitDay}
+use Rattle.format.specs.Block.{fitQuality, fitReason, fitMark, fitValue, fitDay}
 use Rattle.format.specs.declared.Graded.{Graded}
 use Rattle.format.specs.declared.Graded.the-variants.{Of}
 use Rattle.format.specs.declared.Number.{Number}
 use Rattle.format.specs.declared.Number.the-variants.{Is, Bad}
 use Rattle.format.proofs.Numbers.{that-holds, under, under-is, number-under, small-under}
-use Rattle.format.proofs.Total.{values-fit}
+use Rattle.format.proofs.Units.{unit-in, unit-decimals}
+use Rattle.format.proofs.ValueText.{value-fits}
 use Rattle.format.proofs.MarkText.{alone-is, method-flag}
 use Rattle.passing.specs.Passes.{Passes}
 use Rattle.passing.proofs.Fit.{Fit, fine-fit}
 use Rattle.passing.proofs.Blocks.{headed}
 use Rattle.passing.proofs.Steps.{blockFound}
-use Rattle.theorems.specs.Grammar.{Record, IsRecord}
+use Rattle.theorems.specs.Grammar.{Each, Record, IsRecord}
 use Rattle.theorems.proofs.Across.{together-agrees}
+use Rattle.theorems.proofs.Told.{fit-rec, fit-300}
 use Rattle.shortest.specs.Blocks.{Says}
-use Rattle.shortest.proofs.Shapes.{number-is, said, Marking, Top, top-of, stretch-of}
-use Rattle.shortest.proofs.Steps.{fit-record, read-day}
+use Rattle.shortest.proofs.Shapes.{number-is, value-is, said, Marking, Top, top-of, stretch-of}
+use Rattle.shortest.proofs.Steps.{read-day}
 
 -- ---- single fields
 
@@ -106,21 +109,26 @@ no-v s =
     (λ t. rw t (v-alone (getD s 0 0) (eqb (length s) 1) t))
     (λ t. rw t (v-method (getD s 0 0) (numberOf 2 2 (drop 1 s)) (takesMethod (getD s 0 0)) refl))
 
+-- values of at most d decimals fit every unit that allows d
+values-fit : (d : ℕ) (vs : List (List ℕ)) → Each (λ v. isNumber (valueOf d v) ≡ true) vs → all (fitValue d) (map millionths vs) ≡ true
+values-fit d [] h = refl
+values-fit d (v ∷ vs) h = both (fitValue d (millionths v)) (all (fitValue d) (map millionths vs)) (value-fits d v (millionths v) (value-is d v (h .0))) (values-fit d vs (h .1))
+
 -- ---- marks
 
 mark-fit : (k : ℕ) (q s x : List ℕ) → Marking k q s x → flagIn (qualityOf k q) ≢ 86 → agrees (said k q s x) ≡ true → fitMark (said k q s x) ≡ true
 unfolding fitMark
 mark-fit k q s x m n a = rw (quality-fit k q (m .graded) n, reason-fit s (m .reasoned), m .described, m .bytes, a)
 
-agrees-300 : (n : ℕ) (fs : Record) → IsRecord 300 n fs → agrees (markAt 300 (n + 2) fs) ≡ true
+agrees-300 : (n d : ℕ) (fs : Record) → IsRecord 300 n d fs → agrees (markAt 300 (n + 2) fs) ≡ true
 unfolding qualitiesOf
-agrees-300 n fs r = together-agrees (markAt 300 (n + 2) fs) (r .together .0)
+agrees-300 n d fs r = together-agrees (markAt 300 (n + 2) fs) (r .together .0)
 
-agrees-400 : (fs : Record) → IsRecord 400 0 fs → agrees (markIn fs) ≡ true
+agrees-400 : (fs : Record) → IsRecord 400 0 0 fs → agrees (markIn fs) ≡ true
 unfolding qualitiesOf
 agrees-400 fs r = together-agrees (markIn fs) (r .together .0)
 
-stretch-fit : (fs : Record) → IsRecord 400 0 fs → fitMark (markIn fs) ≡ true
+stretch-fit : (fs : Record) → IsRecord 400 0 0 fs → fitMark (markIn fs) ≡ true
 stretch-fit fs r =
     let s = stretch-of fs r in
     rw (s .says .mark) (mark-fit 400 (s .quality) (s .reason) (s .text) (s .marking) (no-v (s .quality)) (rw (s .says .mark) at (agrees-400 fs r)))
@@ -137,27 +145,29 @@ cover-fit p st end (line r ls) h =
     (λ t.
     rw t
     (all-append fitMark (replicate (lastIn (fields r) + 1 - firstIn (fields r)) (markIn (fields r))) (coverOf (λ x. markAt 400 3 (x .cells)) (runsFrom (p + length r + 2) ls))
-    (all-replicate (lastIn (fields r) + 1 - firstIn (fields r)) (markIn (fields r)) (stretch-fit (fields r) (fit-record st r (fine-fit st r (h .0)) 400 (λ z. omega arith) (eqb-true _ _ t))))
+    (all-replicate (lastIn (fields r) + 1 - firstIn (fields r)) (markIn (fields r)) (stretch-fit (fields r) (fit-rec st r 400 (fine-fit st r (h .0)) (eqb-true _ _ t) (λ z. omega arith) (λ z. omega arith))))
     (cover-fit (p + length r + 2) (after st r) end ls (h .1))))
     (λ t. rw t)
 
 -- ---- the day
 
-module _ (st end : Due) (p : ℕ) (r : List ℕ) (ls : Lines) (k : kindIn (fields r) ≡ 300) (f : Fit st r) (h : Passes (after st r) ls end) where
-  marks-fit : (t : Top (st .n) (fields r)) → all fitMark (marksOf (blockFound p r ls (st .n))) ≡ true
+module _ (st end : Due) (p u : ℕ) (r : List ℕ) (ls : Lines) (k : kindIn (fields r) ≡ 300) (f : Fit st r) (h : Passes (after st r) ls end) where
+  marks-fit : (t : Top (st .n) (st .decimals) (fields r)) → all fitMark (marksOf (blockFound p r ls (st .n) u)) ≡ true
   unfolding marksOf eachOf
   marks-fit t =
-      let i : IsRecord 300 (st .n) (fields r) = fit-record st r f 300 (λ z. omega arith) k in
+      let i = fit-300 st r f k .0 in
       by (isVaried (st .n) (fields r))
       (λ e. rw e (cover-fit (p + length r + 2) (after st r) end ls h))
       (λ e. rw e (all-replicate (st .n) (markAt 300 (st .n + 2) (fields r))
-      (rw (t .says .mark) (mark-fit 300 (t .quality) (t .reason) (t .text) (t .marking) (eqb-false _ _ (sym (t .says .varied) ∙ e)) (rw (t .says .mark) at (agrees-300 (st .n) (fields r) i))))))
+      (rw (t .says .mark) (mark-fit 300 (t .quality) (t .reason) (t .text) (t .marking) (eqb-false _ _ (sym (t .says .varied) ∙ e)) (rw (t .says .mark) at (agrees-300 (st .n) (st .decimals) (fields r) i))))))
 
-  day-fit : fitDay (dayOf (blockFound p r ls (st .n))) ≡ true
+  -- in a unit that allows the channel's decimals
+  day-fit : isUnit u ≡ true → decimalsOf u ≡ st .decimals → fitDay (dayOf (blockFound p r ls (st .n) u)) ≡ true
   unfolding fitDay dayOf valuesOf
-  day-fit =
-      let t = top-of (st .n) (fields r) (fit-record st r f 300 (λ z. omega arith) k) in
+  day-fit i m =
+      let t = top-of (st .n) (st .decimals) (fields r) (fit-300 st r f k .0) in
       rw (
+        i,
         t .says .date,
         date-fit (t .date) (t .dated),
         t .says .update,
@@ -165,11 +175,16 @@ module _ (st end : Due) (p : ℕ) (r : List ℕ) (ls : Lines) (k : kindIn (field
         t .says .load,
         load-fit (t .load) (t .loaded),
         t .says .values,
-        values-fit (t .values),
+        m,
+        values-fit (st .decimals) (t .values) (t .valued),
         marks-fit t,
       )
 
 pub fit-said : (d : Day) (b : List ℕ) → Says b d → fitDay d ≡ true
+unfolding unitIn decimalsIn
 fit-said d b h =
     let w = headed (h .st) b (h .accepted) in
-    ap fitDay (sym (read-day (h .st) b (h .accepted) (h .place) (h .channel) d (h .intervals) (h .reads))) ∙ day-fit (h .st) (h .accepted .end) (h .place) (w .first) (w .others) (w .kind) (w .fit) (w .passes)
+    let c : Record = h .channel .cells in
+    let m : decimalsOf (unitIn c) ≡ h .st .decimals = sym (unit-decimals (field unitField c) (h .under .unit)) ∙ h .under .decimals in
+    ap fitDay (sym (read-day (h .st) b (h .accepted) (h .place) (h .channel) d (h .under .intervals) (h .reads)))
+    ∙ day-fit (h .st) (h .accepted .end) (h .place) (unitIn c) (w .first) (w .others) (w .kind) (w .fit) (w .passes) (unit-in (field unitField c) (h .under .unit)) m

@@ -15,11 +15,11 @@ use Rattle.ground.proofs.Tests.{and-true}
 use Rattle.ground.proofs.Cases.{by}
 use Rattle.format.specs.Bytes.{fieldByte, areAll}
 use Rattle.format.specs.Texts.{isDescription}
-use Rattle.format.specs.Numbers.{isNumber, numberIn, numberOf, intervalOf, reasonOf, decimals, valueOf}
+use Rattle.format.specs.Numbers.{isNumber, numberIn, numberOf, intervalOf, reasonOf, valueOf}
 use Rattle.format.specs.Dates.{dateOf, timeOf, loadOf}
 use Rattle.format.specs.Quality.{qualityOf, isGraded, flagIn, methodIn, Mark}
 use Rattle.format.specs.Cut.{field}
-use Rattle.format.specs.Records.{indicatorOf, kindIn, rowOf, obeys, dateIn, millionths, valuesIn, updateIn, loadIn, firstIn, lastIn, markAt, markIn}
+use Rattle.format.specs.Records.{scale, indicatorOf, kindIn, rowOf, obeys, dateIn, millionths, valuesIn, updateIn, loadIn, firstIn, lastIn, markAt, markIn}
 use Rattle.format.specs.Order.{isVaried}
 use Rattle.format.specs.declared.Number.{Number}
 use Rattle.format.specs.declared.Number.the-variants.{Is, Bad}
@@ -27,6 +27,7 @@ use Rattle.format.specs.declared.Graded.{Graded}
 use Rattle.format.specs.declared.Graded.the-variants.{Of}
 use Rattle.format.specs.declared.Rule.{Rule}
 use Rattle.format.specs.declared.Rule.the-variants.{Value, Quality, Reason, Description, Time, Load}
+use Rattle.format.proofs.ValueText.{value-same}
 use Rattle.theorems.specs.Grammar.{Each, Record, Meets, IsRecord}
 
 -- ---- single fields
@@ -38,6 +39,11 @@ number-is Bad h = absurd (false≢true h)
 pub graded-is : (x : Graded) → isGraded x ≡ true → x ≡ Of (flagIn x) (methodIn x)
 graded-is (Of q m) h = refl
 graded-is Graded.Bad h = absurd (false≢true h)
+
+-- a value with at most d decimals is the number that is read of it, whatever d is
+pub value-is : (d : ℕ) (s : List ℕ) → isNumber (valueOf d s) ≡ true → valueOf d s ≡ Is (millionths s)
+unfolding millionths
+value-is d s h = let e = number-is (valueOf d s) h in e ∙ ap Is (sym (ap numberIn (value-same d s (numberIn (valueOf d s)) e)))
 
 -- an indicator has three bytes
 pub indicator-long : (f : List ℕ) (fs : Record) (k : ℕ) → kindIn (f ∷ fs) ≡ k → k ≢ 0 → length f ≡ 3
@@ -101,21 +107,21 @@ run-says i a b q s x = record { first = refl; last = refl; mark = refl }
 
 -- ---- a 300
 
--- n values, and fields that meet the other rules behind them
-record Valued (k n : ℕ) (us : List Rule) (fs : Record) : Type 0 where
+-- n values of at most d decimals, and fields that meet the other rules behind them
+record Valued (k n d : ℕ) (us : List Rule) (fs : Record) : Type 0 where
   values : List (List ℕ)
   tail : Record
   is : fs ≡ values ++ tail
   count : length values ≡ n
-  each : Each (λ v. isNumber (valueOf decimals v) ≡ true) values
+  each : Each (λ v. isNumber (valueOf d v) ≡ true) values
   meets : Meets k us tail
 
-valued : (k n : ℕ) (us : List Rule) (fs : Record) → Meets k (replicate n Value ++ us) fs → Valued k n us fs
+valued : (k n d : ℕ) (us : List Rule) (fs : Record) → Meets k (replicate n (Value d) ++ us) fs → Valued k n d us fs
 unfolding obeys
-valued k zero us fs h = record { values = []; tail = fs; is = refl; count = refl; each = tt; meets = h }
-valued k (suc n) us [] h = absurd h
-valued k (suc n) us (f ∷ fs) h =
-    let w = valued k n us fs (h .2) in
+valued k zero d us fs h = record { values = []; tail = fs; is = refl; count = refl; each = tt; meets = h }
+valued k (suc n) d us [] h = absurd h
+valued k (suc n) d us (f ∷ fs) h =
+    let w = valued k n d us fs (h .2) in
     record { values = f ∷ w .values; tail = w .tail; is = ap (λ (l : Record). f ∷ l) (w .is); count = ap suc (w .count); each = (h .1, w .each); meets = w .meets }
 
 -- quality, reason and description of a record of the kind k
@@ -125,7 +131,7 @@ pub record Marking (k : ℕ) (quality reason text : List ℕ) : Type 0 where
   pub described : isDescription text ≡ true
   pub bytes : all fieldByte text ≡ true
 
-pub record Top (n : ℕ) (fs : Record) : Type 0 where
+pub record Top (n d : ℕ) (fs : Record) : Type 0 where
   pub indicator : List ℕ
   pub date : List ℕ
   pub values : List (List ℕ)
@@ -138,7 +144,7 @@ pub record Top (n : ℕ) (fs : Record) : Type 0 where
   pub count : length values ≡ n
   pub long : length indicator ≡ 3
   pub dated : isNumber (dateOf date) ≡ true
-  pub valued : Each (λ v. isNumber (valueOf decimals v) ≡ true) values
+  pub valued : Each (λ v. isNumber (valueOf d v) ≡ true) values
   pub marking : Marking 300 quality reason text
   pub updated : isNumber (timeOf update) ≡ true
   pub loaded : isNumber (loadOf load) ≡ true
@@ -177,15 +183,15 @@ last (a ∷ b ∷ c ∷ d ∷ e ∷ []) h =
     }
 last (a ∷ b ∷ c ∷ d ∷ e ∷ f ∷ fs) h = absurd (h .2 .2 .2 .2 .2)
 
-pub top-of : (n : ℕ) (fs : Record) → IsRecord 300 n fs → Top n fs
+pub top-of : (n d : ℕ) (fs : Record) → IsRecord 300 n d fs → Top n d fs
 unfolding rowOf obeys
-top-of n fs r = go fs (r .indicator) (r .meets)
+top-of n d fs r = go fs (r .indicator) (r .meets)
   where
-    go : (fs : Record) → kindIn fs ≡ 300 → Meets 300 (rowOf 300 n) fs → Top n fs
+    go : (fs : Record) → kindIn fs ≡ 300 → Meets 300 (rowOf 300 (scale n d)) fs → Top n d fs
     go [] i h = absurd h
     go (a ∷ []) i h = absurd (h .2)
     go (a ∷ b ∷ fs′) i h =
-        let v = valued 300 n (Quality ∷ Reason ∷ Description ∷ Time ∷ Load ∷ []) fs′ (h .2 .2) in
+        let v = valued 300 n d (Quality ∷ Reason ∷ Description ∷ Time ∷ Load ∷ []) fs′ (h .2 .2) in
         let w = last (v .tail) (v .meets) in
         let e : fs′ ≡ v .values ++ (w .quality ∷ w .reason ∷ w .text ∷ w .update ∷ w .load ∷ []) = v .is ∙ ap (λ (l : Record). v .values ++ l) (w .is) in
         record {
@@ -226,11 +232,11 @@ pub record Stretch (fs : Record) : Type 0 where
   pub marking : Marking 400 quality reason text
   pub says : RunSays fs start end quality reason text
 
-pub stretch-of : (fs : Record) → IsRecord 400 0 fs → Stretch fs
+pub stretch-of : (fs : Record) → IsRecord 400 0 0 fs → Stretch fs
 unfolding rowOf obeys
 stretch-of fs r = go fs (r .indicator) (r .meets)
   where
-    go : (fs : Record) → kindIn fs ≡ 400 → Meets 400 (rowOf 400 0) fs → Stretch fs
+    go : (fs : Record) → kindIn fs ≡ 400 → Meets 400 (rowOf 400 (scale 0 0)) fs → Stretch fs
     go [] i h = absurd h
     go (a ∷ []) i h = absurd (h .2)
     go (a ∷ b ∷ []) i h = absurd (h .2 .2)

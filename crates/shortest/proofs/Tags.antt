@@ -84,9 +84,10 @@ module _ (file : List ℕ) where
       ∙ ap₂ (λ (x y : List Mark). x ++ y) (map-replicate (markOf file) k (tagAt 400 (rowAt p r) 3) ∙ ap (replicate k) (tag-mark 400 p 3 r (13 ∷ 10 ∷ bytesOf ls) h)) (cover-tags (p + length r + 2) ls (next-at p r ls h))))
       (λ t. rw t)
 
-  pub tags-marks : (p n : ℕ) (r : List ℕ) (ls : Lines) → drop p file ≡ bytesOf (line r ls) → map (markOf file) (tagsOf (blockFound p r ls n)) ≡ marksOf (blockFound p r ls n)
+  pub tags-marks : (p n u : ℕ) (r : List ℕ) (ls : Lines) → drop p file ≡ bytesOf (line r ls)
+      → map (markOf file) (tagsOf (blockFound p r ls n u)) ≡ marksOf (blockFound p r ls n u)
   unfolding tagsOf marksOf eachOf
-  tags-marks p n r ls h =
+  tags-marks p n u r ls h =
       by (isVaried n (fields r))
       (λ t. rw t (cover-tags (p + length r + 2) ls (next-at p r ls h)))
       (λ t. rw t (map-replicate (markOf file) n (tagAt 300 (rowAt p r) (n + 2)) ∙ ap (replicate n) (tag-mark 300 p (n + 2) r (13 ∷ 10 ∷ bytesOf ls) h)))
@@ -101,7 +102,7 @@ read-is file number xs rows others d e f q t =
       tags = tagsOf (rows .block);
       marks = t ∙ ap (λ (x : Day). x .marks) q;
       answers = λ vs ms r.
-          (let told : Day → Outcome = λ x. outcome (accepted (x .date ∷ x .n ∷ x .update ∷ x .load ∷ [])) (over (x .values) vs) (overFive (tagsOf (rows .block)) ms) in
+          (let told : Day → Outcome = λ x. outcome (accepted (x .date ∷ x .n ∷ x .update ∷ x .load ∷ x .unit ∷ [])) (over (x .values) vs) (overFive (tagsOf (rows .block)) ms) in
           let n : roomFor (rows .block .n) vs ms ≡ true = ap (λ (x : Day). roomFor (x .n) vs ms) q ∙ r in
           let g : readFirst (rows ∷ others) vs ms ≡ told (meant rows) = rw n in
           ap (λ (x : Answer). afterCheck x (readFirst (drop number (daysOf file)) vs ms) vs ms) e ∙ ap (λ (l : List DayRows). readFirst l vs ms) f ∙ g ∙ ap told q);

@@ -7,7 +7,7 @@ use mathlib.Core.List.{List, [], _∷_, _++_, map, append-assoc, tail-eq-of-cons
 use native.Mathlib.Omega.{arith}
 use lib.ListN.{length, replicate, length-append, length-replicate, length-map, replicate-append-replicate}
 use lib.Dec.{eqb, leb}
-use borrow.Author.Tests.{leb-true, ltb-true}
+use borrow.Author.Tests.{leb-true}
 use Rattle.ground.specs.Lists.{all}
 use Rattle.ground.specs.Text.{bytes}
 use Rattle.ground.specs.Digits.{padded, dec, isDigit}
@@ -17,7 +17,7 @@ use Rattle.format.specs.Bytes.{fieldByte, areAll}
 use Rattle.format.specs.Numbers.{numberOf, intervalOf}
 use Rattle.format.specs.Dates.{isDate, isTime}
 use Rattle.format.specs.Quality.{Mark}
-use Rattle.format.specs.Records.{isKind, indicatorOf, kindIn, rowOf, obeys, qualitiesOf, markAt, markIn, firstIn, lastIn}
+use Rattle.format.specs.Records.{scaleFor, isKind, indicatorOf, kindIn, rowOf, obeys, qualitiesOf, markAt, markIn, firstIn, lastIn}
 use Rattle.format.specs.Block.{fitMark, fitValue, valueText, qualityText, reasonText, loadText, comma, crlf, markText, valuesText, runText, coverText}
 use Rattle.format.specs.declared.Number.the-variants.{Is}
 use Rattle.format.specs.declared.Rule.{Rule}
@@ -45,11 +45,11 @@ good-meets k [] (f ∷ fs) t h = h
 good-meets k (u ∷ us) [] t h = h
 good-meets k (u ∷ us) (f ∷ fs) t h = ((h .0, t .0 k f (h .1)), h .1, good-meets k us fs (t .1) (h .2))
 
-good-record : (k n : ℕ) (us : List Rule) (f : List ℕ) (fs : Record) → rowOf k n ≡ Indicator ∷ us → k ≢ 0 → kindIn (f ∷ fs) ≡ k → Bytes f → Good k us fs
-    → Each (λ i. Together (markAt k i (f ∷ fs))) (qualitiesOf k n) → IsRecord k n (f ∷ fs)
+pub good-record : (k n d : ℕ) (us : List Rule) (f : List ℕ) (fs : Record) → rowOf k (scaleFor k n d (f ∷ fs)) ≡ Indicator ∷ us → k ≢ 0 → kindIn (f ∷ fs) ≡ k → Bytes f → Good k us fs
+    → Each (λ i. Together (markAt k i (f ∷ fs))) (qualitiesOf k n) → IsRecord k n d (f ∷ fs)
 unfolding obeys
-good-record k n us f fs e z i b g c =
-    let w = tidied k n in
+good-record k n d us f fs e z i b g c =
+    let w = tidied k (scaleFor k n d (f ∷ fs)) in
     let t : Each Tidy us = subst (Each Tidy) (tail-eq-of-cons-eq (sym (w .is) ∙ e)) (w .tidy) in
     let m : Meets k (Indicator ∷ us) (f ∷ fs) = ((b, indicator-tidy f fs (λ y. z (sym i ∙ y))), refl, good-meets k us fs t g) in
     record { indicator = i; meets = subst (λ (x : List Rule). Meets k x (f ∷ fs)) (sym e) m; together = c }
@@ -59,19 +59,20 @@ good-record k n us f fs e z i b g c =
 abbrev pub three : List ℕ
 three = bytes "300"
 
-good-values : (k : ℕ) (us : List Rule) (fs : Record) (vs : List ℕ) → all fitValue vs ≡ true → Good k us fs → Good k (replicate (length vs) Value ++ us) (map valueText vs ++ fs)
-unfolding obeys fitValue
-good-values k us fs [] h g = g
-good-values k us fs (v ∷ vs) h g =
-    let w = and-true (fitValue v) (all fitValue vs) h in
-    (value-bytes v, rw (value-back v (ltb-true _ _ (w .0))), good-values k us fs vs (w .1) g)
+good-values : (k d : ℕ) (us : List Rule) (fs : Record) (vs : List ℕ) → all (fitValue d) vs ≡ true → Good k us fs
+    → Good k (replicate (length vs) (Value d) ++ us) (map valueText vs ++ fs)
+unfolding obeys
+good-values k d us fs [] h g = g
+good-values k d us fs (v ∷ vs) h g =
+    let w = and-true (fitValue d v) (all (fitValue d) vs) h in
+    (value-bytes v, rw (value-back d v (w .0)), good-values k d us fs vs (w .1) g)
 
 -- with the date t, the update time u, the load time l and the values vs
 abbrev pub topWritten : ℕ → ℕ → ℕ → List ℕ → List ℕ → List ℕ → List ℕ → Record
 topWritten t u l vs q s x = topRow three (padded 8 t) (map valueText vs) q s x (padded 14 u) (loadText l)
 
-module _ (t u l : ℕ) (vs : List ℕ) (q s x : List ℕ) (n : ℕ) (e : length vs ≡ n) where
-  pub top-record : isDate t ≡ true → isTime u ≡ true → (eqb l 0 || isTime l) ≡ true → all fitValue vs ≡ true → Carried 300 q s x → IsRecord 300 n (topWritten t u l vs q s x)
+module _ (t u l : ℕ) (vs : List ℕ) (q s x : List ℕ) (n m : ℕ) (e : length vs ≡ n) where
+  pub top-record : isDate t ≡ true → isTime u ≡ true → (eqb l 0 || isTime l) ≡ true → all (fitValue m) vs ≡ true → Carried 300 q s x → IsRecord 300 n m (topWritten t u l vs q s x)
   unfolding rowOf obeys kindIn indicatorOf isKind numberOf areAll isDigit fieldByte qualitiesOf
   top-record d h g v c =
       let five : Good 300 (Quality ∷ Reason ∷ Description ∷ Time ∷ Load ∷ []) (q ∷ s ∷ x ∷ padded 14 u ∷ loadText l ∷ []) = (
@@ -91,9 +92,9 @@ module _ (t u l : ℕ) (vs : List ℕ) (q s x : List ℕ) (n : ℕ) (e : length 
           ),
         ),
       ) in
-      let w : Good 300 (replicate n Value ++ (Quality ∷ Reason ∷ Description ∷ Time ∷ Load ∷ [])) (map valueText vs ++ (q ∷ s ∷ x ∷ padded 14 u ∷ loadText l ∷ [])) =
-      rw (← e) (good-values 300 (Quality ∷ Reason ∷ Description ∷ Time ∷ Load ∷ []) (q ∷ s ∷ x ∷ padded 14 u ∷ loadText l ∷ []) vs v five) in
-      good-record 300 n (Date ∷ (replicate n Value ++ (Quality ∷ Reason ∷ Description ∷ Time ∷ Load ∷ []))) three (padded 8 t ∷ (map valueText vs ++ (q ∷ s ∷ x ∷ padded 14 u ∷ loadText l ∷ [])))
+      let w : Good 300 (replicate n (Value m) ++ (Quality ∷ Reason ∷ Description ∷ Time ∷ Load ∷ [])) (map valueText vs ++ (q ∷ s ∷ x ∷ padded 14 u ∷ loadText l ∷ [])) =
+      rw (← e) (good-values 300 m (Quality ∷ Reason ∷ Description ∷ Time ∷ Load ∷ []) (q ∷ s ∷ x ∷ padded 14 u ∷ loadText l ∷ []) vs v five) in
+      good-record 300 n m (Date ∷ (replicate n (Value m) ++ (Quality ∷ Reason ∷ Description ∷ Time ∷ Load ∷ []))) three (padded 8 t ∷ (map valueText vs ++ (q ∷ s ∷ x ∷ padded 14 u ∷ loadText l ∷ [])))
       refl (λ z. omega arith) refl refl
       (padded-bytes 8 t, rw (date-back t d), w)
       (agrees-together (markAt 300 (n + 2) (topWritten t u l vs q s x)) (rw (top-says three (padded 8 t) (map valueText vs) q s x (padded 14 u) (loadText l) n (length-map vs valueText ∙ e) .mark) (c .together)), tt)
@@ -186,11 +187,11 @@ module _ (a k : ℕ) (m : Mark) (s : 1 ≤ k) (b : a + k < 10 ^ 4) (h : fitMark 
   written-mark =
       run-says four (dec (a + 1)) (dec (a + k)) (qualityText (m .flag) (m .method)) (reasonText (m .reason)) (m .text) .mark ∙ mark-said 400 m refl h
 
-  run-record : IsRecord 400 0 (runWritten a (a + k) m)
+  run-record : IsRecord 400 0 0 (runWritten a (a + k) m)
   unfolding rowOf obeys kindIn indicatorOf isKind numberOf areAll isDigit fieldByte qualitiesOf
   run-record =
       let c = mark-carried 400 m refl h in
-      good-record 400 0 (Interval ∷ Interval ∷ Quality ∷ Reason ∷ Description ∷ []) four (dec (a + 1) ∷ dec (a + k) ∷ qualityText (m .flag) (m .method) ∷ reasonText (m .reason) ∷ m .text ∷ [])
+      good-record 400 0 0 (Interval ∷ Interval ∷ Quality ∷ Reason ∷ Description ∷ []) four (dec (a + 1) ∷ dec (a + k) ∷ qualityText (m .flag) (m .method) ∷ reasonText (m .reason) ∷ m .text ∷ [])
       refl (λ z. omega arith) refl refl (
         dec-bytes (a + 1),
         rw (interval-back (a + 1) (omega arith)),
@@ -210,7 +211,7 @@ module _ (a k : ℕ) (m : Mark) (s : 1 ≤ k) (b : a + k < 10 ^ 4) (h : fitMark 
       )
       (agrees-together (markIn (runWritten a (a + k) m)) (rw (run-says four (dec (a + 1)) (dec (a + k)) (qualityText (m .flag) (m .method)) (reasonText (m .reason)) (m .text) .mark) (c .together)), tt)
 
-pub cover-records : (a : ℕ) (c : List (Run Mark)) → Fitting a c → Each (IsRecord 400 0) (coverWritten a c)
+pub cover-records : (a : ℕ) (c : List (Run Mark)) → Fitting a c → Each (IsRecord 400 0 0) (coverWritten a c)
 cover-records a [] h = tt
 cover-records a (run k m ∷ c) h = (run-record a k m (h .0) (h .1) (h .2), cover-records (a + k) c (h .3))
 

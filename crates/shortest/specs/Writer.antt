@@ -6,14 +6,15 @@ use mathlib.Core.List.{List, [], _∷_, _++_}
 use lib.ListN.{length}
 use Rattle.ground.specs.Lists.{all, from}
 use Rattle.format.specs.Numbers.{isLength}
+use Rattle.format.specs.Units.{decimalsOf}
 use Rattle.format.specs.Cut.{lines}
-use Rattle.format.specs.Records.{intervalsIn}
+use Rattle.format.specs.Records.{unitIn, intervalsIn}
 use Rattle.format.specs.Order.{Due}
 use Rattle.format.specs.Answers.{accepted}
 use Rattle.format.specs.File.{most, checkOf}
 use Rattle.format.specs.Day.{Row, Day}
 use Rattle.format.specs.Block.{Given, intervalsGiven, dayGiven, isInside, fitGiven, blockOf, recordsOf, enough}
-use Rattle.passing.specs.Passes.{kindsOf, Accepted}
+use Rattle.passing.specs.Passes.{kindsOf, Accepted, Awaits}
 use Rattle.shortest.specs.Blocks.{Reads, Says, Read}
 
 -- each description lies inside the lent text
@@ -26,11 +27,15 @@ pub record Writable (g : Given) : Type 0 where
   pub lists-long : enough g ≡ true
   pub fit : fitGiven g ≡ true
 
--- the block that is written for the day d is accepted where the state is st, and the day that is read from it, at any place under any 200 of that n, is the
--- same
+-- a block of the interval length, the unit and the date that were handed in may stand where the state is st
+abbrev pub AwaitsGiven : Given → Due → Type 0
+AwaitsGiven g st = Awaits st (intervalsGiven g) (decimalsOf (g .head .unit)) (g .head .date)
+
+-- the block that is written for the day d is accepted where the state is st, and the day that is read from it, at any place under any 200 of that n and the day's
+-- unit, is the same
 pub record ReadsBack (d : Day) (st : Due) : Type 0 where
   pub accepted : Accepted st (blockOf d)
-  pub same : (p : ℕ) (c : Row) → intervalsIn (c .cells) ≡ st .n → Reads p c (blockOf d) d
+  pub same : (p : ℕ) (c : Row) → intervalsIn (c .cells) ≡ st .n → unitIn (c .cells) ≡ d .unit → Reads p c (blockOf d) d
 
 -- the block that is written for the day d has no more records than the bytes b, and no more bytes
 pub record NoLonger (d : Day) (b : List ℕ) : Type 0 where

@@ -18,7 +18,7 @@ use Rattle.ground.proofs.Cases.{by}
 use Rattle.format.specs.Bytes.{areAll}
 use Rattle.format.specs.Numbers.{numberOf}
 use Rattle.format.specs.Cut.{line, lines, fields}
-use Rattle.format.specs.Records.{isKind, indicatorOf, kindIn, rowOf, versionIn, intervalsIn}
+use Rattle.format.specs.Records.{isKind, indicatorOf, kindIn, rowOf, versionIn, unitIn, decimalsIn, intervalsIn}
 use Rattle.format.specs.Answers.{accepted}
 use Rattle.format.specs.File.{checkOf}
 use Rattle.format.specs.Day.{daysOf, Day}
@@ -66,7 +66,7 @@ indicator-900 f h =
     (λ u. absurd (let z : 0 ≡ 900 = (rw (t, u) at h) in let y : ⊥ = omega arith in y))))
     (λ t. absurd (let z : 0 ≡ 900 = (rw t at h) in let y : ⊥ = omega arith in y))
 
-last-text : (l : Record) → IsRecord 900 0 l → l ≡ (57 ∷ 48 ∷ 48 ∷ []) ∷ []
+last-text : (l : Record) → IsRecord 900 0 0 l → l ≡ (57 ∷ 48 ∷ 48 ∷ []) ∷ []
 unfolding rowOf
 last-text [] h = absurd (h .meets)
 last-text (f ∷ []) h = ap (λ (x : List ℕ). x ∷ []) (indicator-900 f (h .indicator))
@@ -119,7 +119,7 @@ one-channel file xs e n =
 
 -- ---- the file around a block
 
-module _ (header head last : Record) (h₁ : IsRecord 100 0 header) (h₂ : IsRecord 200 0 head) (h₉ : IsRecord 900 0 last) (s : List ℕ) where
+module _ (header head last : Record) (h₁ : IsRecord 100 0 0 header) (h₂ : IsRecord 200 0 0 head) (h₉ : IsRecord 900 0 0 last) (s : List ℕ) where
   -- the bytes are a block behind the 200, and the day that it is, is the one that a reading finds
   block-in : InFormat (around header head s last) 12 1 1 → (day : Day) × (ReadsAs head s day × (map meant (daysOf (around header head s last)) ≡ day ∷ []))
   block-in g = go (g .content) (g .is-content) (g .channels) (g .days) (g .bytes) (meaning (around header head s last) 12 1 1 g)
@@ -133,15 +133,15 @@ module _ (header head last : Record) (h₁ : IsRecord 100 0 header) (h₂ : IsRe
           let rows : List Record = b .top ∷ (b .runs ++ (b .extra ++ g .last ∷ [])) in
           let t₁ : around header head s last ≡ text (g .header ∷ c .head ∷ []) ++ text rows = (rw e at t) ∙ text-append (g .header ∷ c .head ∷ []) rows in
           let w = behind-two header head (g .header) (c .head) (s ++ text (last ∷ [])) (text rows)
-          (record-fields 100 0 header h₁) (record-fields 200 0 head h₂) (record-fields 100 0 (g .header) (g .is-header)) (record-fields 200 0 (c .head) (h .head)) t₁ in
+          (record-fields 100 0 0 header h₁) (record-fields 200 0 0 head h₂) (record-fields 100 0 0 (g .header) (g .is-header)) (record-fields 200 0 0 (c .head) (h .head)) t₁ in
           let same : g .last ≡ last = last-text (g .last) (g .is-last) ∙ sym (last-text last h₉) in
           let u : s ++ text (last ∷ []) ≡ text (rowsOf b) ++ text (last ∷ []) = w .1 ∙ block-text b (g .last ∷ []) ∙ rw same in
-          let k : Each (IsBlock (intervalsIn (c .head))) (b ∷ []) = rw e at (h .blocks) in
-          let f : map meant (daysOf (around header head s last)) ≡ dayIn (intervalsIn (c .head)) b ∷ [] = rw e at m in (
-            dayIn (intervalsIn head) b,
+          let k : Each (IsBlock (intervalsIn (c .head)) (decimalsIn (c .head))) (b ∷ []) = rw e at (h .blocks) in
+          let f : map meant (daysOf (around header head s last)) ≡ dayIn (intervalsIn (c .head)) (unitIn (c .head)) b ∷ [] = rw e at m in (
+            dayIn (intervalsIn head) (unitIn head) b,
             (
               record { is-head = h₂; block = b; good = rw (w .0) (k .0); bytes = cancel s (text (rowsOf b)) (text (last ∷ [])) u; is = refl },
-              f ∙ ap (λ (r : Record). dayIn (intervalsIn r) b ∷ []) (sym (w .0)),
+              f ∙ ap (λ (r : Record). dayIn (intervalsIn r) (unitIn r) b ∷ []) (sym (w .0)),
             ),
           )
 

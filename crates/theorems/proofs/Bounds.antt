@@ -12,13 +12,13 @@ use Rattle.ground.specs.Lists.{all, spanOf, sum}
 use Rattle.ground.proofs.Digits.{all-append}
 use Rattle.ground.proofs.Tests.{and-true}
 use Rattle.format.specs.Bytes.{areAll}
-use Rattle.format.specs.Numbers.{isNumber, numberOf, decimals, valueOf}
+use Rattle.format.specs.Numbers.{isNumber, numberOf, valueOf}
 use Rattle.format.specs.Cut.{lines, field}
-use Rattle.format.specs.Records.{rowOf, obeys, intervalsIn, millionths, valuesIn, quantityField, quantityIn}
+use Rattle.format.specs.Records.{rowOf, obeys, decimalsIn, intervalsIn, millionths, valuesIn, quantityField, quantityIn}
 use Rattle.format.specs.Answers.{accepted}
 use Rattle.format.specs.File.{checkOf}
 use Rattle.format.specs.Total.{totalsFrom}
-use Rattle.format.specs.Block.{fitValue}
+use Rattle.format.specs.Block.{smallValue}
 use Rattle.format.specs.declared.Rule.{Rule}
 use Rattle.format.specs.declared.Rule.the-variants.{Value}
 use Rattle.format.proofs.Total.{values-fit, sum-most}
@@ -31,25 +31,25 @@ use Rattle.theorems.proofs.Days.{channel-totals}
 
 -- ---- "A value takes at least two bytes with its comma"
 
-value-some : (s : List ℕ) → isNumber (valueOf decimals s) ≡ true → 1 ≤ length s
+value-some : (d : ℕ) (s : List ℕ) → isNumber (valueOf d s) ≡ true → 1 ≤ length s
 unfolding valueOf numberOf areAll spanOf
-value-some [] h = absurd (false≢true h)
-value-some (b ∷ s) h = omega arith
+value-some d [] h = absurd (false≢true h)
+value-some d (b ∷ s) h = omega arith
 
-values-size : (k n : ℕ) (us : List Rule) (fs : Record) → Meets k (replicate n Value ++ us) fs → 2 * n ≤ size fs
+values-size : (k n d : ℕ) (us : List Rule) (fs : Record) → Meets k (replicate n (Value d) ++ us) fs → 2 * n ≤ size fs
 unfolding size obeys
-values-size k zero us fs h = omega arith
-values-size k (suc n) us [] h = absurd h
-values-size k (suc n) us (f ∷ fs) h = omega (arith, value-some f (h .1), values-size k n us fs (h .2))
+values-size k zero d us fs h = omega arith
+values-size k (suc n) d us [] h = absurd h
+values-size k (suc n) d us (f ∷ fs) h = omega (arith, value-some d f (h .1), values-size k n d us fs (h .2))
 
-day-size : (n : ℕ) (fs : Record) → IsRecord 300 n fs → 2 * length (valuesIn n fs) ≤ length (join fs)
+day-size : (n d : ℕ) (fs : Record) → IsRecord 300 n d fs → 2 * length (valuesIn n fs) ≤ length (join fs)
 unfolding rowOf valuesIn size
-day-size n [] h = absurd (h .meets)
-day-size n (f ∷ []) h = absurd (h .meets .2)
-day-size n (f ∷ g ∷ fs) h =
+day-size n d [] h = absurd (h .meets)
+day-size n d (f ∷ []) h = absurd (h .meets .2)
+day-size n d (f ∷ g ∷ fs) h =
     omega (
       arith,
-      values-size 300 n _ fs (h .meets .2 .2),
+      values-size 300 n d _ fs (h .meets .2 .2),
       length-join (f ∷ g ∷ fs) (omega arith),
       length-map (take n fs) millionths,
       length-take n fs,
@@ -61,19 +61,19 @@ unfolding text
 text-more [] t = omega arith
 text-more (r ∷ rs) t = omega (arith, length-append (join r) (13 ∷ 10 ∷ text (rs ++ t)), text-more rs t)
 
-blocks-size : (n : ℕ) (bs : List Block) (t : List Record) → Each (IsBlock n) bs → 2 * length (blockValues n bs) + length (text t) ≤ length (text (blocksThen bs t))
+blocks-size : (n d : ℕ) (bs : List Block) (t : List Record) → Each (IsBlock n d) bs → 2 * length (blockValues n bs) + length (text t) ≤ length (text (blocksThen bs t))
 unfolding text
-blocks-size n [] t h = omega arith
-blocks-size n (b ∷ bs) t h =
+blocks-size n d [] t h = omega arith
+blocks-size n d (b ∷ bs) t h =
     let more : List Record = blocksThen bs t in
     omega (
       arith,
       length-append (valuesIn n (b .top)) (blockValues n bs),
-      day-size n (b .top) (h .0 .top),
+      day-size n d (b .top) (h .0 .top),
       length-append (join (b .top)) (13 ∷ 10 ∷ text (b .runs ++ (b .extra ++ more))),
       text-more (b .runs) (b .extra ++ more),
       text-more (b .extra) more,
-      blocks-size n bs t (h .1),
+      blocks-size n d bs t (h .1),
     )
 
 channels-size : (cs : List Channel) (t : List Record) → Each IsChannel cs → 2 * sum (map length (channelValues cs)) + length (text t) ≤ length (text (channelsThen cs t))
@@ -84,7 +84,7 @@ channels-size (c ∷ cs) t h =
     omega (
       arith,
       length-append (join (c .head)) (13 ∷ 10 ∷ text (blocksThen (c .blocks) more)),
-      blocks-size (intervalsIn (c .head)) (c .blocks) more (h .0 .blocks),
+      blocks-size (intervalsIn (c .head)) (decimalsIn (c .head)) (c .blocks) more (h .0 .blocks),
       channels-size cs t (h .1),
     )
 
@@ -119,12 +119,12 @@ few-values file v c d h = omega (arith, two-bytes 1048576 file v c d h)
 -- ---- "each below 10^13 millionths"
 
 abbrev Fit : List ℕ → Type 0
-Fit vs = all fitValue vs ≡ true
+Fit vs = all smallValue vs ≡ true
 
 blocks-fit : (n : ℕ) (bs : List Block) → Fit (blockValues n bs)
 unfolding valuesIn
 blocks-fit n [] = refl
-blocks-fit n (b ∷ bs) = all-append fitValue (valuesIn n (b .top)) (blockValues n bs) (values-fit (take n (drop 2 (b .top)))) (blocks-fit n bs)
+blocks-fit n (b ∷ bs) = all-append smallValue (valuesIn n (b .top)) (blockValues n bs) (values-fit (take n (drop 2 (b .top)))) (blocks-fit n bs)
 
 content-fit : (x : Content) → Each Fit (values x)
 unfolding quantityIn
@@ -140,12 +140,12 @@ content-fit (nem13 rs) = go rs
     go (r ∷ rs) = (values-fit (field quantityField (r .head) ∷ []), go rs)
 
 pub small-values : (x : Content) → Each (Each (λ v. v < 10 ^ 13)) (values x)
-unfolding fitValue
+unfolding smallValue
 small-values x = each-if Fit (Each (λ v. v < 10 ^ 13)) go (values x) (content-fit x)
   where
     go : (vs : List ℕ) → Fit vs → Each (λ v. v < 10 ^ 13) vs
     go [] h = tt
-    go (v ∷ vs) h = let w = and-true (ltb v (10 ^ 13)) (all fitValue vs) h in (ltb-true v (10 ^ 13) (w .0), go vs (w .1))
+    go (v ∷ vs) h = let w = and-true (ltb v (10 ^ 13)) (all smallValue vs) h in (ltb-true v (10 ^ 13) (w .0), go vs (w .1))
 
 -- ---- every total is below 2^64
 

@@ -35,8 +35,8 @@ abbrev pub NoneOpen : Due → Type 0
 NoneOpen st = inVaried (st .expect) ≡ true → st .n < st .next
 
 -- a record before others
-ahead : (st : Due) (fs : Record) (k n j : ℕ) → IsRecord k n fs → Tests st fs → Comes (afterOf st k fs) j → Comes st k
-ahead st fs k n j h t c =
+ahead : (st : Due) (fs : Record) (k n d j : ℕ) → IsRecord k n d fs → Tests st fs → Comes (afterOf st k fs) j → Comes st k
+ahead st fs k n d j h t c =
     record {
       first = fs;
       rows = c .first ∷ c .rows;
@@ -44,8 +44,8 @@ ahead st fs k n j h t c =
       channels = c .channels;
       days = c .days;
       kind = h .indicator;
-      clean = record-fields k n fs h;
-      takes = takes-row st fs (c .first ∷ c .rows) (c .version) (c .channels) (c .days) (record-fields k n fs h) t (rw (h .indicator) (c .takes));
+      clean = record-fields k n d fs h;
+      takes = takes-row st fs (c .first ∷ c .rows) (c .version) (c .channels) (c .days) (record-fields k n d fs h) t (rw (h .indicator) (c .takes));
     }
 
 -- ---- of each kind
@@ -59,7 +59,7 @@ with-900 st m f =
       channels = st .channels;
       days = st .days;
       kind = is-900 .indicator;
-      clean = record-fields 900 0 sample900 is-900;
+      clean = record-fields 900 0 0 sample900 is-900;
       takes = takes-end sample900 (st .version) (st .channels) (st .days) st is-900 m f refl refl refl;
     }
 
@@ -67,14 +67,15 @@ pub with-500 : (st : Due) → inDay (st .expect) ≡ true → NoneOpen st → Co
 unfolding afterOf
 with-500 st m f =
     let e : Extra (st .date) sample500 = (is-500, λ l. absurd (let z : ⊥ = omega (arith, untimed-500) in z)) in
-    ahead st sample500 500 0 900 is-500 (pass-500 st sample500 e m f) (with-900 (on500 st sample500) refl (λ z. absurd (false≢true z)))
+    ahead st sample500 500 0 0 900 is-500 (pass-500 st sample500 e m f) (with-900 (on500 st sample500) refl (λ z. absurd (false≢true z)))
 
 pub with-300 : (st : Due) → mayCome (st .expect) 300 ≡ true → NoneOpen st → st .date < 21991231 → Comes st 300
 unfolding afterOf
 with-300 st m f l =
     let fs : Record = sample300 (st .n) in
     let e = plain-300 (st .n) in
-    ahead st fs 300 (st .n) 900 (is-300 (st .n)) (pass-300 st fs (is-300 (st .n)) (rw (date-300 (st .n)) l) m f)
+    let i = is-300 (st .n) (st .decimals) in
+    ahead st fs 300 (st .n) (st .decimals) 900 i (pass-300 st fs i (rw (date-300 (st .n)) l) m f)
     (with-900 (on300 st fs) (rw e) (λ z. absurd (false≢true (rw e at z))))
 
 -- where the cover is not complete
@@ -84,7 +85,7 @@ with-400 st s x l =
     let c = complete-cover (st .n) (st .next) l (w .1) (st .shared) (s .several x) in
     go (c .runs) (c .each) (c .covers) (c .apart)
   where
-    go : (rs : List Record) → Each (IsRecord 400 0) rs → Covers (st .n) (st .next) rs → Apart (st .shared) rs → Comes st 400
+    go : (rs : List Record) → Each (IsRecord 400 0 0) rs → Covers (st .n) (st .next) rs → Apart (st .shared) rs → Comes st 400
     go [] h cv a = absurd (let z : ⊥ = omega arith in z)
     go (r ∷ rs) h cv a =
         record {
@@ -94,7 +95,7 @@ with-400 st s x l =
           channels = st .channels;
           days = st .days;
           kind = h .0 .indicator;
-          clean = record-fields 400 0 r (h .0);
+          clean = record-fields 400 0 0 r (h .0);
           takes =
               takes-runs (r ∷ rs) (sample900 ∷ []) (st .version) (st .channels) (st .days) st x (s .counted x) h cv a
               (λ after k f. takes-end sample900 (st .version) (st .channels) (st .days) after is-900 (implied inDay (λ y. mayCome y 900) refl (after .expect) (f .inside)) (f .full)
@@ -104,28 +105,28 @@ with-400 st s x l =
 pub with-550 : (st : Due) → mayCome (st .expect) 550 ≡ true → Comes st 550
 unfolding afterOf
 with-550 st m =
-    ahead st sample550 550 0 900 is-550
+    ahead st sample550 550 0 0 900 is-550
     (pass st sample550 550 is-550 (λ z. omega arith) (λ z. omega arith) (λ z. omega arith) m (λ z. excluded (λ y. mayCome y 550) inVaried refl (st .expect) m z))
     (with-900 (on550 st sample550) refl (λ z. absurd (false≢true z)))
 
 pub with-250 : (st : Due) → mayCome (st .expect) 250 ≡ true → Comes st 250
 unfolding afterOf
 with-250 st m =
-    ahead st sample250 250 0 900 is-250
+    ahead st sample250 250 0 0 900 is-250
     (pass st sample250 250 is-250 (λ z. omega arith) (λ z. omega arith) (λ z. omega arith) m (λ z. excluded (λ y. mayCome y 250) inVaried refl (st .expect) m z))
     (with-900 (on250 st sample250) refl (λ z. absurd (false≢true z)))
 
 pub with-200 : (st : Due) → mayCome (st .expect) 200 ≡ true → NoneOpen st → Comes st 200
 unfolding afterOf
 with-200 st m f =
-    ahead st sample200 200 0 300 is-200 (pass st sample200 200 is-200 (λ z. omega arith) (λ z. omega arith) (λ z. omega arith) m f)
+    ahead st sample200 200 0 0 300 is-200 (pass st sample200 200 is-200 (λ z. omega arith) (λ z. omega arith) (λ z. omega arith) m f)
     (with-300 (on200 st sample200) refl (λ z. absurd (false≢true z)) (omega arith))
 
 pub with-100 : (st : Due) → mayCome (st .expect) 100 ≡ true → Comes st 100
 unfolding afterOf
 with-100 st m =
     let e = version-100 in
-    ahead st sample100 100 0 200 is-100
+    ahead st sample100 100 0 0 200 is-100
     (pass st sample100 100 is-100 (λ z. omega arith) (λ z. omega arith) (λ z. omega arith) m (λ z. excluded (λ y. mayCome y 100) inVaried refl (st .expect) m z))
     (with-200 (on100 st sample100) (rw e) (λ z. absurd (false≢true (rw e at z))))
 

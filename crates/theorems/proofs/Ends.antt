@@ -16,17 +16,18 @@ use Rattle.ground.proofs.Tests.{and-true, or-other}
 use Rattle.ground.proofs.Cases.{by, both}
 use Rattle.ground.proofs.Digits.{digit-not, all-map}
 use Rattle.format.specs.Bytes.{isCapital, isLetter, isAlnum, endSpace, isText, areAll}
-use Rattle.format.specs.Texts.{isNmi, isSuffix, isStream, isParty, isConfiguration, isRegister, isSerial, isUnit, isServiceOrder, isDescription, isDirection, isTransCode, versionOf}
-use Rattle.format.specs.Numbers.{isNumber, numberIn, that, orEmpty, numberOf, smallOf, leadingZero, intervalOf, lengthOf, isLength, noReason, reasonOf, point, before, behind, times, fractionOf, amount, decimals, valueOf, areDigits, isRead, isIndexRead}
+use Rattle.format.specs.Texts.{isNmi, isSuffix, isStream, isParty, isConfiguration, isRegister, isSerial, isServiceOrder, isDescription, isDirection, isTransCode, versionOf}
+use Rattle.format.specs.Numbers.{isNumber, numberIn, that, orEmpty, numberOf, smallOf, leadingZero, intervalOf, lengthOf, isLength, noReason, reasonOf, point, before, behind, times, fractionOf, amount, valueOf, areDigits, isRead, isIndexRead}
 use Rattle.format.specs.Dates.{isDate, isTime, isMinute, dateOf, timeOf, createdOf, nextReadOf, loadOf, isReadTime, takenOf, readTimeOf}
 use Rattle.format.specs.Quality.{standsAlone, takesMethod, noMethod, withMethod, qualityOf, isGraded}
-use Rattle.format.specs.Records.{isKind, indicatorOf, kindIn, rowOf, obeys}
+use Rattle.format.specs.Records.{Scale, isKind, indicatorOf, kindIn, rowOf, obeys}
 use Rattle.format.specs.declared.Number.{Number}
 use Rattle.format.specs.declared.Number.the-variants.{Is, Bad}
 use Rattle.format.specs.declared.Graded.{Graded}
 use Rattle.format.specs.declared.Graded.the-variants.{Of}
 use Rattle.format.specs.declared.Rule.{Rule}
 use Rattle.format.specs.declared.Rule.the-variants.{Indicator, Version, Created, Party, Nmi, Configuration, Register, Suffix, Stream, Serial, Unit, Length, NextRead, Date, Value, Quality, Reason, Description, Time, Load, Interval, TransCode, ServiceOrder, ReadTime, IndexRead, Direction, RegisterRead}
+use Rattle.format.proofs.Units.{unit-are-letters}
 use Rattle.theorems.specs.Grammar.{Each}
 
 -- ---- lists without a space
@@ -138,13 +139,13 @@ split-tidy : (s : List ℕ) → all isDigit (before s) ≡ true → all isDigit 
 split-tidy s h k =
     no-space s (all-point (other 32) s (all-map isDigit (other 32) digit-byte (before s) h) (all-map isDigit (other 32) digit-byte (behind s) k) refl)
 
-value-tidy : (s : List ℕ) → isNumber (valueOf decimals s) ≡ true → endSpace s ≡ false
+value-tidy : (d : ℕ) (s : List ℕ) → isNumber (valueOf d s) ≡ true → endSpace s ≡ false
 unfolding valueOf fractionOf
-value-tidy s h =
+value-tidy d s h =
     by (eqb (point s) (length s))
     (λ e. number-tidy 1 7 s (amount-parts (numberOf 1 7 s) (Is 0) (rw e at h) .0))
     (λ e.
-    let u = amount-parts (numberOf 1 7 (before s)) (fractionOf decimals (behind s)) (rw e at h) in
+    let u = amount-parts (numberOf 1 7 (before s)) (fractionOf d (behind s)) (rw e at h) in
     split-tidy s (number-digits 1 7 (before s) (u .0)) (number-digits 1 _ (behind s) (of-times _ (numberOf 1 _ (behind s)) (u .1))))
 
 digits-all : (s : List ℕ) → areDigits s ≡ true → all isDigit s ≡ true
@@ -241,8 +242,8 @@ unfolding obeys isSerial
 serial k f h = text-tidy 0 12 f h
 
 unit : Tidy Unit
-unfolding obeys isUnit
-unit k f h = are-tidy isLetter letter-byte f 1 5 h
+unfolding obeys
+unit k f h = all-tidy isLetter letter-byte f (unit-are-letters f h)
 
 interval-length : Tidy Length
 unfolding obeys lengthOf
@@ -256,9 +257,9 @@ date : Tidy Date
 unfolding obeys dateOf
 date k f h = that-tidy isDate 8 f h
 
-value : Tidy Value
+value : (d : ℕ) → Tidy (Value d)
 unfolding obeys
-value k f h = value-tidy f h
+value d k f h = value-tidy d f h
 
 quality : Tidy Quality
 unfolding obeys
@@ -322,9 +323,9 @@ indicator-tidy f fs h = number-tidy 3 3 f (of-that isKind (numberOf 3 3 f) (some
 
 -- ---- each row
 
-values : (n : ℕ) (us : List Rule) → Each Tidy us → Each Tidy (replicate n Value ++ us)
-values zero us h = h
-values (suc n) us h = (value, values n us h)
+values : (n d : ℕ) (us : List Rule) → Each Tidy us → Each Tidy (replicate n (Value d) ++ us)
+values zero d us h = h
+values (suc n) d us h = (value d, values n d us h)
 
 -- a row is an indicator and rules that leave no space at an end
 pub record Tidied (us : List Rule) : Type 0 where
@@ -332,15 +333,15 @@ pub record Tidied (us : List Rule) : Type 0 where
   pub is : us ≡ Indicator ∷ tail
   pub tidy : Each Tidy tail
 
-pub tidied : (k n : ℕ) → Tidied (rowOf k n)
+pub tidied : (k : ℕ) (z : Scale) → Tidied (rowOf k z)
 unfolding rowOf
-tidied k n =
+tidied k z =
     by (eqb k 100) (λ e. rw e (record { tail = _; is = refl; tidy = (version, (created, (party, (party, tt)))) }))
     λ e₁. by (eqb k 200)
     (λ e. rw (e₁, e) (record { tail = _; is = refl; tidy = (nmi, (configuration, (register, (suffix, (stream, (serial, (unit, (interval-length, (next-read, tt))))))))) }))
     λ e₂. by (eqb k 300)
     (λ e. rw (e₁, e₂, e)
-    (record { tail = _; is = refl; tidy = (date, values n (Quality ∷ Reason ∷ Description ∷ Time ∷ Load ∷ []) (quality, (reason, (description, (time, (load, tt)))))) }))
+    (record { tail = _; is = refl; tidy = (date, values (z .n) (z .decimals) (Quality ∷ Reason ∷ Description ∷ Time ∷ Load ∷ []) (quality, (reason, (description, (time, (load, tt)))))) }))
     λ e₃. by (eqb k 400)
     (λ e. rw (e₁, e₂, e₃, e) (record { tail = _; is = refl; tidy = (interval, (interval, (quality, (reason, (description, tt))))) }))
     λ e₄. by (eqb k 500)
@@ -384,7 +385,7 @@ tidied k n =
                                       reason,
                                       (
                                         description,
-                                        (value, (unit, (next-read, (time, (load, tt))))),
+                                        (value (z .decimals), (unit, (next-read, (time, (load, tt))))),
                                       ),
                                     ),
                                   ),

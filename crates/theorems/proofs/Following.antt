@@ -13,7 +13,7 @@ use Rattle.ground.proofs.Cases.{by, same-or}
 use Rattle.format.specs.Cut.{line, rest, lines, fields}
 use Rattle.format.specs.Records.{kindIn}
 use Rattle.format.specs.Order.{mayCome, inVaried, Due, begun}
-use Rattle.format.specs.Faults.{size, faultOf}
+use Rattle.format.specs.Faults.{scaleOf, faultOf}
 use Rattle.format.specs.Answers.{refused}
 use Rattle.format.specs.File.{walkOf, checkOf}
 use Rattle.format.specs.declared.Fault.the-variants.{Stop}
@@ -78,14 +78,14 @@ module _ (st : Due) (r : List ℕ) where
   entries5 =
       let fs = fields r in
       let k = kindIn fs in
-      let n = size st k in
-      entry5 st k n fs ∷ entry6 st k n fs ∷ entry7 st k n fs ∷ entry8 st k n fs ∷ entry9 st k n fs ∷ entry11 st k n fs ∷ entry12 st k n fs ∷ []
+      let z = scaleOf st k fs in
+      entry5 st k z fs ∷ entry6 st k z fs ∷ entry7 st k z fs ∷ entry8 st k z fs ∷ entry9 st k z fs ∷ entry11 st k z fs ∷ entry12 st k z fs ∷ []
 
   abbrev asks4 : Entry
-  asks4 = entry4 st (kindIn (fields r)) (size st (kindIn (fields r))) (fields r)
+  asks4 = entry4 st (kindIn (fields r)) (scaleOf st (kindIn (fields r)) (fields r)) (fields r)
 
   abbrev asks10 : Entry
-  asks10 = entry10 st (kindIn (fields r)) (size st (kindIn (fields r))) (fields r)
+  asks10 = entry10 st (kindIn (fields r)) (scaleOf st (kindIn (fields r)) (fields r)) (fields r)
 
   later-10 : (x o i : ℕ) → x ≢ 3 → x ≢ 10 → First x o i (inOrder st r) → Never asks10 × First x o i (asks4 ∷ entries5)
   later-10 x o i n₃ n f = asked x o i asks10 (asks4 ∷ entries5) n (asked x o i (entry3 r) (asks10 ∷ asks4 ∷ entries5) n₃ f .1)
@@ -180,7 +180,7 @@ module _ (file : List ℕ) (x q k i : ℕ) (w : Refusal file x q k i) where
       let st : Due = stateAt k file in
       let f = fit-there file x q k i w (m .0) (m .2) in
       let a = fit-300 st (m .0) f (m .1) in
-      omega (arith, a .1, date-most (st .n) (fields (m .0)) (a .0))
+      omega (arith, a .1, date-most (st .n) (st .decimals) (fields (m .0)) (a .0))
 
   none-covers : stateAt k file .n < stateAt k file .next → KindMayFollow (bytesBefore k file) 400 → ⊥
   none-covers l m =

@@ -15,9 +15,9 @@ use Rattle.ground.proofs.Cases.{by}
 use Rattle.ground.proofs.Spans.{spanned-all, span-le}
 use Rattle.format.specs.Bytes.{plain}
 use Rattle.format.specs.Cut.{fields, field, startOf}
-use Rattle.format.specs.Records.{kindIn, countOf, ruleOf, obeys, dateIn, firstIn, lastIn, readTimeIn, qualitiesOf, markAt, agrees}
+use Rattle.format.specs.Records.{Scale, kindIn, countOf, ruleOf, obeys, dateIn, firstIn, lastIn, readTimeIn, qualitiesOf, markAt, agrees}
 use Rattle.format.specs.Order.{mayCome, inVaried, Due, alikeWith}
-use Rattle.format.specs.Faults.{_▹_, stop, f3, isOpen, f10, f4, size, f5, faultIn, f6, brokenIn, f7, isNotLater, f8, covers, isOff, f9, isAlike, f11, onDay, isElsewhere, f12, faultAt, faultOf}
+use Rattle.format.specs.Faults.{_▹_, stop, f3, isOpen, f10, f4, scaleOf, f5, faultIn, f6, brokenIn, f7, isNotLater, f8, covers, isOff, f9, isAlike, f11, onDay, isElsewhere, f12, faultAt, faultOf}
 use Rattle.format.specs.declared.Fault.{Fault}
 use Rattle.format.specs.declared.Fault.the-variants.{Fine, Stop}
 use Rattle.theorems.specs.Grammar.{Record, Together}
@@ -68,37 +68,37 @@ link-3 r =
     let w : plain (getD r o 0) ≡ true = all-at plain r o (spanned-all plain r (omega (arith, span-le plain r))) (g .0) in
     true≢false (sym w ∙ g .2))
 
-module _ (st : Due) (k n : ℕ) (fs : Record) where
-  link-10 : Link (f10 st k) (entry10 st k n fs)
+module _ (st : Due) (k : ℕ) (z : Scale) (fs : Record) where
+  link-10 : Link (f10 st k) (entry10 st k z fs)
   unfolding isOpen
   link-10 =
-      test-link (isOpen st k) 0 0 (entry10 st k n fs)
+      test-link (isOpen st k) 0 0 (entry10 st k z fs)
       (λ t.
       let a = and-true (inVaried (st .expect)) (leb (st .next) (st .n) && not (eqb k 400)) t in
       let b = and-true (leb (st .next) (st .n)) (not (eqb k 400)) (a .1) in
       (a .0, leb-true _ _ (b .0), eqb-false _ _ (not-true _ (b .1)), refl, refl))
       (λ t o i g. true≢false (let z : true ≡ false = (rw (g .0, le-leb _ _ (g .1), ne-eqb _ _ (g .2)) at t) in z))
 
-  link-4 : Link (f4 st k) (entry4 st k n fs)
-  link-4 = test-link (not (mayCome (st .expect) k)) 0 0 (entry4 st k n fs) (λ t. (not-true _ t, refl, refl)) (λ t o i g. true≢false (sym (not-false _ t) ∙ g .0))
+  link-4 : Link (f4 st k) (entry4 st k z fs)
+  link-4 = test-link (not (mayCome (st .expect) k)) 0 0 (entry4 st k z fs) (λ t. (not-true _ t, refl, refl)) (λ t o i g. true≢false (sym (not-false _ t) ∙ g .0))
 
-  link-5 : Link (f5 k n fs) (entry5 st k n fs)
+  link-5 : Link (f5 k z fs) (entry5 st k z fs)
   link-5 =
-      test-link (not (eqb (length fs) (countOf k n))) 0 0 (entry5 st k n fs)
+      test-link (not (eqb (length fs) (countOf k z))) 0 0 (entry5 st k z fs)
       (λ t. (eqb-false _ _ (not-true _ t), refl, refl))
       (λ t o i g. g .0 (eqb-true _ _ (not-false _ t)))
 
-  link-8 : Link (f8 st k fs) (entry8 st k n fs)
+  link-8 : Link (f8 st k fs) (entry8 st k z fs)
   unfolding isNotLater
   link-8 =
-      test-link (isNotLater st k fs) (startOf 1 fs) 2 (entry8 st k n fs)
+      test-link (isNotLater st k fs) (startOf 1 fs) 2 (entry8 st k z fs)
       (λ t. let a = and-true (eqb k 300) (leb (dateIn fs) (st .date)) t in (eqb-true _ _ (a .0), leb-true _ _ (a .1), refl, refl))
       (λ t o i g. true≢false (let z : true ≡ false = (rw (eq-eqb _ _ (g .0), le-leb _ _ (g .1)) at t) in z))
 
-  link-9 : Link (f9 st k fs) (entry9 st k n fs)
+  link-9 : Link (f9 st k fs) (entry9 st k z fs)
   unfolding isOff covers
   link-9 =
-      test-link (isOff st k fs) (startOf 1 fs) 2 (entry9 st k n fs)
+      test-link (isOff st k fs) (startOf 1 fs) 2 (entry9 st k z fs)
       (λ t.
       let a = and-true (eqb k 400) (not (covers st fs)) t in (
         eqb-true _ _ (a .0),
@@ -112,20 +112,20 @@ module _ (st : Due) (k n : ℕ) (fs : Record) where
       let b = and-true (leb (firstIn fs) (lastIn fs)) (leb (lastIn fs) (st .n)) (a .1) in
       g .1 (eqb-true _ _ (a .0), leb-true _ _ (b .0), leb-true _ _ (b .1)))
 
-  link-11 : Link (f11 st k fs) (entry11 st k n fs)
+  link-11 : Link (f11 st k fs) (entry11 st k z fs)
   unfolding isAlike
   link-11 =
-      test-link (isAlike st k fs) 0 0 (entry11 st k n fs)
+      test-link (isAlike st k fs) 0 0 (entry11 st k z fs)
       (λ t.
       let a = and-true (eqb k 400) (eqb (lastIn fs) (st .n) && alikeWith st fs) t in
       let b = and-true (eqb (lastIn fs) (st .n)) (alikeWith st fs) (a .1) in
       (eqb-true _ _ (a .0), eqb-true _ _ (b .0), b .1, refl, refl))
       (λ t o i g. true≢false (let z : true ≡ false = (rw (eq-eqb _ _ (g .0), eq-eqb _ _ (g .1), g .2) at t) in z))
 
-  link-12 : Link (f12 st k fs) (entry12 st k n fs)
+  link-12 : Link (f12 st k fs) (entry12 st k z fs)
   unfolding isElsewhere
   link-12 =
-      test-link (isElsewhere st k fs) (startOf 3 fs) 4 (entry12 st k n fs)
+      test-link (isElsewhere st k fs) (startOf 3 fs) 4 (entry12 st k z fs)
       (λ t.
       let a = and-true (eqb k 500) (not (onDay (st .date) (readTimeIn fs))) t in
       let b : onDay (st .date) (readTimeIn fs) ≡ false = not-true _ (a .1) in (
@@ -140,13 +140,13 @@ module _ (st : Due) (k n : ℕ) (fs : Record) where
 -- ---- 6
 
 -- of fields from the number a on, the one that is the j-th from there is the leftmost that breaks its rule
-record Breaks (k n a : ℕ) (fs : Record) (j : ℕ) : Type 0 where
+record Breaks (k : ℕ) (z : Scale) (a : ℕ) (fs : Record) (j : ℕ) : Type 0 where
   inside : j < length fs
-  broken : obeys k (ruleOf k n (a + j)) (field j fs) ≡ false
-  before : (l : ℕ) → l < j → obeys k (ruleOf k n (a + l)) (field l fs) ≡ true
+  broken : obeys k (ruleOf k z (a + j)) (field j fs) ≡ false
+  before : (l : ℕ) → l < j → obeys k (ruleOf k z (a + l)) (field l fs) ≡ true
 
-module _ (k n : ℕ) where
-  break-on : (a : ℕ) (f : List ℕ) (fs : Record) (j : ℕ) → obeys k (ruleOf k n a) f ≡ true → Breaks k n (a + 1) fs j → Breaks k n a (f ∷ fs) (suc j)
+module _ (k : ℕ) (z : Scale) where
+  break-on : (a : ℕ) (f : List ℕ) (fs : Record) (j : ℕ) → obeys k (ruleOf k z a) f ≡ true → Breaks k z (a + 1) fs j → Breaks k z a (f ∷ fs) (suc j)
   break-on a f fs j t b =
       let e : (l : ℕ) → a + suc l ≡ a + 1 + l = λ l. omega arith in
       record {
@@ -155,15 +155,15 @@ module _ (k n : ℕ) where
         before = earlier;
       }
     where
-      earlier : (l : ℕ) → l < suc j → obeys k (ruleOf k n (a + l)) (field l (f ∷ fs)) ≡ true
+      earlier : (l : ℕ) → l < suc j → obeys k (ruleOf k z (a + l)) (field l (f ∷ fs)) ≡ true
       earlier zero h = let z : a + 0 ≡ a = omega arith in rw z t
       earlier (suc l) h = let z : a + suc l ≡ a + 1 + l = omega arith in rw z (b .before l (omega arith))
 
-  fault-breaks : (o a : ℕ) (fs : Record) (x p i : ℕ) → faultIn k n o a fs ≡ Stop x p i → (x ≡ 6) × (j : ℕ) × Breaks k n a fs j × (p ≡ o + startOf j fs) × (i ≡ a + j + 1)
+  fault-breaks : (o a : ℕ) (fs : Record) (x p i : ℕ) → faultIn k z o a fs ≡ Stop x p i → (x ≡ 6) × (j : ℕ) × Breaks k z a fs j × (p ≡ o + startOf j fs) × (i ≡ a + j + 1)
   unfolding faultIn startOf
   fault-breaks o a [] x p i e = absurd (let z : true ≡ false = cc in true≢false z)
   fault-breaks o a (f ∷ fs) x p i e =
-      by (obeys k (ruleOf k n a) f)
+      by (obeys k (ruleOf k z a) f)
       (λ t.
       let w = fault-breaks (o + length f + 1) (a + 1) fs x p i (rw t at e) in
       (w .0, suc (w .1), break-on a f fs (w .1) t (w .2), omega (arith, w .3), omega (arith, w .4)))
@@ -175,29 +175,29 @@ module _ (k n : ℕ) where
       let ei : i ≡ a + 1 = cc in
       (ex, 0, record { inside = omega arith; broken = rw z t; before = λ l h. absurd (let u : ⊥ = omega arith in u) }, omega arith, omega arith))
 
-  fine-first : (o a : ℕ) (f : List ℕ) (fs : Record) → faultIn k n o a (f ∷ fs) ≡ Fine → (obeys k (ruleOf k n a) f ≡ true) × (faultIn k n (o + length f + 1) (a + 1) fs ≡ Fine)
+  fine-first : (o a : ℕ) (f : List ℕ) (fs : Record) → faultIn k z o a (f ∷ fs) ≡ Fine → (obeys k (ruleOf k z a) f ≡ true) × (faultIn k z (o + length f + 1) (a + 1) fs ≡ Fine)
   unfolding faultIn
   fine-first o a f fs e =
-      by (obeys k (ruleOf k n a) f) (λ t. (t, rw t at e)) (λ t. absurd (let y : Stop 6 o (a + 1) ≡ Fine = (rw t at e) in let z : true ≡ false = cc in true≢false z))
+      by (obeys k (ruleOf k z a) f) (λ t. (t, rw t at e)) (λ t. absurd (let y : Stop 6 o (a + 1) ≡ Fine = (rw t at e) in let z : true ≡ false = cc in true≢false z))
 
-  fine-unbroken : (o a : ℕ) (fs : Record) → faultIn k n o a fs ≡ Fine → (j : ℕ) → j < length fs → obeys k (ruleOf k n (a + j)) (field j fs) ≡ true
+  fine-unbroken : (o a : ℕ) (fs : Record) → faultIn k z o a fs ≡ Fine → (j : ℕ) → j < length fs → obeys k (ruleOf k z (a + j)) (field j fs) ≡ true
   fine-unbroken o a [] e j h = absurd (let z : ⊥ = omega arith in z)
   fine-unbroken o a (f ∷ fs) e zero h = let z : a + 0 ≡ a = omega arith in rw z (fine-first o a f fs e .0)
   fine-unbroken o a (f ∷ fs) e (suc j) h =
       let z : a + suc j ≡ a + 1 + j = omega arith in
       rw z (fine-unbroken (o + length f + 1) (a + 1) fs (fine-first o a f fs e .1) j (omega arith))
 
-  link-6 : (st : Due) (fs : Record) → Link (f6 k n fs) (entry6 st k n fs)
+  link-6 : (st : Due) (fs : Record) → Link (f6 k z fs) (entry6 st k z fs)
   link-6 st fs =
       record {
         stops = λ x o i e.
             (let w = fault-breaks 0 0 fs x o i e in
             let b = w .2 in
-            let z : (l : ℕ) → 0 + l ≡ l = λ l. omega arith in
-            (w .0, (w .1, b .inside, rw (z (w .1)) at (b .broken), λ l h. rw (z l) at (b .before l h), omega (arith, w .3), omega (arith, w .4))));
+            let y : (l : ℕ) → 0 + l ≡ l = λ l. omega arith in
+            (w .0, (w .1, b .inside, rw (y (w .1)) at (b .broken), λ l h. rw (y l) at (b .before l h), omega (arith, w .3), omega (arith, w .4))));
         fine = λ e o i g.
-            (let z : 0 + g .0 ≡ g .0 = omega arith in
-            let t : obeys k (ruleOf k n (g .0)) (field (g .0) fs) ≡ true = rw z at (fine-unbroken 0 0 fs e (g .0) (g .1)) in
+            (let y : 0 + g .0 ≡ g .0 = omega arith in
+            let t : obeys k (ruleOf k z (g .0)) (field (g .0) fs) ≡ true = rw y at (fine-unbroken 0 0 fs e (g .0) (g .1)) in
             true≢false (sym t ∙ g .2));
       }
 
@@ -227,11 +227,11 @@ module _ (k : ℕ) (fs : Record) where
       (λ t. let y : Stop 7 (startOf a fs) (a + 1) ≡ Fine = (rw t at e) in let z : true ≡ false = cc in true≢false z)
   unbroken-none (a ∷ js) j e (inr w) = unbroken-none js j (rw (together-agrees (markAt k a fs) (w .0)) at e) (w .1)
 
-  link-7 : (st : Due) (n : ℕ) → Link (f7 k n fs) (entry7 st k n fs)
-  link-7 st n =
+  link-7 : (st : Due) (z : Scale) → Link (f7 k (z .n) fs) (entry7 st k z fs)
+  link-7 st z =
       record {
-        stops = λ x o i e. (let w = broken-leftmost (qualitiesOf k n) x o i e in (w .0, (w .1, w .2, w .3, w .4)));
-        fine = λ e o i g. unbroken-none (qualitiesOf k n) (g .0) e (g .1);
+        stops = λ x o i e. (let w = broken-leftmost (qualitiesOf k (z .n)) x o i e in (w .0, (w .1, w .2, w .3, w .4)));
+        fine = λ e o i g. unbroken-none (qualitiesOf k (z .n)) (g .0) e (g .1);
       }
 
 -- ---- the chain
@@ -254,17 +254,17 @@ unfolding faultOf faultAt
 says st r =
     let fs : Record = fields r in
     let k : ℕ = kindIn fs in
-    let n : ℕ = size st k in
+    let z : Scale = scaleOf st k fs in
     says-on _ _ _ _ (link-3 r)
-    (says-on _ _ _ _ (link-10 st k n fs)
-    (says-on _ _ _ _ (link-4 st k n fs)
-    (says-on _ _ _ _ (link-5 st k n fs)
-    (says-on _ _ _ _ (link-6 k n st fs)
-    (says-on _ _ _ _ (link-7 k fs st n)
-    (says-on _ _ _ _ (link-8 st k n fs)
-    (says-on _ _ _ _ (link-9 st k n fs)
-    (says-on _ _ _ _ (link-11 st k n fs)
-    (says-last _ _ (link-12 st k n fs))))))))))
+    (says-on _ _ _ _ (link-10 st k z fs)
+    (says-on _ _ _ _ (link-4 st k z fs)
+    (says-on _ _ _ _ (link-5 st k z fs)
+    (says-on _ _ _ _ (link-6 k z st fs)
+    (says-on _ _ _ _ (link-7 k fs st z)
+    (says-on _ _ _ _ (link-8 st k z fs)
+    (says-on _ _ _ _ (link-9 st k z fs)
+    (says-on _ _ _ _ (link-11 st k z fs)
+    (says-last _ _ (link-12 st k z fs))))))))))
 
 -- ---- both ways
 
@@ -312,15 +312,15 @@ single-3 r o i p j a b = (
         let w : plain (getD (take t r) s 0) ≡ true = all-at plain (take t r) s k (omega (arith, length-take t r)) in
         rw (getD-take t r s 0 l) at w
 
-module _ (st : Due) (k n : ℕ) (fs : Record) where
-  single-6 : Single (entry6 st k n fs)
+module _ (st : Due) (k : ℕ) (z : Scale) (fs : Record) where
+  single-6 : Single (entry6 st k z fs)
   single-6 o i p j a b =
       let e : a .0 ≡ b .0 = leftmost-place (a .0) (b .0) (λ l. true≢false (sym (b .3 (a .0) l) ∙ a .2)) (λ l. true≢false (sym (a .3 (b .0) l) ∙ b .2)) in
       (a .4 ∙ rw e (sym (b .4)), a .5 ∙ rw e (sym (b .5)))
 
-  single-7 : Single (entry7 st k n fs)
+  single-7 : Single (entry7 st k z fs)
   single-7 o i p j a b =
-      let e : a .0 ≡ b .0 = one (qualitiesOf k n) (a .0) (b .0) (a .1) (b .1) in
+      let e : a .0 ≡ b .0 = one (qualitiesOf k (z .n)) (a .0) (b .0) (a .1) (b .1) in
       (a .2 ∙ rw e (sym (b .2)), a .3 ∙ rw e (sym (b .3)))
     where
       one : (js : List ℕ) (u v : ℕ) → Leftmost (λ c. Together (markAt k c fs)) u js → Leftmost (λ c. Together (markAt k c fs)) v js → u ≡ v
@@ -334,7 +334,7 @@ singles : (st : Due) (r : List ℕ) → Singles (inOrder st r)
 singles st r =
     let fs : Record = fields r in
     let k : ℕ = kindIn fs in
-    let n : ℕ = size st k in (
+    let z : Scale = scaleOf st k fs in (
       single-3 r,
       (
         λ o i p j a b. (a .3 ∙ sym (b .3), a .4 ∙ sym (b .4)),
@@ -343,9 +343,9 @@ singles st r =
           (
             λ o i p j a b. (a .1 ∙ sym (b .1), a .2 ∙ sym (b .2)),
             (
-              single-6 st k n fs,
+              single-6 st k z fs,
               (
-                single-7 st k n fs,
+                single-7 st k z fs,
                 (
                   λ o i p j a b. (a .2 ∙ sym (b .2), a .3 ∙ sym (b .3)),
                   (

@@ -11,7 +11,7 @@ use Rattle.ground.specs.Lists.{sum}
 use Rattle.ground.proofs.Cases.{by}
 use Rattle.format.specs.Cut.{lines}
 use Rattle.format.specs.Quality.{Mark, noMark}
-use Rattle.format.specs.Records.{rowOf, intervalsIn, millionths, valuesIn, firstIn, lastIn, markAt, markIn}
+use Rattle.format.specs.Records.{scale, rowOf, unitIn, intervalsIn, millionths, valuesIn, firstIn, lastIn, markAt, markIn}
 use Rattle.format.specs.Order.{isVaried}
 use Rattle.format.specs.Day.{Row, daysOf, coverOf, eachOf, valuesOf, marksOf, dayOf}
 use Rattle.format.specs.Total.{totalsFrom}
@@ -33,13 +33,13 @@ cover-anywhere p q [] = refl
 cover-anywhere p q (r ∷ rs) =
     ap (λ (ms : List Mark). replicate (lastIn r + 1 - firstIn r) (markIn r) ++ ms) (cover-anywhere (p + length (join r) + 2) (q + length (join r) + 2) rs)
 
-pub day-anywhere : (p n : ℕ) (b : Block) → dayOf (blockAt p n b) ≡ dayIn n b
+pub day-anywhere : (p n u : ℕ) (b : Block) → dayOf (blockAt p n u b) ≡ dayIn n u b
 unfolding dayIn dayOf marksOf eachOf valuesOf
-day-anywhere p n b = rw (cover-anywhere (p + length (join (b .top)) + 2) (0 + length (join (b .top)) + 2) (b .runs))
+day-anywhere p n u b = rw (cover-anywhere (p + length (join (b .top)) + 2) (0 + length (join (b .top)) + 2) (b .runs))
 
-block-meanings : (p : ℕ) (c : Row) (bs : List Block) → map meant (blockDays p c bs) ≡ blockMeanings (intervalsIn (c .cells)) bs
+block-meanings : (p : ℕ) (c : Row) (bs : List Block) → map meant (blockDays p c bs) ≡ blockMeanings (intervalsIn (c .cells)) (unitIn (c .cells)) bs
 block-meanings p c [] = refl
-block-meanings p c (b ∷ bs) = rw (day-anywhere p (intervalsIn (c .cells)) b, block-meanings (behind p (rowsOf b)) c bs)
+block-meanings p c (b ∷ bs) = rw (day-anywhere p (intervalsIn (c .cells)) (unitIn (c .cells)) b, block-meanings (behind p (rowsOf b)) c bs)
 
 channel-meanings : (p : ℕ) (cs : List Channel) → map meant (channelDays p cs) ≡ channelMeanings cs
 channel-meanings p [] = refl
@@ -96,20 +96,20 @@ total-count file v c d h = ap length (channel-totals file v c d h) ∙ totals-co
 
 -- ---- every interval has its value and its mark
 
-module _ (n : ℕ) (b : Block) (h : IsBlock n b) where
-  pub value-count : length (dayIn n b .values) ≡ n
+module _ (n d u : ℕ) (b : Block) (h : IsBlock n d b) where
+  pub value-count : length (dayIn n u b .values) ≡ n
   unfolding dayIn dayOf valuesOf valuesIn
   value-count =
       let fs : Record = b .top in
       length-map (take n (drop 2 fs)) millionths
-      ∙ omega (arith, length-take n (drop 2 fs), length-drop 2 fs, meets-length 300 (rowOf 300 n) fs (h .top .meets), row-length n)
+      ∙ omega (arith, length-take n (drop 2 fs), length-drop 2 fs, meets-length 300 (rowOf 300 (scale n d)) fs (h .top .meets), row-length (scale n d))
 
   -- the marks of a 300 that is not V are its own
-  pub uniform-marks : isVaried n (b .top) ≡ false → dayIn n b .marks ≡ replicate n (markAt 300 (n + 2) (b .top))
+  pub uniform-marks : isVaried n (b .top) ≡ false → dayIn n u b .marks ≡ replicate n (markAt 300 (n + 2) (b .top))
   unfolding dayIn dayOf marksOf eachOf
   uniform-marks e = rw e
 
-  pub varied-marks : isVaried n (b .top) ≡ true → dayIn n b .marks ≡ coverOf marked (rowsAt 0 (b .runs))
+  pub varied-marks : isVaried n (b .top) ≡ true → dayIn n u b .marks ≡ coverOf marked (rowsAt 0 (b .runs))
   unfolding dayIn dayOf marksOf eachOf
   varied-marks e = rw e (cover-anywhere (0 + length (join (b .top)) + 2) 0 (b .runs))
 
@@ -123,11 +123,11 @@ cover-count n a p (r ∷ rs) c =
     let l = c .1 in
     omega (arith, length-append (replicate m (markIn r)) (coverOf marked (rowsAt q rs)), length-replicate m (markIn r), cover-count n (lastIn r + 1) q rs (c .3))
 
-pub mark-count : (n : ℕ) (b : Block) → IsBlock n b → length (dayIn n b .marks) ≡ n
-mark-count n b h =
+pub mark-count : (n d u : ℕ) (b : Block) → IsBlock n d b → length (dayIn n u b .marks) ≡ n
+mark-count n d u b h =
     by (isVaried n (b .top))
-    (λ e. ap length (varied-marks n b h e) ∙ (let w = cover-count n 1 0 (b .runs) (h .covers e) in omega arith))
-    (λ e. ap length (uniform-marks n b h e) ∙ length-replicate n (markAt 300 (n + 2) (b .top)))
+    (λ e. ap length (varied-marks n d u b h e) ∙ (let w = cover-count n 1 0 (b .runs) (h .covers e) in omega arith))
+    (λ e. ap length (uniform-marks n d u b h e) ∙ length-replicate n (markAt 300 (n + 2) (b .top)))
 
 -- of these 400s, each gives its mark to the intervals from its first to its last, where ms has the marks from interval a on
 abbrev pub Gives : ℕ → List Mark → List Record → Type 0
@@ -164,19 +164,19 @@ cover-gives n a p (r ∷ rs) c =
     )
 
 -- on a V day, each 400 gives its mark to the intervals from its first to its last (they count from 1)
-pub interval-marks : (n : ℕ) (b : Block) → IsBlock n b → isVaried n (b .top) ≡ true → Gives 1 (dayIn n b .marks) (b .runs)
-interval-marks n b h e = rw (varied-marks n b h e) (cover-gives n 1 0 (b .runs) (h .covers e))
+pub interval-marks : (n d u : ℕ) (b : Block) → IsBlock n d b → isVaried n (b .top) ≡ true → Gives 1 (dayIn n u b .marks) (b .runs)
+interval-marks n d u b h e = rw (varied-marks n d u b h e) (cover-gives n 1 0 (b .runs) (h .covers e))
 
 -- ---- a V day has two intervals with different marks
 
-pub unlike-intervals : (n : ℕ) (b : Block) → IsBlock n b → isVaried n (b .top) ≡ true → (m : Mark) → Each (λ x. x ≡ m) (dayIn n b .marks) → ⊥
-unlike-intervals n b h e m all = h .unlike e (m, go 1 (b .runs) (omega arith) (h .covers e) (interval-marks n b h e))
+pub unlike-intervals : (n d u : ℕ) (b : Block) → IsBlock n d b → isVaried n (b .top) ≡ true → (m : Mark) → Each (λ x. x ≡ m) (dayIn n u b .marks) → ⊥
+unlike-intervals n d u b h e m all = h .unlike e (m, go 1 (b .runs) (omega arith) (h .covers e) (interval-marks n d u b h e))
   where
-    go : (a : ℕ) (rs : List Record) → 1 ≤ a → Covers n a rs → Gives 1 (dayIn n b .marks) rs → Marked m rs
+    go : (a : ℕ) (rs : List Record) → 1 ≤ a → Covers n a rs → Gives 1 (dayIn n u b .marks) rs → Marked m rs
     go a [] l c g = tt
     go a (r ∷ rs) l c g =
         let x : firstIn r ≡ a = c .0 in
         let y : firstIn r ≤ lastIn r = c .1 in
         let z : lastIn r ≤ n = c .2 in
-        let i : firstIn r - 1 < length (dayIn n b .marks) = omega (arith, mark-count n b h) in
-        (sym (g .0 (firstIn r) (omega arith) y) ∙ each-at (λ x. x ≡ m) noMark (dayIn n b .marks) (firstIn r - 1) all i, go (lastIn r + 1) rs (omega arith) (c .3) (g .1))
+        let i : firstIn r - 1 < length (dayIn n u b .marks) = omega (arith, mark-count n d u b h) in
+        (sym (g .0 (firstIn r) (omega arith) y) ∙ each-at (λ x. x ≡ m) noMark (dayIn n u b .marks) (firstIn r - 1) all i, go (lastIn r + 1) rs (omega arith) (c .3) (g .1))

@@ -4,7 +4,7 @@ use mathlib.Core.Path.{_≡_, refl, sym, ap, _∙_}
 use mathlib.Core.List.{List, [], _∷_, _++_, map, append-assoc}
 use native.Mathlib.Omega.{arith}
 use lib.ListN.{length, drop, length-append, drop-of-length-le}
-use Rattle.format.specs.Records.{intervalsIn}
+use Rattle.format.specs.Records.{unitIn, decimalsIn, intervalsIn}
 use Rattle.format.specs.Day.{Row, DayRows, daysOf, Day}
 use Rattle.format.specs.Answers.{accepted}
 use Rattle.format.specs.File.{checkOf}
@@ -62,7 +62,7 @@ record Stood (file : List ℕ) (p : ℕ) (c : Row) (bs : List Block) (t : List R
   s : List ℕ
   from : From file s (behindBlocks p bs) t
 
-stand-blocks : (file s : List ℕ) (p : ℕ) (c : Row) (bs : List Block) (t : List Record) → IsRecord 200 0 (c .cells) → Each (IsBlock (intervalsIn (c .cells))) bs
+stand-blocks : (file s : List ℕ) (p : ℕ) (c : Row) (bs : List Block) (t : List Record) → IsRecord 200 0 0 (c .cells) → Each (IsBlock (intervalsIn (c .cells)) (decimalsIn (c .cells))) bs
     → From file s p (blocksThen bs t) → Stood file p c bs t
 stand-blocks file s p c [] t h g f = record { each = tt; s = s; from = f }
 stand-blocks file s p c (b ∷ bs) t h g f =
@@ -76,7 +76,7 @@ stand-blocks file s p c (b ∷ bs) t h g f =
           is = rw (← block-text b (blocksThen bs t)) (f .is);
           place = f .place;
           head = c .cells;
-          reads = record { is-head = h; block = b; good = g .0; bytes = refl; is = day-anywhere p (intervalsIn (c .cells)) b };
+          reads = record { is-head = h; block = b; good = g .0; bytes = refl; is = day-anywhere p (intervalsIn (c .cells)) (unitIn (c .cells)) b };
         },
         w .each,
       );

@@ -13,13 +13,14 @@ use Rattle.ground.specs.Text.{bytes}
 use Rattle.ground.specs.Digits.{isDigit, dec}
 use Rattle.ground.proofs.Cases.{by}
 use Rattle.ground.proofs.Digits.{all-dec}
-use Rattle.format.specs.Bytes.{plain, fieldByte, isCapital, isLetter, isAlnum, endSpace, isText, areAll}
-use Rattle.format.specs.Texts.{isNmi, isSuffix, isStream, isParty, isConfiguration, isRegister, isSerial, isUnit, isServiceOrder, isDescription, isDirection, isTransCode, versionOf}
+use Rattle.format.specs.Bytes.{plain, fieldByte, isCapital, capital, isLetter, isAlnum, endSpace, isText, areAll}
+use Rattle.format.specs.Texts.{isNmi, isSuffix, isStream, isParty, isConfiguration, isRegister, isSerial, isServiceOrder, isDescription, isDirection, isTransCode, versionOf}
 use Rattle.format.specs.Numbers.{numberOf, leadingZero, smallOf, intervalOf, isLength, lengthOf, reasonOf, valueOf, areDigits, isRead, isIndexRead}
+use Rattle.format.specs.Units.{units, sameLetters, unitFrom, unitOf, unitAt, decimalsOf, decimalsNamed}
 use Rattle.format.specs.Dates.{isLeap, daysInMonth, isDay, isDate, isTime, isMinute, dateOf, timeOf, createdOf, nextReadOf, loadOf, readTimeOf}
 use Rattle.format.specs.Quality.{standsAlone, takesMethod, qualityOf, isGraded, flagIn, needsReason, across, Mark}
 use Rattle.format.specs.Cut.{fields, field}
-use Rattle.format.specs.Records.{isKind, indicatorOf, kindIn, rowOf, countOf, ruleOf, obeys, versionIn, dateIn, firstIn, lastIn, qualitiesOf, markAt, markIn, agrees}
+use Rattle.format.specs.Records.{scaleFor, isKind, indicatorOf, kindIn, rowOf, countOf, ruleOf, obeys, versionIn, dateIn, firstIn, lastIn, quantityDecimals, qualitiesOf, markAt, markIn, agrees}
 use Rattle.format.specs.Order.{Shared, noneYet, allHave, theyDiffer, isVaried}
 use Rattle.format.specs.Faults.{faultIn, brokenIn}
 use Rattle.format.specs.declared.Number.the-variants.{Is}
@@ -36,13 +37,13 @@ use Rattle.theorems.proofs.Apart.{Apart}
 
 -- ---- by their texts
 
-of-text : (k : ℕ) (l : List ℕ) → (k ≡ 0 → ⊥) → all plain l ≡ true → kindIn (fields l) ≡ k → Ok k 0 (fields l) → IsRecord k 0 (fields l)
-of-text k l z p e o = is-record k 0 (fields l) z (fields-some l, fields-bytes l p) e o
+of-text : (k : ℕ) (l : List ℕ) → (k ≡ 0 → ⊥) → all plain l ≡ true → kindIn (fields l) ≡ k → Ok k (scaleFor k 0 0 (fields l)) (fields l) → IsRecord k 0 0 (fields l)
+of-text k l z p e o = is-record k 0 0 (fields l) z (fields-some l, fields-bytes l p) e o
 
 abbrev pub sample100 : Record
 sample100 = fields (bytes "100,NEM12,200401011200,MDP1,RETAILER")
 
-pub is-100 : IsRecord 100 0 sample100
+pub is-100 : IsRecord 100 0 0 sample100
 unfolding same isDigit endSpace isText areAll isParty versionOf numberOf isLeap daysInMonth isDay isDate isTime isMinute createdOf fields isKind indicatorOf kindIn rowOf countOf ruleOf obeys qualitiesOf faultIn brokenIn
 is-100 = of-text 100 (bytes "100,NEM12,200401011200,MDP1,RETAILER") (λ z. omega arith) refl refl (refl, refl, refl)
 
@@ -53,14 +54,14 @@ version-100 = refl
 abbrev pub sample200 : Record
 sample200 = fields (bytes "200,NEM1234567,E1,1,E1,N1,METER1,kWh,30,")
 
-pub is-200 : IsRecord 200 0 sample200
-unfolding isDigit isCapital isLetter isAlnum endSpace isText areAll isNmi isSuffix isStream isConfiguration isRegister isSerial isUnit numberOf leadingZero smallOf isLength lengthOf nextReadOf fields isKind indicatorOf kindIn rowOf countOf ruleOf obeys qualitiesOf faultIn brokenIn
+pub is-200 : IsRecord 200 0 0 sample200
+unfolding same isDigit isCapital capital isLetter isAlnum endSpace isText areAll isNmi isSuffix isStream isConfiguration isRegister isSerial units sameLetters unitFrom unitOf numberOf leadingZero smallOf isLength lengthOf nextReadOf fields isKind indicatorOf kindIn rowOf countOf ruleOf obeys qualitiesOf faultIn brokenIn
 is-200 = of-text 200 (bytes "200,NEM1234567,E1,1,E1,N1,METER1,kWh,30,") (λ z. omega arith) refl refl (refl, refl, refl)
 
 abbrev pub sample500 : Record
 sample500 = fields (bytes "500,O,,,")
 
-pub is-500 : IsRecord 500 0 sample500
+pub is-500 : IsRecord 500 0 0 sample500
 unfolding isDigit isCapital endSpace isText areAll isServiceOrder isTransCode numberOf isIndexRead readTimeOf fields isKind indicatorOf kindIn rowOf countOf ruleOf obeys qualitiesOf faultIn brokenIn
 is-500 = of-text 500 (bytes "500,O,,,") (λ z. omega arith) refl refl (refl, refl, refl)
 
@@ -72,8 +73,8 @@ untimed-500 = refl
 abbrev pub sample250 : Record
 sample250 = fields (bytes "250,NEM1234567,E1,1,E1,N1,METER1,E,0,20040101000000,A,,,0,20040201000000,A,,,0,kWh,,20040202000000,")
 
-pub is-250 : IsRecord 250 0 sample250
-unfolding spanOf same isDigit isCapital isLetter isAlnum endSpace isText areAll isNmi isSuffix isStream isConfiguration isRegister isSerial isUnit isDescription isDirection numberOf reasonOf valueOf areDigits isRead isLeap daysInMonth isDay isDate isTime timeOf nextReadOf loadOf standsAlone qualityOf needsReason across fields isKind indicatorOf kindIn rowOf countOf ruleOf obeys qualitiesOf markAt agrees faultIn brokenIn
+pub is-250 : IsRecord 250 0 0 sample250
+unfolding spanOf same isDigit isCapital capital isLetter isAlnum endSpace isText areAll isNmi isSuffix isStream isConfiguration isRegister isSerial units sameLetters unitFrom unitOf unitAt decimalsOf decimalsNamed isDescription isDirection numberOf reasonOf valueOf areDigits isRead isLeap daysInMonth isDay isDate isTime timeOf nextReadOf loadOf standsAlone qualityOf needsReason across fields isKind indicatorOf kindIn rowOf countOf ruleOf obeys quantityDecimals qualitiesOf markAt agrees faultIn brokenIn
 is-250 =
     of-text 250 (bytes "250,NEM1234567,E1,1,E1,N1,METER1,E,0,20040101000000,A,,,0,20040201000000,A,,,0,kWh,,20040202000000,") (λ z. omega arith) refl refl
     (refl, refl, refl)
@@ -81,18 +82,18 @@ is-250 =
 abbrev pub sample550 : Record
 sample550 = fields (bytes "550,N,,A,")
 
-pub is-550 : IsRecord 550 0 sample550
+pub is-550 : IsRecord 550 0 0 sample550
 unfolding isDigit isCapital endSpace isText areAll isServiceOrder isTransCode numberOf fields isKind indicatorOf kindIn rowOf countOf ruleOf obeys qualitiesOf faultIn brokenIn
 is-550 = of-text 550 (bytes "550,N,,A,") (λ z. omega arith) refl refl (refl, refl, refl)
 
 abbrev pub sample900 : Record
 sample900 = fields (bytes "900")
 
-pub is-900 : IsRecord 900 0 sample900
+pub is-900 : IsRecord 900 0 0 sample900
 unfolding isDigit areAll numberOf fields isKind indicatorOf kindIn rowOf countOf ruleOf obeys qualitiesOf faultIn brokenIn
 is-900 = of-text 900 (bytes "900") (λ z. omega arith) refl refl (refl, refl, refl)
 
--- ---- a 300 of n intervals, of the last date that there is
+-- ---- a 300 of n intervals, of the last date that there is, whose values no unit refuses
 
 abbrev ending : Record
 ending = bytes "A" ∷ [] ∷ [] ∷ bytes "21991231000000" ∷ [] ∷ []
@@ -100,10 +101,10 @@ ending = bytes "A" ∷ [] ∷ [] ∷ bytes "21991231000000" ∷ [] ∷ []
 abbrev pub sample300 : ℕ → Record
 sample300 n = bytes "300" ∷ bytes "21991231" ∷ (replicate n (bytes "0") ++ ending)
 
-noughts : (n : ℕ) (us : List Rule) (fs : Record) → Meets 300 us fs → Meets 300 (replicate n Value ++ us) (replicate n (bytes "0") ++ fs)
+noughts : (n d : ℕ) (us : List Rule) (fs : Record) → Meets 300 us fs → Meets 300 (replicate n (Value d) ++ us) (replicate n (bytes "0") ++ fs)
 unfolding obeys valueOf spanOf numberOf areAll isDigit fieldByte endSpace
-noughts zero us fs h = h
-noughts (suc n) us fs h = ((refl, refl), refl, noughts n us fs h)
+noughts zero d us fs h = h
+noughts (suc n) d us fs h = ((refl, refl), refl, noughts n d us fs h)
 
 ending-meets : Meets 300 (Quality ∷ Reason ∷ Description ∷ Time ∷ Load ∷ []) ending
 unfolding obeys numberOf areAll isDigit fieldByte endSpace isText isDescription isLeap daysInMonth isDay isDate isTime timeOf loadOf reasonOf standsAlone qualityOf
@@ -123,12 +124,12 @@ module _ (n : ℕ) where
   unfolding agrees across needsReason
   agrees-300 = rw mark-300
 
-  pub is-300 : IsRecord 300 n (sample300 n)
+  pub is-300 : (d : ℕ) → IsRecord 300 n d (sample300 n)
   unfolding kindIn indicatorOf isKind numberOf areAll isDigit rowOf obeys fieldByte endSpace isLeap daysInMonth isDay isDate dateOf qualitiesOf
-  is-300 =
+  is-300 d =
       record {
         indicator = refl;
-        meets = ((refl, refl), refl, ((refl, refl), refl, noughts n (Quality ∷ Reason ∷ Description ∷ Time ∷ Load ∷ []) ending ending-meets));
+        meets = ((refl, refl), refl, ((refl, refl), refl, noughts n d (Quality ∷ Reason ∷ Description ∷ Time ∷ Load ∷ []) ending ending-meets));
         together = (agrees-together (markAt 300 (n + 2) (sample300 n)) agrees-300, tt);
       }
 
@@ -168,10 +169,10 @@ module _ (a e : ℕ) (q : List ℕ) (flag : ℕ) (b : Bare q flag) (l : a < 1000
   end-back : smallOf 4 (dec e) ≡ Is e
   end-back = small-back 4 e (omega arith) (omega arith) (omega arith)
 
-  is-400 : IsRecord 400 0 (sample400 a e q)
+  is-400 : IsRecord 400 0 0 (sample400 a e q)
   unfolding kindIn indicatorOf isKind numberOf areAll isDigit fieldByte endSpace isText isDescription reasonOf intervalOf rowOf countOf ruleOf obeys qualitiesOf markAt agrees faultIn brokenIn
   is-400 =
-      is-record 400 0 (sample400 a e q) (λ z. omega arith)
+      is-record 400 0 0 (sample400 a e q) (λ z. omega arith)
       (omega arith, (refl, (digits-bytes (dec a) (all-dec a), (digits-bytes (dec e) (all-dec e), (b .clean, (refl, (refl, tt)))))))
       refl
       (refl, rw (start-back, end-back, b .graded), rw (b .says, b .agreed))
@@ -191,7 +192,7 @@ module _ (a e : ℕ) (q : List ℕ) (flag : ℕ) (b : Bare q flag) (l : a < 1000
 -- 400s that complete the cover of n intervals from a on, and do not leave the day alike
 pub record Completes (n a : ℕ) (x : Shared) : Type 0 where
   pub runs : List Record
-  pub each : Each (IsRecord 400 0) runs
+  pub each : Each (IsRecord 400 0 0) runs
   pub covers : Covers n a runs
   pub apart : Apart x runs
 

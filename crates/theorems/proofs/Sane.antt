@@ -67,7 +67,7 @@ sane-on st r s f = go (head _ _ (f .may))
     go : Head (st .expect) (kindIn (fields r)) → Sane (after st r)
     go (h100 q z) = subst Sane (sym (after-100 st r q)) (nowhere (on100 st fs) (by (eqb (versionIn fs) 12) (λ t. rw t) (λ t. rw t)))
     go (h200 q z) =
-        let g : IsRecord 200 0 fs = fit-rec st r 200 f q (λ y. omega arith) (λ y. omega arith) in
+        let g : IsRecord 200 0 0 fs = fit-rec st r 200 f q (λ y. omega arith) (λ y. omega arith) in
         subst Sane (sym (after-200 st r q))
         (record {
           many = λ h. some-n (intervalsIn fs) (intervals-of fs g);

@@ -1,17 +1,17 @@
 -- What is accepted is written by the grammar: by induction on the records, with a claim for each state. Assumes nothing.
 use Prim.Native.Nat.{ℕ, _+_, _≤_, _<_}
 use mathlib.Core.Path.{_≡_, refl, sym, ap, _∙_, subst}
-use mathlib.Core.Bool.{Bool, true, false, true≢false, cond, _&&_}
+use mathlib.Core.Bool.{true, false, true≢false, _&&_}
 use mathlib.Core.List.{List, [], _∷_, _++_}
 use native.Mathlib.Omega.{arith}
 use lib.ListN.{length}
 use lib.Dec.{eqb}
-use borrow.Author.Tests.{eqb-true, eqb-false, eq-eqb, ne-eqb, not-false}
+use borrow.Author.Tests.{eqb-true, eqb-false, eq-eqb, not-false}
 use Rattle.ground.proofs.Cases.{by}
 use Rattle.format.specs.Cut.{Lines, line, rest, lines, fields}
-use Rattle.format.specs.Records.{kindIn, versionIn, dateIn, firstIn, lastIn, readTimeIn, markIn}
+use Rattle.format.specs.Records.{Scale, kindIn, versionIn, dateIn, firstIn, lastIn, readTimeIn, markIn}
 use Rattle.format.specs.Order.{the100, first200, first300, first250, kindsAt, mayCome, inDay, inVaried, isEnd, shareWith, Due, begun, isVaried, alikeWith, on100, on200, on300, on400, on500, on250, on550, on900}
-use Rattle.format.specs.Faults.{covers, isAlike, onDay, isElsewhere}
+use Rattle.format.specs.Faults.{scaleOf, covers, isAlike, onDay, isElsewhere}
 use Rattle.format.specs.Answers.{accepted}
 use Rattle.format.specs.File.{after, walkOf}
 use Rattle.format.proofs.Cut.{bytesOf, bytes-lines, fields-some}
@@ -21,7 +21,7 @@ use Rattle.passing.proofs.Steps.{after-100, after-200, after-300, after-400, af
 use Rattle.passing.proofs.Walk.{goes, ends}
 use Rattle.theorems.specs.Grammar.{Each, Rising, Record, text, IsRecord, Block, Covers, Extra, IsBlock, datesOf, Channel, IsChannel, Reading, IsReading, nem12, nem13, blocksThen, channelsThen, readingsThen, blocksIn, InFormatUpTo}
 use Rattle.theorems.proofs.Bytes.{join-fields, fields-bytes}
-use Rattle.theorems.proofs.Rows.{Fields, is-record}
+use Rattle.theorems.proofs.Rows.{Fields, scale-other, is-record}
 use Rattle.theorems.proofs.Says.{intervals-some, version-13, on-day}
 use Rattle.theorems.proofs.Apart.{Apart, apart-back, apart-end}
 
@@ -43,14 +43,14 @@ module _ (st : Due) (p k v c d : ℕ) where
 fit-fields : (st : Due) (r : List ℕ) → Fit st r → Fields (fields r)
 fit-fields st r f = (fields-some r, fields-bytes r (f .bytes))
 
-pub fit-rec : (st : Due) (r : List ℕ) (k : ℕ) → Fit st r → kindIn (fields r) ≡ k → (k ≡ 0 → ⊥) → (k ≡ 300 → ⊥) → IsRecord k 0 (fields r)
+pub fit-rec : (st : Due) (r : List ℕ) (k : ℕ) → Fit st r → kindIn (fields r) ≡ k → (k ≡ 0 → ⊥) → (k ≡ 300 → ⊥) → IsRecord k 0 0 (fields r)
 fit-rec st r k f e z n =
-    let o : Ok k (cond (eqb k 300) (st .n) 0) (fields r) = subst (λ (x : ℕ). Ok x (cond (eqb x 300) (st .n) 0) (fields r)) e (f .ok) in
-    is-record k 0 (fields r) z (fit-fields st r f) e (subst (λ (b : Bool). Ok k (cond b (st .n) 0) (fields r)) (ne-eqb k 300 n) o)
+    let o : Ok k (scaleOf st k (fields r)) (fields r) = subst (λ (x : ℕ). Ok x (scaleOf st x (fields r)) (fields r)) e (f .ok) in
+    is-record k 0 0 (fields r) z (fit-fields st r f) e (subst (λ (y : Scale). Ok k y (fields r)) (scale-other k (st .n) (st .decimals) (fields r) n) o)
 
-pub fit-300 : (st : Due) (r : List ℕ) → Fit st r → kindIn (fields r) ≡ 300 → IsRecord 300 (st .n) (fields r) × (st .date < dateIn (fields r))
+pub fit-300 : (st : Due) (r : List ℕ) → Fit st r → kindIn (fields r) ≡ 300 → IsRecord 300 (st .n) (st .decimals) (fields r) × (st .date < dateIn (fields r))
 fit-300 st r f e = (
-  is-record 300 (st .n) (fields r) (λ z. omega arith) (fit-fields st r f) e (subst (λ (x : ℕ). Ok x (cond (eqb x 300) (st .n) 0) (fields r)) e (f .ok)),
+  is-record 300 (st .n) (st .decimals) (fields r) (λ z. omega arith) (fit-fields st r f) e (subst (λ (x : ℕ). Ok x (scaleOf st x (fields r)) (fields r)) e (f .ok)),
   fit-later st r f e,
 )
 
@@ -65,14 +65,14 @@ rising-tail t [] h = tt
 rising-tail t (a ∷ ts) h = h .1
 
 -- days of a channel, channels, the end
-pub record Rest (n t w a b v c d : ℕ) (rows : List Record) : Type 0 where
+pub record Rest (n m t w a b v c d : ℕ) (rows : List Record) : Type 0 where
   pub blocks : List Block
-  pub good : Each (IsBlock n) blocks
+  pub good : Each (IsBlock n m) blocks
   pub rising : Rising (t ∷ datesOf blocks)
   pub channels : List Channel
   pub each : Each IsChannel channels
   pub last : Record
-  pub last-ok : IsRecord 900 0 last
+  pub last-ok : IsRecord 900 0 0 last
   pub is : rows ≡ blocksThen blocks (channelsThen channels (last ∷ []))
   pub version : v ≡ w
   pub channel-count : c ≡ a + length channels
@@ -82,23 +82,23 @@ pub record Extras (st : Due) (ls : Lines) (v c d : ℕ) : Type 0 where
   pub extra : List Record
   pub fit : Each (Extra (st .date)) extra
   pub rows : List Record
-  pub more : Rest (st .n) (st .date) (st .version) (st .channels) (st .days) v c d rows
+  pub more : Rest (st .n) (st .decimals) (st .date) (st .version) (st .channels) (st .days) v c d rows
   pub bytes : bytesOf ls ≡ text (extra ++ rows)
 
 pub record Under (st : Due) (ls : Lines) (v c d : ℕ) : Type 0 where
   pub runs : List Record
-  pub each : Each (IsRecord 400 0) runs
+  pub each : Each (IsRecord 400 0 0) runs
   pub covers : Covers (st .n) (st .next) runs
   pub apart : Apart (st .shared) runs
   pub extra : List Record
   pub fit : Each (Extra (st .date)) extra
   pub rows : List Record
-  pub more : Rest (st .n) (st .date) (st .version) (st .channels) (st .days) v c d rows
+  pub more : Rest (st .n) (st .decimals) (st .date) (st .version) (st .channels) (st .days) v c d rows
   pub bytes : bytesOf ls ≡ text (runs ++ (extra ++ rows))
 
 pub record Firsts (st : Due) (ls : Lines) (v c d : ℕ) : Type 0 where
   pub rows : List Record
-  pub more : Rest (st .n) (st .date) (st .version) (st .channels) (st .days) v c d rows
+  pub more : Rest (st .n) (st .decimals) (st .date) (st .version) (st .channels) (st .days) v c d rows
   pub some : 1 ≤ length (more .blocks)
   pub bytes : bytesOf ls ≡ text rows
 
@@ -107,7 +107,7 @@ pub record Chans (st : Due) (ls : Lines) (v c d : ℕ) : Type 0 where
   pub each : Each IsChannel channels
   pub some : 1 ≤ length channels
   pub last : Record
-  pub last-ok : IsRecord 900 0 last
+  pub last-ok : IsRecord 900 0 0 last
   pub bytes : bytesOf ls ≡ text (channelsThen channels (last ∷ []))
   pub version : v ≡ st .version
   pub channel-count : c ≡ st .channels + length channels
@@ -118,7 +118,7 @@ pub record Basics (w a b v c d : ℕ) (rows : List Record) : Type 0 where
   pub readings : List Reading
   pub each : Each IsReading readings
   pub last : Record
-  pub last-ok : IsRecord 900 0 last
+  pub last-ok : IsRecord 900 0 0 last
   pub is : rows ≡ readingsThen readings (last ∷ [])
   pub version : v ≡ w
   pub count : c ≡ a + length readings
@@ -126,7 +126,7 @@ pub record Basics (w a b v c d : ℕ) (rows : List Record) : Type 0 where
 
 pub data Seven (st : Due) (ls : Lines) (v c d : ℕ) : Type 0 where
   none : (rows : List Record) → Basics (st .version) (st .channels) (st .days) v c d rows → bytesOf ls ≡ text rows → Seven st ls v c d
-  one : (e : Record) (rows : List Record) → IsRecord 550 0 e → Basics (st .version) (st .channels) (st .days) v c d rows → bytesOf ls ≡ text (e ∷ rows) → Seven st ls v c d
+  one : (e : Record) (rows : List Record) → IsRecord 550 0 0 e → Basics (st .version) (st .channels) (st .days) v c d rows → bytesOf ls ≡ text (e ∷ rows) → Seven st ls v c d
 
 pub record Inner (st : Due) : Type 0 where
   pub in-v : inVaried (st .expect) ≡ true
@@ -160,7 +160,7 @@ module _ (st : Due) (p k v c d : ℕ) (r : List ℕ) (ls : Lines) (ih : Told ls 
         bytes = row-bytes r ls (u .extra ++ u .rows) (u .bytes);
       }
 
-  by-900 : kindIn (fields r) ≡ 900 → (rows : List Record) × Rest (st .n) (st .date) (st .version) (st .channels) (st .days) v c d rows × (bytesOf (line r ls) ≡ text rows)
+  by-900 : kindIn (fields r) ≡ 900 → (rows : List Record) × Rest (st .n) (st .decimals) (st .date) (st .version) (st .channels) (st .days) v c d rows × (bytesOf (line r ls) ≡ text rows)
   unfolding text
   by-900 q =
       let w = told-end (on900 st (fields r)) p k v c d ls refl (rw (after-900 st r q) at e) in (
@@ -199,8 +199,8 @@ module _ (st : Due) (p k v c d : ℕ) (r : List ℕ) (ls : Lines) (ih : Told ls 
       }
 
   -- a day with what was found behind its 300
-  a-day : (b : Block) (rows : List Record) → kindIn (fields r) ≡ 300 → b .top ≡ fields r → IsBlock (st .n) b
-      → Rest (st .n) (dateIn (fields r)) (st .version) (st .channels) (st .days + 1) v c d rows → bytesOf ls ≡ text (b .runs ++ (b .extra ++ rows)) → Firsts st (line r ls) v c d
+  a-day : (b : Block) (rows : List Record) → kindIn (fields r) ≡ 300 → b .top ≡ fields r → IsBlock (st .n) (st .decimals) b
+      → Rest (st .n) (st .decimals) (dateIn (fields r)) (st .version) (st .channels) (st .days + 1) v c d rows → bytesOf ls ≡ text (b .runs ++ (b .extra ++ rows)) → Firsts st (line r ls) v c d
   a-day b rows q t g m h =
       record {
         rows = fields r ∷ (b .runs ++ (b .extra ++ rows));
@@ -293,7 +293,7 @@ module _ (st : Due) (p k v c d : ℕ) (r : List ℕ) (ls : Lines) (ih : Told ls 
       → (rows : List Record) × (b : Basics (st .version) (st .channels) (st .days) v c d rows) × (bytesOf (line r ls) ≡ text rows) × (1 ≤ length (b .readings))
   by-250 q = go (ih .seven (on250 st (fields r)) p k refl (rw (after-250 st r q) at e))
     where
-      g : IsRecord 250 0 (fields r)
+      g : IsRecord 250 0 0 (fields r)
       g = fit-rec st r 250 fit q (λ z. omega arith) (λ z. omega arith)
 
       go : Seven (on250 st (fields r)) ls v c d
@@ -333,7 +333,7 @@ module _ (st : Due) (p k v c d : ℕ) (r : List ℕ) (ls : Lines) (ih : Told ls 
 
 -- days, channels or the end, with no 500 before them
 no-extra : (st : Due) (ls : Lines) (v c d : ℕ) (rows : List Record)
-    → Rest (st .n) (st .date) (st .version) (st .channels) (st .days) v c d rows → bytesOf ls ≡ text rows → Extras st ls v c d
+    → Rest (st .n) (st .decimals) (st .date) (st .version) (st .channels) (st .days) v c d rows → bytesOf ls ≡ text rows → Extras st ls v c d
 no-extra st ls v c d rows m h = record { extra = []; fit = tt; rows = rows; more = m; bytes = h }
 
 no-blocks : (st : Due) (ls : Lines) (v c d : ℕ) → Chans st ls v c d → Extras st ls v c d

@@ -104,7 +104,7 @@ top-before (suc k) ls h = let w = last-of k begun ls h in go w (top-before k ls 
           is = w .is;
           kind = q;
           date = refl;
-          most = date-most (st .n) (fields (w .last)) (fit-300 st (w .last) (w .fit) q .0);
+          most = date-most (st .n) (st .decimals) (fields (w .last)) (fit-300 st (w .last) (w .fit) q .0);
           no-200 = λ l r m a b e. absurd (let y : ⊥ = omega arith in y);
         }))
     go w d (h400 q z) = to _ (on400 st (fields (w .last))) (w .state) (after-400 st (w .last) q) (same w (λ y. omega arith) d)

@@ -5,7 +5,7 @@ use mathlib.Core.Path.{_≡_}
 use mathlib.Core.List.{List, [], _∷_, _++_, map}
 use lib.ListN.{length, drop}
 use Rattle.ground.specs.Lists.{sum}
-use Rattle.format.specs.Records.{intervalsIn, valuesIn, quantityIn}
+use Rattle.format.specs.Records.{unitIn, decimalsIn, intervalsIn, valuesIn, quantityIn}
 use Rattle.format.specs.Day.{Row, BlockRows, DayRows, daysOf, Day, dayOf}
 use Rattle.theorems.specs.Grammar.{Record, join, text, IsRecord, Block, IsBlock, Channel, Reading, Content, nem12, nem13, InFormat}
 
@@ -30,13 +30,13 @@ rowsAt p (r ∷ rs) = recordAt p r ∷ rowsAt (p + length (join r) + 2) rs
 abbrev pub rowsOf : Block → List Record
 rowsOf b = b .top ∷ (b .runs ++ b .extra)
 
--- a block of n intervals at p, with the places of its records
-abbrev pub blockAt : ℕ → ℕ → Block → BlockRows
-blockAt p n b = record { n = n; top = recordAt p (b .top); runs = rowsAt (p + length (join (b .top)) + 2) (b .runs) }
+-- a block of n intervals in the unit u at p, with the places of its records
+abbrev pub blockAt : ℕ → ℕ → ℕ → Block → BlockRows
+blockAt p n u b = record { n = n; unit = u; top = recordAt p (b .top); runs = rowsAt (p + length (join (b .top)) + 2) (b .runs) }
 
 -- the day that a block at p is under the 200 c
 abbrev pub dayAt : ℕ → Row → Block → DayRows
-dayAt p c b = record { channel = c; block = blockAt p (intervalsIn (c .cells)) b }
+dayAt p c b = record { channel = c; block = blockAt p (intervalsIn (c .cells)) (unitIn (c .cells)) b }
 
 abbrev pub blockDays : ℕ → Row → List Block → List DayRows
 blockDays p c [] = []
@@ -57,23 +57,27 @@ abbrev pub contentDays : ℕ → Content → List DayRows
 contentDays p (nem12 cs) = channelDays p cs
 contentDays p (nem13 rs) = []
 
--- ---- what they mean: date, n, times, values and marks, whatever their places
+-- ---- what they mean: date, n, unit, times, values and marks, whatever their places
 
--- a block as a day of n intervals
-unfoldable pub dayIn : ℕ → Block → Day
-dayIn n b = dayOf (blockAt 0 n b)
+-- a block as a day of n intervals in the unit u
+unfoldable pub dayIn : ℕ → ℕ → Block → Day
+dayIn n u b = dayOf (blockAt 0 n u b)
+
+-- the day d with its unit u
+abbrev pub inUnit : ℕ → Day → Day
+inUnit u d = record { date = d .date; n = d .n; unit = u; update = d .update; load = d .load; values = d .values; marks = d .marks }
 
 -- a day of a file
 abbrev pub meant : DayRows → Day
 meant x = dayOf (x .block)
 
-abbrev pub blockMeanings : ℕ → List Block → List Day
-blockMeanings n [] = []
-blockMeanings n (b ∷ bs) = dayIn n b ∷ blockMeanings n bs
+abbrev pub blockMeanings : ℕ → ℕ → List Block → List Day
+blockMeanings n u [] = []
+blockMeanings n u (b ∷ bs) = dayIn n u b ∷ blockMeanings n u bs
 
 abbrev pub channelMeanings : List Channel → List Day
 channelMeanings [] = []
-channelMeanings (c ∷ cs) = blockMeanings (intervalsIn (c .head)) (c .blocks) ++ channelMeanings cs
+channelMeanings (c ∷ cs) = blockMeanings (intervalsIn (c .head)) (unitIn (c .head)) (c .blocks) ++ channelMeanings cs
 
 abbrev pub meanings : Content → List Day
 meanings (nem12 cs) = channelMeanings cs
@@ -90,11 +94,11 @@ pub record Means (file : List ℕ) (k : ℕ) (day : Day) : Type 0 where
 
 -- the bytes s are, as a block behind this 200, the day
 pub record ReadsAs (head : Record) (s : List ℕ) (day : Day) : Type 0 where
-  pub is-head : IsRecord 200 0 head
+  pub is-head : IsRecord 200 0 0 head
   pub block : Block
-  pub good : IsBlock (intervalsIn head) block
+  pub good : IsBlock (intervalsIn head) (decimalsIn head) block
   pub bytes : s ≡ text (rowsOf block)
-  pub is : day ≡ dayIn (intervalsIn head) block
+  pub is : day ≡ dayIn (intervalsIn head) (unitIn head) block
 
 -- the file of a 100, a 200, these bytes and a 900
 abbrev pub around : Record → Record → List ℕ → Record → List ℕ

@@ -9,9 +9,9 @@ use lib.ListN.{length, take, getD}
 use Rattle.ground.specs.Lists.{all}
 use Rattle.format.specs.Bytes.{plain}
 use Rattle.format.specs.Cut.{Lines, line, rest, lines, fields, field, startOf}
-use Rattle.format.specs.Records.{kindIn, countOf, ruleOf, obeys, dateIn, firstIn, lastIn, readTimeIn, qualitiesOf, markAt}
+use Rattle.format.specs.Records.{Scale, kindIn, countOf, ruleOf, obeys, dateIn, firstIn, lastIn, readTimeIn, qualitiesOf, markAt}
 use Rattle.format.specs.Order.{mayCome, inVaried, isEnd, Due, begun, alikeWith}
-use Rattle.format.specs.Faults.{size}
+use Rattle.format.specs.Faults.{scaleOf}
 use Rattle.format.specs.File.{after}
 use Rattle.theorems.specs.Grammar.{Record, Together, Within}
 use Rattle.theorems.specs.Places.{placeOf, past, stateAt}
@@ -32,8 +32,8 @@ Leftmost P j (a ∷ js) = ((j ≡ a) × (P a → ⊥)) ⊎ (P a × Leftmost P j 
 abbrev pub entry3 : List ℕ → Entry
 entry3 r = record { number = 3; given = λ o i. (o < length r) × (all plain (take o r) ≡ true) × (plain (getD r o 0) ≡ false) × (i ≡ 0) }
 
--- of a record of the kind k with the fields fs, where st is the state before it; n counts in a 300 only
-module _ (st : Due) (k n : ℕ) (fs : Record) where
+-- of a record of the kind k with the fields fs, where st is the state before it, and its rules are made from z
+module _ (st : Due) (k : ℕ) (z : Scale) (fs : Record) where
   -- "a V day's cover isn't complete and this record isn't a 400": record start
   abbrev pub entry10 : Entry
   entry10 = record { number = 10; given = λ o i. (inVaried (st .expect) ≡ true) × (st .next ≤ st .n) × (k ≢ 400) × (o ≡ 0) × (i ≡ 0) }
@@ -44,14 +44,14 @@ module _ (st : Due) (k n : ℕ) (fs : Record) where
 
   -- "wrong number of fields": record start
   abbrev pub entry5 : Entry
-  entry5 = record { number = 5; given = λ o i. (length fs ≢ countOf k n) × (o ≡ 0) × (i ≡ 0) }
+  entry5 = record { number = 5; given = λ o i. (length fs ≢ countOf k z) × (o ≡ 0) × (i ≡ 0) }
 
   -- "a field breaks its rule or has an end space": field start, leftmost field
   abbrev pub entry6 : Entry
   entry6 = record {
     number = 6;
     given = λ o i.
-        ((j : ℕ) × (j < length fs) × (obeys k (ruleOf k n j) (field j fs) ≡ false) × ((l : ℕ) → l < j → obeys k (ruleOf k n l) (field l fs) ≡ true)
+        ((j : ℕ) × (j < length fs) × (obeys k (ruleOf k z j) (field j fs) ≡ false) × ((l : ℕ) → l < j → obeys k (ruleOf k z l) (field l fs) ≡ true)
         × (o ≡ startOf j fs) × (i ≡ j + 1));
   }
 
@@ -59,7 +59,7 @@ module _ (st : Due) (k n : ℕ) (fs : Record) where
   abbrev pub entry7 : Entry
   entry7 = record {
     number = 7;
-    given = λ o i. ((j : ℕ) × Leftmost (λ a. Together (markAt k a fs)) j (qualitiesOf k n) × (o ≡ startOf j fs) × (i ≡ j + 1));
+    given = λ o i. ((j : ℕ) × Leftmost (λ a. Together (markAt k a fs)) j (qualitiesOf k (z .n)) × (o ≡ startOf j fs) × (i ≡ j + 1));
   }
 
   -- "date not later than the day before it in this 200": date field
@@ -90,9 +90,9 @@ abbrev pub inOrder : Due → List ℕ → List Entry
 inOrder st r =
     let fs = fields r in
     let k = kindIn fs in
-    let n = size st k in
-    entry3 r ∷ entry10 st k n fs ∷ entry4 st k n fs ∷ entry5 st k n fs ∷ entry6 st k n fs ∷ entry7 st k n fs ∷ entry8 st k n fs ∷ entry9 st k n fs
-    ∷ entry11 st k n fs ∷ entry12 st k n fs ∷ []
+    let z = scaleOf st k fs in
+    entry3 r ∷ entry10 st k z fs ∷ entry4 st k z fs ∷ entry5 st k z fs ∷ entry6 st k z fs ∷ entry7 st k z fs ∷ entry8 st k z fs ∷ entry9 st k z fs
+    ∷ entry11 st k z fs ∷ entry12 st k z fs ∷ []
 
 -- the entry is given nowhere
 abbrev pub Never : Entry → Type 0

@@ -1,6 +1,7 @@
 -- The format as a grammar: what a file is made of, in the words of 01's sections Records, Fields and A day and of 02, and the bytes that this writes. It
 -- says nothing of how a file is read: no refusal, no order of tests, no place, no state. What a single field may hold is cited from the meaning (`rowOf`,
--- `obeys`), and so are what one field says (`dateIn`, `firstIn`, ..) and the day after a date (`dayAfter`).
+-- `obeys`), and so are what one field says (`dateIn`, `firstIn`, ..), how many decimals a unit allows (`decimalsIn`, `scaleFor`) and the day after a date
+-- (`dayAfter`).
 use Prim.Native.Nat.{ℕ, _+_, _*_, _/_, _%_, _≤_, _<_}
 use mathlib.Core.Path.{_≡_}
 use mathlib.Core.Logic.{_≢_, _⊎_}
@@ -13,7 +14,7 @@ use Rattle.format.specs.Numbers.{noReason}
 use Rattle.format.specs.Dates.{dayAfter}
 use Rattle.format.specs.Quality.{flagS, flagF, flagV, Mark}
 use Rattle.format.specs.Cut.{field}
-use Rattle.format.specs.Records.{kindIn, rowOf, obeys, versionIn, intervalsIn, dateIn, firstIn, lastIn, readTimeIn, qualitiesOf, markAt, markIn}
+use Rattle.format.specs.Records.{kindIn, rowOf, obeys, versionIn, decimalsIn, intervalsIn, scaleFor, dateIn, firstIn, lastIn, readTimeIn, qualitiesOf, markAt, markIn}
 use Rattle.format.specs.Order.{isVaried}
 use Rattle.format.specs.declared.Rule.{Rule}
 
@@ -68,10 +69,11 @@ pub record Together (m : Mark) : Type 0 where
   pub v-neither : m .flag ≡ flagV → (m .reason ≡ noReason) × (length (m .text) ≡ 0)
 
 -- a record of the kind k: its first field is that indicator, its fields are those of the table's row, and where it has a quality (a 250 has two), the rules
--- across fields hold. n is the number of a 300's intervals, 0 for the other kinds
-pub record IsRecord (k n : ℕ) (fs : Record) : Type 0 where
+-- across fields hold. n is the number of a 300's intervals, and d how many decimals its values may have, both 0 for the other kinds: 02, 8 refuses "a value with
+-- more decimals than its unit allows". A 250 has its own unit, and "01's limits [..] stand alone for the quantity of a 250 whose unit isn't known"
+pub record IsRecord (k n d : ℕ) (fs : Record) : Type 0 where
   pub indicator : kindIn fs ≡ k
-  pub meets : Meets k (rowOf k n) fs
+  pub meets : Meets k (rowOf k (scaleFor k n d fs)) fs
   pub together : Each (λ i. Together (markAt k i fs)) (qualitiesOf k n)
 
 -- ---- a day
@@ -101,12 +103,12 @@ Within t x = ((x / 1000000 ≡ t) × (x % 1000000 ≢ 0)) ⊎ (x ≡ dayAfter t 
 
 -- a 500 under a day of the date t: its read time, "if given", is within that day
 abbrev pub Extra : ℕ → Record → Type 0
-Extra t fs = IsRecord 500 0 fs × (1 ≤ length (field 3 fs) → Within t (readTimeIn fs))
+Extra t fs = IsRecord 500 0 0 fs × (1 ≤ length (field 3 fs) → Within t (readTimeIn fs))
 
--- a day of n intervals
-pub record IsBlock (n : ℕ) (b : Block) : Type 0 where
-  pub top : IsRecord 300 n (b .top)
-  pub runs : Each (IsRecord 400 0) (b .runs)
+-- a day of n intervals, whose values have at most d decimals
+pub record IsBlock (n d : ℕ) (b : Block) : Type 0 where
+  pub top : IsRecord 300 n d (b .top)
+  pub runs : Each (IsRecord 400 0 0) (b .runs)
   pub extra : Each (Extra (dateIn (b .top))) (b .extra)
   -- "400s stand only under a 300 of quality V"
   pub only-v : isVaried n (b .top) ≡ false → b .runs ≡ []
@@ -127,11 +129,11 @@ pub record Channel : Type 0 where
   pub blocks : List Block
 
 pub record IsChannel (c : Channel) : Type 0 where
-  pub head : IsRecord 200 0 (c .head)
+  pub head : IsRecord 200 0 0 (c .head)
   -- "one or more day blocks"
   pub some : 1 ≤ length (c .blocks)
-  -- each with the n of this 200's interval length
-  pub blocks : Each (IsBlock (intervalsIn (c .head))) (c .blocks)
+  -- each with the n of this 200's interval length and the decimals of its unit
+  pub blocks : Each (IsBlock (intervalsIn (c .head)) (decimalsIn (c .head))) (c .blocks)
   -- "Dates rise strictly within one 200"
   pub rising : Rising (datesOf (c .blocks))
 
@@ -141,10 +143,10 @@ pub record Reading : Type 0 where
   pub codes : List Record
 
 pub record IsReading (r : Reading) : Type 0 where
-  pub head : IsRecord 250 0 (r .head)
+  pub head : IsRecord 250 0 0 (r .head)
   -- "at most one 550"
   pub few : length (r .codes) ≤ 1
-  pub codes : Each (IsRecord 550 0) (r .codes)
+  pub codes : Each (IsRecord 550 0 0) (r .codes)
 
 -- what stands between the 100 and the 900
 pub data Content : Type 0 where
@@ -192,9 +194,9 @@ pub record InFormatUpTo (most : ℕ) (file : List ℕ) (v c d : ℕ) : Type 0 wh
   pub header : Record
   pub content : Content
   pub last : Record
-  pub is-header : IsRecord 100 0 header
+  pub is-header : IsRecord 100 0 0 header
   pub is-content : IsContent v content
-  pub is-last : IsRecord 900 0 last
+  pub is-last : IsRecord 900 0 0 last
   pub bytes : file ≡ text (header ∷ contentThen content (last ∷ []))
   pub short : length file ≤ most
   pub version : v ≡ versionIn header
