@@ -1,1 +1,2 @@
 mod Cutting
+mod Hinting

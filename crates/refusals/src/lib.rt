@@ -1,5 +1,6 @@
-// A refusal for a person to act on, line by line: what it means, where it stands, the record's line, and a mark under the place.
+// A refusal for a person to act on, line by line: what it means, where it stands, what would be right, the record's line, and a mark under the place.
 pub mod excerpts;
+pub mod hints;
 pub mod places;
 
 use page::texts::number;

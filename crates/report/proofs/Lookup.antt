@@ -1,4 +1,4 @@
--- The record in which a place stands, the n before a place and the days of a channel, as they are looked for. Assumes nothing.
+-- The record in which a place stands, the 200 before a place and the days of a channel, as they are looked for. Assumes nothing.
 use Prim.Native.Nat.{ℕ, zero, suc, _+_, _-_, _≤_, _<_}
 use mathlib.Core.Path.{_≡_, refl, sym, ap, _∙_}
 use mathlib.Core.List.{List}
@@ -13,13 +13,15 @@ use Rattle.ground.proofs.Lists.{to-end}
 use Rattle.ground.proofs.Spans.{span-le, part-take}
 use Rattle.ground.proofs.Tests.{and-false, nowhere}
 use Rattle.format.specs.Bytes.{plain}
+use Rattle.format.specs.Numbers.{numberIn}
+use Rattle.format.specs.Units.{unitOf}
 use Rattle.format.specs.Cut.{Lines, line, rest, lines, fields, field}
 use Rattle.format.specs.Records.{kindIn, intervalsIn}
 use Rattle.format.proofs.Numbers.{intervals-most}
 use Rattle.lines.specs.Places.{LineEnd, Looked, Rest}
 use Rattle.lines.proofs.Cuts.{rest-first}
 use Rattle.lines.proofs.Ends.{line-none, line-more, line-long}
-use Rattle.report.specs.Records.{crlfBefore, recordStart, firstOf, recordAs, recordOf, nBehind, nFrom, nBefore, daysAhead}
+use Rattle.report.specs.Records.{crlfBefore, recordStart, firstOf, recordAs, recordOf, channelBehind, channelFrom, channelBefore, nBefore, daysAhead, unitNamed}
 use Rattle.report.specs.declared.records.Record.{Record}
 
 -- ---- where a record starts
@@ -70,47 +72,49 @@ record-is file place a e bad commas k q l h =
     part-take file a e (spanOf plain r) (omega (arith, span-le plain r, line-long file a e s)) ∙ ap (part file a) (sym (l .first)) in
     rw (← q, first-is file a e s, n, ← h, t, ← l .count)
 
--- ---- n
+-- ---- the 200 before a place
 
-module _ (n k : ℕ) (r : List ℕ) (e : k ≡ kindIn (fields r)) where
-  pub n-own : (m : ℕ) → k ≡ 200 → m ≡ intervalsIn (fields r) → m ≡ nBehind n r
-  unfolding nBehind
-  n-own m h q = rw (← e, h, q)
-
-  pub n-kept : (k ≡ 200 → ⊥) → n ≡ nBehind n r
-  unfolding nBehind
-  n-kept h = rw (← e, ne-eqb _ _ h)
-
-pub own-most : (m : ℕ) (fs : List (List ℕ)) → m ≡ intervalsIn fs → m ≤ 288
-unfolding intervalsIn
-own-most m fs e = rw e (intervals-most _)
-
-pub n-begins : (file : List ℕ) (place : ℕ) → nBefore file place ≡ nFrom place 0 0 (lines (drop 0 file))
-unfolding nBefore
-n-begins file place = refl
+pub channel-begins : (file : List ℕ) (place : ℕ) → channelBefore file place ≡ channelFrom place 0 (part file 0 0) (lines (drop 0 file))
+unfolding channelBefore
+channel-begins file place = refl
 
 -- a record on, with what is left
 on-by : (file : List ℕ) (at e : ℕ) → LineEnd file at e → at + length (part file at e) + 2 ≡ e + 2
 on-by file at e s = omega (arith, line-long file at e s, s .order)
 
-module _ (file : List ℕ) (place at n : ℕ) (inv : nBefore file place ≡ nFrom place at n (lines (drop at file))) where
-  pub n-there : place ≤ at → n ≡ nBefore file place
-  unfolding nFrom
-  n-there h = sym (inv ∙ go (lines (drop at file)))
+-- the 200 from a to z holds before the record at `at`
+module _ (file : List ℕ) (place at a z : ℕ) (inv : channelBefore file place ≡ channelFrom place at (part file a z) (lines (drop at file))) where
+  pub channel-there : {t : List ℕ} → place ≤ at → t ≡ part file a z → t ≡ channelBefore file place
+  unfolding channelFrom
+  channel-there h q = q ∙ sym (inv ∙ go (lines (drop at file)))
     where
-      go : (ls : Lines) → nFrom place at n ls ≡ n
+      go : (ls : Lines) → channelFrom place at (part file a z) ls ≡ part file a z
       go (rest t) = refl
       go (line r ls) = rw (le-ltb _ _ h)
 
   module _ (e : ℕ) (s : LineEnd file at e) where
-    pub n-ends : e ≡ length file → n ≡ nBefore file place
-    unfolding nFrom
-    n-ends h = rw (inv, line-none file at e s h)
+    pub channel-ends : {t : List ℕ} → e ≡ length file → t ≡ part file a z → t ≡ channelBefore file place
+    unfolding channelFrom
+    channel-ends h q = q ∙ sym (rw (inv, line-none file at e s h))
 
-    pub n-goes-on : (m : ℕ) → (e ≡ length file → ⊥) → at < place → m ≡ nBehind n (part file at e)
-        → nBefore file place ≡ nFrom place (e + 2) m (lines (drop (e + 2) file))
-    unfolding nFrom
-    n-goes-on m h g q = rw (inv, line-more file at e s h, lt-ltb _ _ g, on-by file at e s, ← q)
+    module _ (h : e ≡ length file → ⊥) (g : at < place) {k : ℕ} (ek : k ≡ kindIn (fields (part file at e))) where
+      pub channel-own : k ≡ 200 → channelBefore file place ≡ channelFrom place (e + 2) (part file at e) (lines (drop (e + 2) file))
+      unfolding channelFrom channelBehind
+      channel-own o = rw (inv, line-more file at e s h, lt-ltb _ _ g, on-by file at e s, ← ek, o)
+
+      pub channel-kept : (k ≡ 200 → ⊥) → channelBefore file place ≡ channelFrom place (e + 2) (part file a z) (lines (drop (e + 2) file))
+      unfolding channelFrom channelBehind
+      channel-kept o = rw (inv, line-more file at e s h, lt-ltb _ _ g, on-by file at e s, ← ek, ne-eqb _ _ o)
+
+-- its n
+module _ (file : List ℕ) (place n : ℕ) {c : List ℕ} (e : c ≡ channelBefore file place) (q : n ≡ intervalsIn (fields (part c 0 (length c)))) where
+  pub n-is : n ≡ nBefore file place
+  unfolding nBefore
+  n-is = let w : part c 0 (length c) ≡ c = to-end 0 c in rw (q, w, e)
+
+  pub n-most : n ≤ 288
+  unfolding intervalsIn
+  n-most = rw q (intervals-most _)
 
 -- ---- days
 
@@ -151,3 +155,9 @@ pub field-is : (s : List ℕ) (number n x : ℕ) {f : List ℕ} → n ≡ number
 field-is s number n x e r h =
     let w : part s 0 (length s) ≡ s = to-end 0 s in
     h ∙ rest-first r ∙ ap (λ (t : List ℕ). field n (fields t)) w ∙ ap (λ (i : ℕ). field i (fields s)) e
+
+-- the unit that it names
+pub unit-named : (s : List ℕ) (number n x u : ℕ) → n ≡ number - 1 → Rest s (fields (part s 0 (length s))) 0 n x (length s)
+    → u ≡ numberIn (unitOf (field 0 (fields (part s x (length s))))) → u ≡ unitNamed (number - 1) s
+unfolding unitNamed
+unit-named s number n x u e r h = h ∙ ap (λ (f : List ℕ). numberIn (unitOf f)) (field-is s number n x e r refl)

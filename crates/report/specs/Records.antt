@@ -1,12 +1,14 @@
--- What is looked up in a file to say more of it: the record in which a place stands, the n that holds there, and how many days a channel has.
+-- What is looked up in a file to say more of it: the record in which a place stands, the 200 that holds there, and how many days a channel has.
 use Prim.Native.Nat.{ℕ, zero, suc, _+_, _-_}
-use mathlib.Core.List.{List}
+use mathlib.Core.List.{List, []}
 use mathlib.Core.Bool.{Bool, cond, _&&_}
 use lib.ListN.{length, getD, take, drop}
 use lib.Dec.{ltb, eqb}
 use Rattle.ground.specs.Lists.{spanOf}
 use Rattle.format.specs.Bytes.{plain}
-use Rattle.format.specs.Cut.{isCrlf, Lines, line, rest, lines, fields}
+use Rattle.format.specs.Numbers.{numberIn}
+use Rattle.format.specs.Units.{unitOf}
+use Rattle.format.specs.Cut.{isCrlf, Lines, line, rest, lines, fields, field}
 use Rattle.format.specs.Records.{kindIn, intervalsIn}
 use Rattle.report.specs.declared.records.Record.{Record}
 
@@ -33,20 +35,23 @@ recordAs a r = record { start = a; end = a + length r; kind = kindIn (fields r);
 unfoldable pub recordOf : List ℕ → ℕ → Record
 recordOf file place = recordAs (recordStart file place) (firstOf (lines (drop (recordStart file place) file)))
 
--- ---- n before a place
+-- ---- the 200 before a place
 
--- the n that holds behind the record r: a 200's own
-unfoldable pub nBehind : ℕ → List ℕ → ℕ
-nBehind n r = cond (eqb (kindIn (fields r)) 200) (intervalsIn (fields r)) n
+-- the 200 that holds behind the record r: r itself, where it is one
+unfoldable pub channelBehind : List ℕ → List ℕ → List ℕ
+channelBehind c r = cond (eqb (kindIn (fields r)) 200) r c
 
--- the n that holds at a place, from the lines on that start at p; n is what holds before them
-unfoldable pub nFrom : ℕ → ℕ → ℕ → Lines → ℕ
-nFrom place p n (rest t) = n
-nFrom place p n (line r ls) = cond (ltb p place) (nFrom place (p + length r + 2) (nBehind n r) ls) n
+-- the 200 that holds at a place, from the lines on that start at p; c is what holds before them
+unfoldable pub channelFrom : ℕ → ℕ → List ℕ → Lines → List ℕ
+channelFrom place p c (rest t) = c
+channelFrom place p c (line r ls) = cond (ltb p place) (channelFrom place (p + length r + 2) (channelBehind c r) ls) c
 
--- 0 before the first 200
+-- empty before the first 200
+unfoldable pub channelBefore : List ℕ → ℕ → List ℕ
+channelBefore file place = channelFrom place 0 [] (lines file)
+
 unfoldable pub nBefore : List ℕ → ℕ → ℕ
-nBefore file place = nFrom place 0 0 (lines file)
+nBefore file place = intervalsIn (fields (channelBefore file place))
 
 -- ---- the days of a channel
 
@@ -54,3 +59,9 @@ nBefore file place = nFrom place 0 0 (lines file)
 unfoldable pub daysAhead : Lines → ℕ
 daysAhead (rest t) = 0
 daysAhead (line r ls) = cond (eqb (kindIn (fields r)) 200) 0 (cond (eqb (kindIn (fields r)) 300) (suc (daysAhead ls)) (daysAhead ls))
+
+-- ---- units
+
+-- the number of the unit that the field of a number from 0 names
+unfoldable pub unitNamed : ℕ → List ℕ → ℕ
+unitNamed i r = numberIn (unitOf (field i (fields r)))

@@ -4,13 +4,14 @@ use day::walk::intervals_of;
 use lines::line_end;
 use lines::pieces::first_field;
 use lines::scan;
+use page::texts::part;
 use says::kind_at;
+use says::unit_at;
 ghost use mathlib.Core.Path.{_≡_};
 ghost use Prim.Native.Nat.{_-_, _≤_};
 ghost use lib.ListN.{length, drop};
-ghost use Rattle.ground.specs.Lists.{part};
 ghost use Rattle.format.specs.Cut.{lines, fields, field as Cut·field};
-ghost use Rattle.report.specs.Records.{crlfBefore, recordStart, recordOf, nBehind, nBefore, daysAhead};
+ghost use Rattle.report.specs.Records.{crlfBefore, recordStart, recordOf, channelBefore, nBefore, daysAhead, unitNamed};
 
 // A record: where it starts and ends, its kind or 0, and how many fields it has.
 pub struct Record {
@@ -67,36 +68,37 @@ pub fn record_of(file: &[u8], place: usize) -> Record
     }
 }
 
-// ---- n before a place
+// ---- the 200 before a place
 
-// The n that holds behind a record.
-fn n_behind(file: &[u8], a: usize, e: usize, n: usize) -> usize
-    requires { ⌜ (a ≤ e) × (e ≤ length (now file)) × (n ≤ 288) ⌝ }
-    ensures is { λ r. ⌜ r ≡ nBehind n (part (now (file .entry)) a e) ⌝ }
-    ensures most { λ r. ⌜ r ≤ 288 ⌝ }
+// The record of the last 200 before a place, empty before the first. The file is walked over once more for it.
+pub fn channel_before(file: &[u8], place: usize) -> &[u8]
+    ensures { λ r. ⌜ now r ≡ channelBefore (now (file .entry)) place ⌝ }
 {
-    if kind_at(file, a, e) == 200 {
-        return intervals_of(file, a, e);
+    let mut at: usize = 0;
+    let mut from: usize = 0;
+    let mut to: usize = 0;
+    while at < place {
+        let a = at;
+        let e = line_end(file, a);
+        if e == file.len() {
+            return part(file, from, to);
+        }
+        at = e + 2;
+        if kind_at(file, a, e) == 200 {
+            from = a;
+            to = e;
+        }
     }
-    n
+    part(file, from, to)
 }
 
-// The n of the last 200 before a place, for which the file is walked over once more.
+// Its n.
 pub fn n_before(file: &[u8], place: usize) -> usize
     ensures is { λ r. ⌜ r ≡ nBefore (now (file .entry)) place ⌝ }
     ensures most { λ r. ⌜ r ≤ 288 ⌝ }
 {
-    let mut at: usize = 0;
-    let mut n: usize = 0;
-    while at < place {
-        let e = line_end(file, at);
-        if e == file.len() {
-            return n;
-        }
-        n = n_behind(file, at, e, n);
-        at = e + 2;
-    }
-    n
+    let channel = channel_before(file, place);
+    intervals_of(channel, 0, channel.len())
 }
 
 // ---- the days of a channel
@@ -126,6 +128,11 @@ pub fn days_from(file: &[u8], start: usize) -> usize
 
 // ---- fields
 
+// The numbers of the fields that name a unit.
+pub const UNIT_OF_200: usize = 8;
+
+pub const UNIT_OF_250: usize = 20;
+
 // The field of a number from 1.
 pub fn field(record: &[u8], number: usize) -> &[u8]
     ensures { λ r. ⌜ now r ≡ Cut·field (number - 1) (fields (now («record» .entry))) ⌝ }
@@ -133,6 +140,15 @@ pub fn field(record: &[u8], number: usize) -> &[u8]
     let end = record.len();
     let at = skip(record, 0, end, before(number));
     first_field(record, at, end)
+}
+
+// The number of the unit that it names.
+pub fn unit_in(record: &[u8], number: usize) -> u8
+    ensures { λ r. ⌜ r ≡ unitNamed (number - 1) (now («record» .entry)) ⌝ }
+{
+    let end = record.len();
+    let at = skip(record, 0, end, before(number));
+    unit_at(record, at, end)
 }
 
 fn before(number: usize) -> usize

@@ -1,20 +1,18 @@
-// What is said of a refusal: what it means, where it stands, and the record's line with a mark under the place.
+// What is said of a refusal: what it means, where it stands, what would be right, and the record's line with a mark under the place.
+use super::hints::hint;
 use super::records::Record;
-use super::records::n_before;
 use super::records::record_of;
 use format::Refusal;
 use page::texts::part;
 use page::texts::put;
-use refusals::counts;
 use refusals::excerpts::excerpt;
 use refusals::excerpts::mark;
 use refusals::headline;
 use refusals::places::whereabouts;
-use rows::count_of;
 ghost use mathlib.Core.Path.{_≡_};
 ghost use Prim.Native.Nat.{_-_};
 ghost use Rattle.page.specs.Filled.{Filled};
-ghost use Rattle.report.specs.Said.{hasPlace, markedText, shownLine, countsLine, placeText, explanation};
+ghost use Rattle.report.specs.Said.{hasPlace, markedText, shownLine, placeText, explanation};
 
 // Whether the number comes with a place in the file.
 fn has_place(number: u64) -> bool
@@ -24,17 +22,6 @@ fn has_place(number: u64) -> bool
         return false;
     }
     number < 14
-}
-
-// How many fields there are and have to be, where that is what is wrong.
-fn counts_line(page: &mut [u8], at: usize, file: &[u8], x: Refusal, r: Record) -> usize
-    ensures { λ p. ⌜ Filled (now (page .entry)) at (countsLine (now (file .entry)) x r) p (now (page .exit)) ⌝ }
-{
-    if x.number != 5 {
-        return put(page, at, b"");
-    }
-    let p = counts(page, at, r.count, count_of(r.kind, n_before(file, x.place)));
-    put(page, p, b"\n")
 }
 
 fn marked(page: &mut [u8], at: usize, line: &[u8], column: usize) -> usize
@@ -72,7 +59,7 @@ fn place_text(page: &mut [u8], at: usize, file: &[u8], x: Refusal, r: Record) ->
 {
     let p = whereabouts(page, at, x, r.kind, r.count);
     let q = put(page, p, b"\n");
-    let s = counts_line(page, q, file, x, r);
+    let s = hint(page, q, file, x, r);
     shown_line(
         page,
         s,

@@ -1,5 +1,7 @@
 // nem totals FILE
 use super::output::write;
+use super::records::UNIT_OF_200;
+use super::records::UNIT_OF_250;
 use super::records::days_from;
 use super::records::field;
 use super::refused::explained;
@@ -21,14 +23,10 @@ ghost use Rattle.channel.specs.Places.{ChannelAhead, inside};
 ghost use Rattle.tables.specs.Totals.{headings as Totals·headings};
 ghost use Rattle.report.specs.Said.{lineText, channelRow, channelText};
 
-// The numbers of the fields that a channel is known by. The unit stands elsewhere in a 250.
+// The numbers of the fields that a channel is known by, beside its unit.
 const NMI: usize = 2;
 
 const SUFFIX: usize = 5;
-
-const UNIT_OF_200: usize = 8;
-
-const UNIT_OF_250: usize = 20;
 
 fn headed(page: &mut [u8]) -> usize
     ensures { λ r. ⌜ Filled (now (page .entry)) 0 (lineText Totals·headings) r (now (page .exit)) ⌝ }

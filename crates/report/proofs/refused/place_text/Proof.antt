@@ -13,8 +13,8 @@ slice-aggregate-put c = search needs
 put-requires : tie.Need-put-requires
 put-requires c κs = search needs
 
-counts-line-requires : tie.Need-counts-line-requires
-counts-line-requires c κs = search needs
+hint-requires : tie.Need-hint-requires
+hint-requires c κs = search needs
 
 part-requires : tie.Need-part-requires
 part-requires c κs = search needs
@@ -38,7 +38,7 @@ place-text-spec =
     whereabouts-requires
     slice-aggregate-put
     put-requires
-    counts-line-requires
+    hint-requires
     part-requires
     column-of-requires
     shown-line-requires

@@ -1,8 +1,9 @@
--- `report::refused::counts_line` meets its contract. Assumes nothing.
-use Rattle.report.proofs.Saying.{counts-put, counts-none}
+-- `refusals::hints::comma_before` meets its contract. Assumes nothing.
+use Rattle.ground.proofs.Tests.{tests}
+use Rattle.refusals.specs.Hints.{commaBefore}
 use borrow.Author.Needs.{needs}
-use Rattle.report.proofs.refused.counts_line.Statement.{statement}
-use Rattle.report.proofs.refused.counts_line.Tie as tie
+use Rattle.refusals.proofs.hints.comma_before.Statement.{statement}
+use Rattle.refusals.proofs.hints.comma_before.Tie as tie
 
 slice-aggregate-put : tie.Need-slice-aggregate-put
 slice-aggregate-put c = search needs
@@ -14,16 +15,8 @@ same-length : tie.Need-same-length
 same-length c = search needs
 
 returns : tie.Need-returns
-returns c = search counts-none
-
-n-before-requires : tie.Need-n-before-requires
-n-before-requires c κs = search needs
-
-count-of-requires : tie.Need-count-of-requires
-count-of-requires c κs = search needs
-
-counts-requires : tie.Need-counts-requires
-counts-requires c κs = search needs
+unfolding commaBefore
+returns c = search tests
 
 slice-aggregate-put-2 : tie.Need-slice-aggregate-put-2
 slice-aggregate-put-2 c = search needs
@@ -35,19 +28,17 @@ same-length-2 : tie.Need-same-length-2
 same-length-2 c = search needs
 
 returns-2 : tie.Need-returns-2
-returns-2 c = search counts-put
+unfolding commaBefore
+returns-2 c = search tests
 
-pub counts-line-spec : {M : Type 1} → statement M
-counts-line-spec =
+pub comma-before-spec : {M : Type 1} → statement M
+comma-before-spec =
     tie.close
     (tie.spec
     slice-aggregate-put
     put-requires
     same-length
     returns
-    n-before-requires
-    count-of-requires
-    counts-requires
     slice-aggregate-put-2
     put-requires-2
     same-length-2
