@@ -27,7 +27,7 @@ module _ {p₀ p₁ : List ℕ} {at i : ℕ} (k : Bool) where
   end-changed e p = filled-as p (ap ending (sym e))
 
 intervals-same : (x : DayRead) → intervalsRead x ≡ intervalsIn (dayReadAs x)
-intervals-same (dayRead.Read t n u l) = refl
+intervals-same (dayRead.Read t n u l m) = refl
 intervals-same (dayRead.Refused y) = refl
 
 module _ {p₀ p₁ p₂ : List ℕ} {at i j : ℕ} where

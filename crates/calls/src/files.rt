@@ -44,10 +44,10 @@ pub fn totalled(file: &[u8], k: usize, page: &mut [u8], at: usize) -> usize
     put(page, p, b"\n")
 }
 
-pub fn block_checked(block: &[u8], minutes: u32, page: &mut [u8], at: usize) -> usize
-    ensures { λ r. ⌜ Filled (now (page .entry)) at (answerLine (blockCheckOf minutes (now (block .entry)))) r (now (page .exit)) ⌝ }
+pub fn block_checked(block: &[u8], minutes: u32, unit: u8, page: &mut [u8], at: usize) -> usize
+    ensures { λ r. ⌜ Filled (now (page .entry)) at (answerLine (blockCheckOf minutes unit (now (block .entry)))) r (now (page .exit)) ⌝ }
 {
-    let p = answers::block_checked(page, at, check_block(block, 0, minutes));
+    let p = answers::block_checked(page, at, check_block(block, 0, minutes, unit));
     put(page, p, b"\n")
 }
 

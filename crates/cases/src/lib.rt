@@ -15,6 +15,9 @@ ghost use lib.ListN.{length, getD};
 // The most minutes that an interval length can be handed in as.
 const MINUTES: u64 = 4294967295;
 
+// The highest number that a unit can be handed in as.
+const UNITS: u64 = 255;
+
 // The last of some numbers, 0 where there is none.
 fn last(numbers: &[u64]) -> u64
     ensures { λ r. ⌜ r ≡ getD (now (numbers .entry)) (length (now (numbers .entry)) - 1) 0 ⌝ }
@@ -54,18 +57,22 @@ pub fn total_case(buf: &mut [u8], c: Cursor, file: &mut [u8], page: &mut [u8], a
 }
 
 pub fn block_case(buf: &mut [u8], c: Cursor, file: &mut [u8], page: &mut [u8], at: usize) -> Going {
-    let mut numbers = [0u64; 2];
+    let mut numbers = [0u64; 3];
     let Passed::To(after) = file_in(buf, c, b"lock ", &mut numbers, file) else {
         return Going::Bad;
     };
     let minutes = numbers[0];
-    let n = numbers[1] as usize;
+    let unit = numbers[1];
+    let n = numbers[2] as usize;
     if MINUTES < minutes {
+        return Going::Bad;
+    }
+    if UNITS < unit {
         return Going::Bad;
     }
     Going::On(
         after,
-        files::block_checked(part(file, 0, n), minutes as u32, page, at),
+        files::block_checked(part(file, 0, n), minutes as u32, unit as u8, page, at),
     )
 }
 

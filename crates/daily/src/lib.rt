@@ -310,12 +310,14 @@ fn answer(
             n,
             update,
             load,
+            unit,
         } => {
             let day = DayHead {
                 date: date,
                 length: minutes(n),
                 update: update,
                 load: load,
+                unit: unit,
             };
             day_shown(
                 page,

@@ -5,6 +5,7 @@ use mathlib.Core.List.{List, [], _∷_}
 use Rattle.ground.specs.Text.{bytes}
 use Rattle.format.specs.Answers.{Answer, accepted, refused, dayReadAs}
 use Rattle.format.specs.declared.DayRead.{DayRead}
+use Rattle.format.specs.declared.DayRead.the-variants as dayRead
 use Rattle.page.specs.Filled.{Filled}
 use Rattle.page.specs.Lines.{numbersText, lineOf, texts, intervalsRead, dayLine}
 use Rattle.page.proofs.Filling.{filled-then, filled-as}
@@ -23,3 +24,7 @@ line-is f e p = filled-as p (ap (λ z. lineOf (f z)) (sym e))
 pub line-day : (x : DayRead) (f : ℕ → List ℕ) (n : ℕ) {l m k : List ℕ} {at i j : ℕ} → n ≡ intervalsRead x
     → Filled l at (lineOf (dayReadAs x)) i m → Filled m i (texts f n) j k → Filled l at (dayLine x f) j k
 line-day x f n e p q = filled-then p (filled-as q (ap (texts f) e))
+
+-- how many intervals were read
+pub read-intervals : (x : DayRead) {t n u l m : ℕ} → x ≡ dayRead.Read t n u l m → n ≡ intervalsRead x
+read-intervals x e = rw e

@@ -33,7 +33,7 @@ texts f (suc n) = texts f n ++ f n
 
 -- how many intervals were read
 abbrev pub intervalsRead : DayRead → ℕ
-intervalsRead (dayRead.Read t n u l) = n
+intervalsRead (dayRead.Read t n u l m) = n
 intervalsRead (dayRead.Refused x) = 0
 
 -- the line of a day, the text of each of whose intervals f gives: the answer, and behind it the intervals

@@ -72,7 +72,12 @@ pub fn day_read(page: &mut [u8], at: usize, x: DayRead) -> usize
             n,
             update,
             load,
-        } => accepted(page, at, &[date as u64, n as u64, update, load]),
+            unit,
+        } => accepted(
+            page,
+            at,
+            &[date as u64, n as u64, update, load, unit as u64],
+        ),
         DayRead::Refused(x) => refusal(page, at, x),
     }
 }

@@ -113,6 +113,7 @@ pub fn intervals_read(x: DayRead) -> usize
             n,
             update: _,
             load: _,
+            unit: _,
         } => n,
         DayRead::Refused(_) => 0,
     }

@@ -194,6 +194,9 @@ fn bytes(before: u8, behind: u8) -> [u8; 48]
     list
 }
 
+// The unit's number.
+const KWH: u8 = 1;
+
 fn written_in(
     page: &mut [u8],
     name: &[u8],
@@ -208,6 +211,7 @@ fn written_in(
         length: 30,
         update,
         load: 0,
+        unit: KWH,
     };
     let reasons = [65535u16; 48];
     let none = [0usize; 48];

@@ -19,22 +19,23 @@ sheetOf n =
       «length» = getD n 1 0;
       update = getD n 2 0;
       load = getD n 3 0;
-      room = getD n 4 0;
-      values = getD n 5 0;
-      flags = getD n 6 0;
-      methods = getD n 7 0;
-      reasons = getD n 8 0;
-      starts = getD n 9 0;
-      lengths = getD n 10 0;
-      text = getD n 11 0;
+      unit = getD n 4 0;
+      room = getD n 5 0;
+      values = getD n 6 0;
+      flags = getD n 7 0;
+      methods = getD n 8 0;
+      reasons = getD n 9 0;
+      starts = getD n 10 0;
+      lengths = getD n 11 0;
+      text = getD n 12 0;
     }
 
 -- each number is one that the interface, or the case, can hold
 unfoldable pub canBe : Sheet → Bool
-canBe s = leb (s .date) 4294967295 && leb (s .«length») 4294967295 && leb (s .room) 131072 && leb (s .text) 4096
+canBe s = leb (s .date) 4294967295 && leb (s .«length») 4294967295 && leb (s .unit) 255 && leb (s .room) 131072 && leb (s .text) 4096
 
 unfoldable pub dayOf : Sheet → DayHead
-dayOf s = record { date = s .date % 4294967296; «length» = s .«length» % 4294967296; update = s .update; load = s .load }
+dayOf s = record { date = s .date % 4294967296; «length» = s .«length» % 4294967296; update = s .update; load = s .load; unit = s .unit % 256 }
 
 -- how many places a list has, by its number from 0
 unfoldable pub placesOf : Sheet → ℕ → ℕ

@@ -36,6 +36,7 @@ struct Sheet {
     length: u64,
     update: u64,
     load: u64,
+    unit: u64,
     room: usize,
     values: usize,
     flags: usize,
@@ -46,7 +47,7 @@ struct Sheet {
     text: usize,
 }
 
-fn sheet_of(n: [u64; 12]) -> Sheet
+fn sheet_of(n: [u64; 13]) -> Sheet
     ensures { λ r. ⌜ r ≡ sheetOf n ⌝ }
 {
     Sheet {
@@ -54,14 +55,15 @@ fn sheet_of(n: [u64; 12]) -> Sheet
         length: n[1],
         update: n[2],
         load: n[3],
-        room: n[4] as usize,
-        values: n[5] as usize,
-        flags: n[6] as usize,
-        methods: n[7] as usize,
-        reasons: n[8] as usize,
-        starts: n[9] as usize,
-        lengths: n[10] as usize,
-        text: n[11] as usize,
+        unit: n[4],
+        room: n[5] as usize,
+        values: n[6] as usize,
+        flags: n[7] as usize,
+        methods: n[8] as usize,
+        reasons: n[9] as usize,
+        starts: n[10] as usize,
+        lengths: n[11] as usize,
+        text: n[12] as usize,
     }
 }
 
@@ -73,6 +75,9 @@ fn can_be(s: Sheet) -> bool
         return false;
     }
     if 4294967295 < s.length {
+        return false;
+    }
+    if 255 < s.unit {
         return false;
     }
     if MOST_ROOM < s.room {
@@ -183,6 +188,7 @@ fn day_of(s: Sheet) -> DayHead
         length: (s.length % 4294967296) as u32,
         update: s.update,
         load: s.load,
+        unit: (s.unit % 256) as u8,
     }
 }
 
@@ -284,7 +290,7 @@ fn day_in(buf: &mut [u8], c: Cursor, s: Sheet, page: &mut [u8], at: usize) -> Go
 }
 
 pub fn write_case(buf: &mut [u8], c: Cursor, page: &mut [u8], at: usize) -> Going {
-    let mut numbers = [0u64; 12];
+    let mut numbers = [0u64; 13];
     let Passed::To(a) = head(buf, c, b"rite ", &mut numbers) else {
         return Going::Bad;
     };

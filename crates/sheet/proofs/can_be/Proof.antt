@@ -20,5 +20,9 @@ returns-4 : tie.Need-returns-4
 unfolding canBe
 returns-4 c = search tests
 
+returns-5 : tie.Need-returns-5
+unfolding canBe
+returns-5 c = search tests
+
 pub can-be-spec : {M : Type 1} → statement M
-can-be-spec = tie.close (tie.spec returns returns-2 returns-3 returns-4)
+can-be-spec = tie.close (tie.spec returns returns-2 returns-3 returns-4 returns-5)

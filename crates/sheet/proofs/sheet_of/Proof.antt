@@ -19,26 +19,29 @@ array-read-t14 c = search needs
 array-read-t17 : tie.Need-array-read-t17
 array-read-t17 c = search needs
 
-array-read-t21 : tie.Need-array-read-t21
-array-read-t21 c = search needs
+array-read-t20 : tie.Need-array-read-t20
+array-read-t20 c = search needs
 
-array-read-t25 : tie.Need-array-read-t25
-array-read-t25 c = search needs
+array-read-t24 : tie.Need-array-read-t24
+array-read-t24 c = search needs
 
-array-read-t29 : tie.Need-array-read-t29
-array-read-t29 c = search needs
+array-read-t28 : tie.Need-array-read-t28
+array-read-t28 c = search needs
 
-array-read-t33 : tie.Need-array-read-t33
-array-read-t33 c = search needs
+array-read-t32 : tie.Need-array-read-t32
+array-read-t32 c = search needs
 
-array-read-t37 : tie.Need-array-read-t37
-array-read-t37 c = search needs
+array-read-t36 : tie.Need-array-read-t36
+array-read-t36 c = search needs
 
-array-read-t41 : tie.Need-array-read-t41
-array-read-t41 c = search needs
+array-read-t40 : tie.Need-array-read-t40
+array-read-t40 c = search needs
 
-array-read-t45 : tie.Need-array-read-t45
-array-read-t45 c = search needs
+array-read-t44 : tie.Need-array-read-t44
+array-read-t44 c = search needs
+
+array-read-t48 : tie.Need-array-read-t48
+array-read-t48 c = search needs
 
 returns : tie.Need-returns
 unfolding sheetOf
@@ -53,11 +56,12 @@ sheet-of-spec =
     array-read-t11
     array-read-t14
     array-read-t17
-    array-read-t21
-    array-read-t25
-    array-read-t29
-    array-read-t33
-    array-read-t37
-    array-read-t41
-    array-read-t45
+    array-read-t20
+    array-read-t24
+    array-read-t28
+    array-read-t32
+    array-read-t36
+    array-read-t40
+    array-read-t44
+    array-read-t48
     returns)
