@@ -1,9 +1,11 @@
 //! A day block on its own: a 300 and what stands under it, with no file around it. It is held to the rules that hold
-//! behind a 200 of a given interval length which has no day yet. Places and records count from the block's start.
+//! behind a 200 of a given interval length and unit which has no day yet. Places and records count from the block's
+//! start.
 
 use crate::day::DayRead;
 use crate::fields;
 use crate::refusal::{Refusal, COVER_INCOMPLETE, DAY_UNFIT};
+use crate::units::Unit;
 use crate::walk::Walk;
 
 #[derive(Clone, Copy, Debug, PartialEq, Eq)]
@@ -13,10 +15,12 @@ pub struct BlockRead {
     pub records: usize,
 }
 
-/// Checks a block behind an interval length in minutes.
-pub fn check_block(block: &[u8], length: u32) -> Result<BlockRead, Refusal> {
-    let n = fields::intervals_in_day(u64::from(length)).ok_or(Refusal::without_place(DAY_UNFIT))?;
-    let mut walk = Walk::at_start_of_block(n);
+/// Checks a block behind an interval length in minutes and the number of a unit.
+pub fn check_block(block: &[u8], length: u32, unit: u8) -> Result<BlockRead, Refusal> {
+    let unfit = Refusal::without_place(DAY_UNFIT);
+    let n = fields::intervals_in_day(u64::from(length)).ok_or(unfit)?;
+    let unit = Unit::numbered(unit).ok_or(unfit)?;
+    let mut walk = Walk::at_start_of_block(n, unit);
     // A block has a record at least, so one is asked for even where there are no bytes.
     while walk.records == 0 || walk.start < block.len() {
         walk.step(block)?;
@@ -51,12 +55,15 @@ mod tests {
         day_30("V,,") + under
     }
 
+    /// The number of a unit that allows every decimal that a value may have.
+    const MWH: u8 = 0;
+
     fn accepted(block: &str, length: u32) -> BlockRead {
-        check_block(block.as_bytes(), length).expect("a block to be accepted")
+        check_block(block.as_bytes(), length, MWH).expect("a block to be accepted")
     }
 
     fn refused(block: &str) -> Refusal {
-        check_block(block.as_bytes(), 30).expect_err("a block to be refused")
+        check_block(block.as_bytes(), 30, MWH).expect_err("a block to be refused")
     }
 
     /// The refusal at the first byte of a part of the block.
@@ -96,7 +103,7 @@ mod tests {
     fn a_block_of_each_interval_length() {
         for (length, n) in [(5, 288), (15, 96), (30, 48)] {
             let block = day_of(n, "20030501", "A,,");
-            let day = DayRead { date: 20030501, n, update: 20030502153445, load: 0 };
+            let day = DayRead { date: 20030501, n, update: 20030502153445, load: 0, unit: MWH };
             assert_eq!(accepted(&block, length), BlockRead { day, records: 1 });
             let covered = day_of(n, "20030501", "V,,") + &format!("400,1,1,A,,\r\n400,2,{n},E52,,\r\n{ORDER}");
             assert_eq!(accepted(&covered, length), BlockRead { day, records: 4 });
@@ -134,11 +141,10 @@ mod tests {
     fn a_length_that_is_none_is_16_before_all_else() {
         for length in [0, 1, 4, 6, 10, 14, 16, 29, 31, 45, 60, 288, 1440, u32::MAX] {
             for block in ["", "x", "900\r\n", "\x00\r\n", &day_30("A,,"), &v_day("")] {
-                assert_eq!(
-                    check_block(block.as_bytes(), length),
-                    Err(Refusal::without_place(16)),
-                    "{length} {block:?}"
-                );
+                for unit in [MWH, 23] {
+                    let answer = check_block(block.as_bytes(), length, unit);
+                    assert_eq!(answer, Err(Refusal::without_place(16)), "{length} {unit} {block:?}");
+                }
             }
         }
     }
@@ -147,13 +153,39 @@ mod tests {
     fn values_and_intervals_are_held_against_this_lengths_n() {
         for (length, n) in [(5, 48), (15, 48), (15, 288), (30, 96), (30, 288)] {
             let block = day_of(n, "20030501", "A,,");
-            assert_eq!(
-                check_block(block.as_bytes(), length),
-                Err(Refusal { number: 5, place: 0, record: 0, field: 0 })
-            );
+            let answer = check_block(block.as_bytes(), length, MWH);
+            assert_eq!(answer, Err(Refusal { number: 5, place: 0, record: 0, field: 0 }));
         }
         let block = v_day("400,1,31,A,,\r\n400,32,96,E52,,\r\n");
         assert_eq!(refused(&block), refusal_at(&block, "32,96", 9, 2, 2));
+    }
+
+    // --- Units ---
+
+    #[test]
+    fn a_unit_that_is_none_is_16_before_all_else() {
+        for unit in 23..=255 {
+            for block in ["", "x", "900\r\n", "\x00\r\n", &day_30("A,,"), &v_day("")] {
+                let answer = check_block(block.as_bytes(), 30, unit);
+                assert_eq!(answer, Err(Refusal::without_place(16)), "{unit} {block:?}");
+            }
+        }
+    }
+
+    #[test]
+    fn values_are_held_to_the_units_decimals() {
+        for unit in Unit::all() {
+            let decimals = unit.decimals();
+            let with_value = |fraction: &str| day_30("A,,").replacen(",1,A", &format!(",1.{fraction},A"), 1);
+            let full = with_value(&"7".repeat(decimals));
+            let read = check_block(full.as_bytes(), 30, unit.number()).expect("a block to be accepted");
+            assert_eq!(read.day.unit, unit.number());
+            for last in ["7", "0"] {
+                let past = with_value(&("7".repeat(decimals) + last));
+                let refusal = check_block(past.as_bytes(), 30, unit.number()).expect_err("a block to be refused");
+                assert_eq!(refusal, refusal_at(&past, "1.7", 6, 0, 50), "{}", unit.name());
+            }
+        }
     }
 
     // --- Record ends: refusals 2 and 3 ---
@@ -275,7 +307,7 @@ mod tests {
         for (note, under, refusal) in NULL_DAYS {
             let block = day_30(note) + under;
             let refusal = refusal.map(|(number, record, field, part)| refusal_at(&block, part, number, record, field));
-            assert_eq!(check_block(block.as_bytes(), 30).err(), refusal, "{note} {under:?}");
+            assert_eq!(check_block(block.as_bytes(), 30, MWH).err(), refusal, "{note} {under:?}");
         }
     }
 
@@ -320,7 +352,7 @@ mod tests {
         for (date, read_time, number) in settled_read_times() {
             let block = day_of(48, date, "A,,") + &format!("500,S,,{read_time},12.5\r\n500,N,,,\r\n");
             let refusal = number.map(|number| refusal_at(&block, &format!("{read_time},12.5"), number, 1, 4));
-            assert_eq!(check_block(block.as_bytes(), 30).err(), refusal, "{date} {read_time:?}");
+            assert_eq!(check_block(block.as_bytes(), 30, MWH).err(), refusal, "{date} {read_time:?}");
         }
     }
 

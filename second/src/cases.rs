@@ -9,8 +9,13 @@ mod files;
 mod midnights;
 #[cfg(test)]
 mod null_data;
+#[cfg(test)]
+mod parts;
 mod requests;
 mod sweep;
+mod unit_sweep;
+#[cfg(test)]
+mod units;
 mod words;
 mod writes;
 
@@ -30,16 +35,20 @@ const LARGEST_TOTAL_CASE: u64 = 1250;
 const AIMS: [u64; 17] = [2, 3, 4, 5, 6, 7, 8, 9, 6, 10, 11, 12, 13, 7, 6, 9, 12];
 
 /// The refusals that a block on its own can be aimed at, likewise.
-const BLOCK_AIMS: [u64; 17] = [2, 3, 4, 5, 6, 7, 9, 10, 11, 12, 16, 4, 10, 2, 16, 11, 12];
+const BLOCK_AIMS: [u64; 18] = [2, 3, 4, 5, 16, 6, 7, 9, 10, 11, 12, 16, 4, 10, 2, 16, 11, 12];
 
-/// Cases come in rounds of this many. In each round so many files are aimed at refusals, and so many sweep the fields.
-const ROUND: u64 = 35;
-const AIMED_PER_ROUND: u64 = 4;
-const SWEPT_PER_ROUND: u64 = 9;
-/// So many blocks sweep theirs.
-const SWEPT_BLOCKS_PER_ROUND: u64 = 3;
-/// In one round of so many, the sweep of null data takes the place of an accepted file, a fit day and an accepted block.
-const NULL_DATA_EVERY: u64 = 2;
+/// Cases come in rounds of this many. In each round so many files and so many blocks are aimed at refusals.
+const ROUND: u64 = 70;
+const AIMED_PER_ROUND: u64 = 6;
+const AIMED_BLOCKS_PER_ROUND: u64 = 2;
+/// So many files, and so many blocks, sweep the fields.
+const SWEPT_PER_ROUND: u64 = 19;
+const SWEPT_BLOCKS_PER_ROUND: u64 = 6;
+/// So many files, and as many blocks, sweep the order of records, and so many the read times.
+const SWEPT_ORDERS_PER_ROUND: u64 = 2;
+const READ_TIMES_PER_ROUND: u64 = 2;
+/// So many files sweep the units. One block and one day to be written do so too, and one of each sweeps null data.
+const UNITS_PER_ROUND: u64 = 5;
 
 /// One case, its line and its bytes.
 pub fn case(seed: u64, index: u64) -> Vec<u8> {
@@ -56,36 +65,52 @@ pub fn case(seed: u64, index: u64) -> Vec<u8> {
     let round = index / ROUND;
     // Which one of a sweep: another seed begins elsewhere.
     let swept = |per_round: u64, place: u64| seed.wrapping_add(round * per_round + place);
-    let null_turn = seed.wrapping_add(round / NULL_DATA_EVERY);
-    let has_null_turn = round % NULL_DATA_EVERY == 0;
     match index % ROUND {
-        0 if has_null_turn => requests::for_accepted_file(&sweep::file_with_null_data(chance, null_turn), chance),
-        0..=2 => requests::for_accepted_file(&files::accepted(chance).bytes(), chance),
-        3..=4 => requests::for_file(&damage::damaged(chance, &files::accepted), chance),
-        place @ 5..=8 => {
-            let turn = round * AIMED_PER_ROUND + (place - 5);
-            let aim = AIMS[turn as usize % AIMS.len()];
+        0 => requests::for_accepted_file(&sweep::file_with_null_data(chance, swept(1, 0)), chance),
+        1..=4 => requests::for_accepted_file(&files::accepted(chance).bytes(), chance),
+        5..=7 => requests::for_file(&damage::damaged(chance, &files::accepted), chance),
+        place @ 8..=13 => {
+            let aim = in_turn(&AIMS, round * AIMED_PER_ROUND + (place - 8));
             requests::for_file(&aimed::bytes_for(chance, &files::accepted, aim), chance)
         }
-        9..=10 => requests::for_file(&damage::tangled(chance, &files::accepted), chance),
-        place @ 11..=19 => {
-            let turn = swept(SWEPT_PER_ROUND, place - 11);
+        14..=16 => requests::for_file(&damage::tangled(chance, &files::accepted), chance),
+        place @ 17..=35 => {
+            let turn = swept(SWEPT_PER_ROUND, place - 17);
             requests::for_file(&sweep::file_with_field(chance, turn), chance)
         }
-        20 => requests::for_file(&sweep::file_with_order(chance, swept(1, 0)), chance),
-        21 => requests::for_file(&sweep::file_with_read_time(chance, swept(1, 0)), chance),
-        22 if has_null_turn => writes::with_null_data(chance, null_turn),
-        22..=23 => writes::fit(chance),
-        24..=25 => writes::unfit(chance),
-        26 => writes::with_several_faults(chance),
-        27 if has_null_turn => blocks::with_null_data(chance, null_turn),
-        27 => blocks::accepted(chance),
-        28 => blocks::damaged(chance),
-        29 => blocks::aimed(chance, BLOCK_AIMS[round as usize % BLOCK_AIMS.len()]),
-        30 => blocks::with_order(chance, swept(1, 0)),
-        31 => blocks::with_read_time(chance, swept(1, 0)),
-        place => blocks::with_field(chance, swept(SWEPT_BLOCKS_PER_ROUND, place - 32)),
+        place @ 36..=37 => {
+            let turn = swept(SWEPT_ORDERS_PER_ROUND, place - 36);
+            requests::for_file(&sweep::file_with_order(chance, turn), chance)
+        }
+        place @ 38..=39 => {
+            let turn = swept(READ_TIMES_PER_ROUND, place - 38);
+            requests::for_file(&sweep::file_with_read_time(chance, turn), chance)
+        }
+        40..=41 => writes::fit(chance),
+        42..=44 => writes::unfit(chance),
+        45..=46 => writes::with_several_faults(chance),
+        47 => writes::with_null_data(chance, swept(1, 0)),
+        48 => writes::with_unit(chance, swept(1, 0)),
+        place @ 49..=53 => {
+            let turn = swept(UNITS_PER_ROUND, place - 49);
+            requests::for_accepted_file(&unit_sweep::file(chance, turn), chance)
+        }
+        54 => blocks::with_null_data(chance, swept(1, 0)),
+        55 => blocks::with_unit(chance, swept(1, 0)),
+        place @ 56..=57 => blocks::with_order(chance, swept(SWEPT_ORDERS_PER_ROUND, place - 56)),
+        place @ 58..=59 => blocks::with_read_time(chance, swept(READ_TIMES_PER_ROUND, place - 58)),
+        60 => blocks::accepted(chance),
+        61 => blocks::damaged(chance),
+        place @ 62..=63 => {
+            let aim = in_turn(&BLOCK_AIMS, round * AIMED_BLOCKS_PER_ROUND + (place - 62));
+            blocks::aimed(chance, aim)
+        }
+        place => blocks::with_field(chance, swept(SWEPT_BLOCKS_PER_ROUND, place - 64)),
     }
+}
+
+fn in_turn(aims: &[u64], turn: u64) -> u64 {
+    aims[turn as usize % aims.len()]
 }
 
 #[cfg(test)]
@@ -113,7 +138,7 @@ mod tests {
     #[test]
     fn no_large_case_takes_the_turn_of_a_sweep() {
         for index in [&LARGE_CASES[..], &[LARGE_BLOCK_CASE, LARGEST_TOTAL_CASE]].concat() {
-            assert!(matches!(index % ROUND, 1..=10 | 23..=26 | 28..=29), "case {index}");
+            assert!(matches!(index % ROUND, 1..=16 | 40..=46 | 60..=63), "case {index}");
         }
     }
 

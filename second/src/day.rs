@@ -46,11 +46,13 @@ pub struct DayRead {
     pub n: usize,
     pub update: u64,
     pub load: u64,
+    /// The number of its channel's unit.
+    pub unit: u8,
 }
 
 impl DayRead {
     pub fn of(day: &Day) -> DayRead {
-        DayRead { date: day.date, n: day.values.len(), update: day.update, load: day.load }
+        DayRead { date: day.date, n: day.values.len(), update: day.update, load: day.load, unit: day.unit.number() }
     }
 }
 

@@ -1,10 +1,12 @@
 //! The rules of single fields: which bytes a field may hold, and what number it writes.
 
+use crate::units::Unit;
+
 /// Stands as the method of a quality that has none.
 pub const NO_METHOD: u8 = 255;
 
-/// Values are held in millionths, so a value has at most this many digits behind its point.
-const DIGITS_BEHIND_POINT: usize = 6;
+/// Values are held in millionths, so a value of any unit has at most this many digits behind its point.
+pub const MOST_DECIMALS: usize = 6;
 const DIGITS_BEFORE_POINT: usize = 7;
 
 /// The lowest number that no value reaches: seven digits before the point, six behind.
@@ -36,6 +38,7 @@ pub enum Rule {
     TimeOrEmpty,
     /// When a day's read was taken, if that is said. It alone may be the end of the last day.
     ReadTime,
+    /// The rule of every value, whatever its unit. That its unit may allow fewer decimals is asked beside it.
     Value,
     /// The quality of a whole day, which alone may be `V`.
     DayQuality,
@@ -72,7 +75,7 @@ impl Rule {
             Rule::Suffix => field.len() == 2 && all_letters_or_digits(field),
             Rule::DataStream => field.is_empty() || Rule::Suffix.allows_content(field),
             Rule::Serial => field.len() <= 12,
-            Rule::Unit => (1..=5).contains(&field.len()) && field.iter().all(u8::is_ascii_alphabetic),
+            Rule::Unit => Unit::named(field).is_some(),
             Rule::IntervalLength => intervals_for_field(field).is_some(),
             Rule::Date => is_date(field),
             Rule::DateOrEmpty => field.is_empty() || is_date(field),
@@ -195,12 +198,17 @@ pub fn value(field: &[u8]) -> Option<u64> {
     let whole_millionths = decimal(whole) * 1_000_000;
     match fraction {
         None => Some(whole_millionths),
-        Some(digits) if all_digits(digits) && digits.len() <= DIGITS_BEHIND_POINT => {
-            let unwritten_zeros = (DIGITS_BEHIND_POINT - digits.len()) as u32;
+        Some(digits) if all_digits(digits) && digits.len() <= MOST_DECIMALS => {
+            let unwritten_zeros = (MOST_DECIMALS - digits.len()) as u32;
             Some(whole_millionths + decimal(digits) * 10u64.pow(unwritten_zeros))
         }
         Some(_) => None,
     }
+}
+
+/// How many digits a value has behind its point, zeros at its end included.
+pub fn decimals_of(value: &[u8]) -> usize {
+    split_at_point(value).1.map_or(0, <[u8]>::len)
 }
 
 /// A register read: 1 to 15 bytes, digits with at most one point, which stands between digits.

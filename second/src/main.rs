@@ -15,6 +15,7 @@ mod refusal;
 #[cfg(test)]
 mod settled;
 mod total;
+mod units;
 mod walk;
 mod write;
 

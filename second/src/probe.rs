@@ -105,9 +105,10 @@ fn answer_case(input: &mut Input, tally: &mut Tally) -> Option<Vec<u8>> {
             let channel = number(channel, usize::MAX as u64)? as usize;
             answer_total(input.lent(length)?, channel, tally)
         }
-        [b"block", interval_length, length] => {
+        [b"block", interval_length, unit, length] => {
             let interval_length = number(interval_length, u64::from(u32::MAX))? as u32;
-            answer_block(input.lent(length)?, interval_length, tally)
+            let unit = number(unit, u64::from(u8::MAX))? as u8;
+            answer_block(input.lent(length)?, interval_length, unit, tally)
         }
         [b"write", ref numbers @ ..] => answer_write(input, numbers, tally),
         _ => None,
@@ -142,8 +143,8 @@ fn answer_total(file: &[u8], channel: usize, tally: &mut Tally) -> Option<Vec<u8
     })
 }
 
-fn answer_block(block: &[u8], interval_length: u32, tally: &mut Tally) -> Option<Vec<u8>> {
-    let answer = check_block(block, interval_length);
+fn answer_block(block: &[u8], interval_length: u32, unit: u8, tally: &mut Tally) -> Option<Vec<u8>> {
+    let answer = check_block(block, interval_length, unit);
     tally.count_block(&answer);
     Some(match answer {
         Ok(read) => format!("{} {}\n", day_words(read.day), read.records).into_bytes(),
@@ -152,7 +153,7 @@ fn answer_block(block: &[u8], interval_length: u32, tally: &mut Tally) -> Option
 }
 
 fn answer_write(input: &mut Input, words: &[&[u8]], tally: &mut Tally) -> Option<Vec<u8>> {
-    let [date, length, update, load, room, list_lengths @ .., text_length] = words else {
+    let [date, length, update, load, unit, room, list_lengths @ .., text_length] = words else {
         return None;
     };
     let [values, flags, methods, reasons, starts, lengths] = list_lengths else {
@@ -163,6 +164,7 @@ fn answer_write(input: &mut Input, words: &[&[u8]], tally: &mut Tally) -> Option
         length: number(length, u64::from(u32::MAX))? as u32,
         update: number(update, u64::MAX)?,
         load: number(load, u64::MAX)?,
+        unit: number(unit, u64::from(u8::MAX))? as u8,
     };
     let room_length = number(room, LARGEST_ROOM)? as usize;
     let text_length = number(text_length, LONGEST_TEXT)? as usize;
@@ -263,14 +265,14 @@ fn refusal_line(refusal: Refusal, changed: bool) -> Vec<u8> {
     line
 }
 
-/// What an answer says of an accepted day before its intervals or records.
+/// How an answer begins that accepts a day, in a file or in a block on its own.
 fn day_words(read: DayRead) -> String {
-    let DayRead { date, n, update, load } = read;
+    let DayRead { date, n, update, load, .. } = read;
     format!("accepted {date} {n} {update} {load}")
 }
 
 fn day_line(read: DayRead, lists: &OwnLists) -> Vec<u8> {
-    let mut line = day_words(read).into_bytes();
+    let mut line = format!("{} {}", day_words(read), read.unit).into_bytes();
     for index in 0..read.n {
         let interval = format!(
             " {}/{}/{}/{}/{}/{}",
@@ -407,22 +409,28 @@ mod tests {
             "total 0\n\n",
             "block\n\n",
             "block 30\n\n",
-            "block 30 0 \n\n",
-            "block -30 0\n\n",
-            "block 4294967296 0\n\n",
-            "block 30 1100001\n\n",
-            "block 30 1\n",
-            "block 30 0\nx",
-            "write 20030922 30 20030922092231 0 10 0 0 0 0 0 0\n\n\n\n\n\n\n\n",
-            "write 4294967296 30 20030922092231 0 10 0 0 0 0 0 0 0\n\n\n\n\n\n\n\n",
-            "write 20030922 30 20030922092231 0 131073 0 0 0 0 0 0 0\n\n\n\n\n\n\n\n",
-            "write 20030922 30 20030922092231 0 10 0 0 0 0 0 0 4097\n\n\n\n\n\n\n\n",
-            "write 20030922 30 20030922092231 0 10 301 0 0 0 0 0 0\n\n\n\n\n\n\n\n",
-            "write 20030922 30 20030922092231 0 10 1 0 0 0 0 0 0\n1\n\n\n\n\n\n\n",
-            "write 20030922 30 20030922092231 0 10 1 0 0 0 0 0 0\n1 2 \n\n\n\n\n\n\n",
-            "write 20030922 30 20030922092231 0 10 0 1 0 0 0 0 0\n\n256 \n\n\n\n\n\n",
-            "write 20030922 30 20030922092231 0 10 0 0 0 1 0 0 0\n\n\n\n65536 \n\n\n\n",
-            "write 20030922 30 20030922092231 0 10 0 0 0 0 0 0 0\n\n\n\n\n\n\n",
+            "block 30 0\n\n",
+            "block 30 0 0 \n\n",
+            "block -30 0 0\n\n",
+            "block 4294967296 0 0\n\n",
+            "block 30 256 0\n\n",
+            "block 30 -1 0\n\n",
+            "block 30 kWh 0\n\n",
+            "block 30  0\n\n",
+            "block 30 0 1100001\n\n",
+            "block 30 0 1\n",
+            "block 30 0 0\nx",
+            "write 20030922 30 20030922092231 0 0 10 0 0 0 0 0 0\n\n\n\n\n\n\n\n",
+            "write 4294967296 30 20030922092231 0 0 10 0 0 0 0 0 0 0\n\n\n\n\n\n\n\n",
+            "write 20030922 30 20030922092231 0 256 10 0 0 0 0 0 0 0\n\n\n\n\n\n\n\n",
+            "write 20030922 30 20030922092231 0 0 131073 0 0 0 0 0 0 0\n\n\n\n\n\n\n\n",
+            "write 20030922 30 20030922092231 0 0 10 0 0 0 0 0 0 4097\n\n\n\n\n\n\n\n",
+            "write 20030922 30 20030922092231 0 0 10 301 0 0 0 0 0 0\n\n\n\n\n\n\n\n",
+            "write 20030922 30 20030922092231 0 0 10 1 0 0 0 0 0 0\n1\n\n\n\n\n\n\n",
+            "write 20030922 30 20030922092231 0 0 10 1 0 0 0 0 0 0\n1 2 \n\n\n\n\n\n\n",
+            "write 20030922 30 20030922092231 0 0 10 0 1 0 0 0 0 0\n\n256 \n\n\n\n\n\n",
+            "write 20030922 30 20030922092231 0 0 10 0 0 0 1 0 0 0\n\n\n\n65536 \n\n\n\n",
+            "write 20030922 30 20030922092231 0 0 10 0 0 0 0 0 0 0\n\n\n\n\n\n\n",
         ] {
             let input = format!("check 0\n\n{bad}");
             assert_eq!(answers(&input), "refused 2 0 0 0\nbad case\n", "{bad:?}");
@@ -431,7 +439,7 @@ mod tests {
 
     #[test]
     fn a_written_block_follows_its_line() {
-        let case = write_case("20030922 30 20030922092231 0 200 48 48 48 48 48 48 0", 48, &"3000000 ".repeat(48));
+        let case = write_case("20030922 30 20030922092231 0 0 200 48 48 48 48 48 48 0", 48, &"3000000 ".repeat(48));
         let block = format!("300,20030922,{}A,,,20030922092231,\r\n", "3,".repeat(48));
         let expected = format!("accepted {} 1\n{block}accepted {} 1\n{block}", block.len(), block.len());
         assert_eq!(answers(&case.repeat(2)), expected);
@@ -439,9 +447,9 @@ mod tests {
 
     #[test]
     fn lists_without_places_are_too_short() {
-        let case = write_case("0 30 0 0 0 0 0 0 0 0 0 0", 0, "");
+        let case = write_case("0 30 0 0 0 0 0 0 0 0 0 0 0", 0, "");
         assert_eq!(answers(&case), "refused 15 0 0 0\n");
-        let case = write_case("0 31 0 0 0 0 0 0 0 0 0 0", 0, "");
+        let case = write_case("0 31 0 0 0 0 0 0 0 0 0 0 0", 0, "");
         assert_eq!(answers(&case), "refused 16 0 0 0\n");
     }
 
@@ -449,17 +457,20 @@ mod tests {
     fn a_block_is_answered_by_its_day_and_its_records() {
         let day = format!("300,20030501,{}V,,,20030501153445,\r\n", "1,".repeat(48));
         let block = format!("{day}400,1,24,A,,\r\n400,25,48,E52,,\r\n500,S,,,\r\n");
-        let case = |length: &str, block: &str| format!("block {length} {}\n{block}\n", block.len());
-        assert_eq!(answers(&case("30", &block)), "accepted 20030501 48 20030501153445 0 4\n");
-        assert_eq!(answers(&case("030", &block)), "accepted 20030501 48 20030501153445 0 4\n");
-        assert_eq!(answers(&case("30", &day)), format!("refused 10 {} 1 0\n", day.len()));
-        assert_eq!(answers(&case("4294967295", "")), "refused 16 0 0 0\n");
-        assert_eq!(answers(&case("15", "")), "refused 2 0 0 0\n");
+        let case = |numbers: &str, block: &str| format!("block {numbers} {}\n{block}\n", block.len());
+        for numbers in ["30 0", "030 0", "30 022"] {
+            assert_eq!(answers(&case(numbers, &block)), "accepted 20030501 48 20030501153445 0 4\n", "{numbers}");
+        }
+        assert_eq!(answers(&case("30 1", &day)), format!("refused 10 {} 1 0\n", day.len()));
+        for numbers in ["4294967295 0", "30 23", "30 255", "31 23"] {
+            assert_eq!(answers(&case(numbers, "")), "refused 16 0 0 0\n", "{numbers}");
+        }
+        assert_eq!(answers(&case("15 0", "")), "refused 2 0 0 0\n");
     }
 
     #[test]
     fn answers_to_blocks_are_counted_among_all_and_apart() {
-        let tally = run(b"block 30 0\n\ncheck 0\n\nblock 60 0\n\n", &mut io::sink()).unwrap();
+        let tally = run(b"block 30 0 0\n\ncheck 0\n\nblock 60 0 0\n\n", &mut io::sink()).unwrap();
         assert_eq!((tally.all.refusals(2), tally.blocks.refusals(2)), (2, 1));
         assert_eq!((tally.all.refusals(16), tally.blocks.refusals(16)), (1, 1));
         let lines = tally.lines();
@@ -476,13 +487,36 @@ mod tests {
         let file = format!("{channel}300,20030501,{values}V,,,20030501153445,\r\n{cover}900\r\n");
         let intervals = " 500000/65/255/65535/0/0".repeat(47) + " 500000/78/255/65535/0/0";
         let length = file.len();
-        let expected = format!("accepted 20030501 48 20030501153445 0{intervals}\n");
+        let expected = format!("accepted 20030501 48 20030501153445 0 1{intervals}\n");
         assert_eq!(answers(&format!("day 0 48 {length}\n{file}\n")), expected);
         assert_eq!(answers(&format!("total 0 {length}\n{file}\n")), "accepted 24000000\n");
 
-        let case = write_case("20030922 30 20030922092231 0 200 48 48 48 48 48 48 0", 48, &"3000000 ".repeat(48));
+        let case = write_case("20030922 30 20030922092231 0 0 200 48 48 48 48 48 48 0", 48, &"3000000 ".repeat(48));
         let block = format!("300,20030922,{}N,,,20030922092231,\r\n", "3,".repeat(48));
         assert_eq!(answers(&case.replace("65 ", "78 ")), format!("accepted {} 1\n{block}", block.len()));
+    }
+
+    #[test]
+    fn a_days_unit_is_answered_and_written() {
+        let channel = |unit: &str| format!("200,VABD000163,E1Q1,1,E1,N1,MET,{unit},30,\r\n");
+        let day = format!("300,20030501,{}A,,,20030501153445,\r\n", "0.1,".repeat(48));
+        let header = "100,NEM12,200301011534,MDP1,Ret1\r\n";
+        let file = format!("{header}{}{day}{}{day}{}{day}900\r\n", channel("PF"), channel("mWH"), channel("Wh"));
+        for (number, unit) in [(0, 22), (1, 0), (2, 2)] {
+            let expected = format!("accepted 20030501 48 20030501153445 0 {unit} 100000/");
+            let answer = answers(&format!("day {number} 48 {}\n{file}\n", file.len()));
+            assert!(answer.starts_with(&expected), "{answer}");
+        }
+
+        let written = |unit: u8, value: u64| {
+            let head = format!("20030922 30 20030922092231 0 {unit} 600 48 48 48 48 48 48 0");
+            answers(&write_case(&head, 48, &format!("{value} ").repeat(48)))
+        };
+        assert!(written(0, 1).contains("\n300,20030922,0.000001,"));
+        assert!(written(1, 100).contains("\n300,20030922,0.0001,"));
+        for (unit, value) in [(1, 10), (1, 1), (2, 10_000), (22, 1_000), (23, 1_000_000), (255, 1_000_000)] {
+            assert_eq!(written(unit, value), "refused 16 0 0 0\n", "{unit} {value}");
+        }
     }
 
     #[test]
@@ -494,7 +528,7 @@ mod tests {
         );
         let start = file.find("Power").unwrap();
         let interval = format!(" 1500000/83/14/79/{start}/9");
-        let expected = format!("accepted 20030501 48 20030501153445 20030502023012{}\n", interval.repeat(48));
+        let expected = format!("accepted 20030501 48 20030501153445 20030502023012 1{}\n", interval.repeat(48));
         let length = file.len();
         assert_eq!(answers(&format!("day 0 300 {length}\n{file}\n")), expected);
         assert_eq!(answers(&format!("day 0 47 {length}\n{file}\n")), "refused 15 0 0 0\n");

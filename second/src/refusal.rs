@@ -26,7 +26,7 @@ pub const READ_OUTSIDE_DAY: u64 = 12;
 pub const BYTES_AFTER_END: u64 = 13;
 pub const NO_SUCH_NUMBER: u64 = 14;
 pub const LENT_TOO_SHORT: u64 = 15;
-/// Also an interval length that is none, of a block on its own.
+/// Also an interval length or a unit that is none, of a block on its own.
 pub const DAY_UNFIT: u64 = 16;
 
 /// The highest refusal number. (17 was struck: no total of a file reaches 2^64.)

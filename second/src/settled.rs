@@ -6,12 +6,17 @@ use crate::fields::{day_after, is_date, is_real_date, quality, value, Quality, R
 use crate::notes::NO_REASON;
 use crate::refusal::Refusal;
 use crate::total::total;
+use crate::units::Unit;
 use crate::write::{write_day, Block, DayHead, DayLists};
 
 const HEADER_12: &str = "100,NEM12,200301011534,MDP1,Ret1\r\n";
 const HEADER_13: &str = "100,NEM13,200301011534,MDP1,Ret1\r\n";
 const CHANNEL_30: &str = "200,VABD000163,E1Q1,1,E1,N1,METSER123,kWh,30,20040120\r\n";
 const END: &str = "900\r\n";
+
+/// Numbers of units: one that allows every decimal that a value may have, and one that allows four.
+const MWH: u8 = 0;
+const KWH: u8 = 1;
 
 /// The sample 250 of the source's section 5.3, its stray space taken out.
 const SAMPLE_250: &str = "250,1234567890,1141,01,11,11,METSERG6,E,000021.2,20031001103230,A,,,000534.5,20040201100030,\
@@ -142,7 +147,6 @@ fn lengths_stand_at_their_limits() {
         (Rule::Register, 0, 10),
         (Rule::Suffix, 2, 2),
         (Rule::Serial, 0, 12),
-        (Rule::Unit, 1, 5),
         (Rule::ServiceOrder, 0, 15),
         (Rule::Description, 0, 240),
     ] {
@@ -532,6 +536,117 @@ fn null_data_is_kept_by_its_letter_without_a_method() {
     }
 }
 
+// --- Units ---
+
+/// A half-hour 200 of this unit.
+fn channel_in(unit: &str) -> String {
+    CHANNEL_30.replace("kWh", unit)
+}
+
+/// A half-hour 300 whose first values are these.
+fn day_with(values: &[&str]) -> String {
+    let ones = ",1".repeat(values.len());
+    let values: String = values.iter().map(|value| format!(",{value}")).collect();
+    day_30("20030501", "A,,").replacen(&ones, &values, 1)
+}
+
+/// The sample 250 with this quantity and unit.
+fn sample_in(quantity: &str, unit: &str) -> String {
+    SAMPLE_250.replace("343.5,kWh", &format!("{quantity},{unit}"))
+}
+
+#[test]
+fn the_settled_values_are_read_in_a_unit_that_allows_them() {
+    let settled = day_with(&["17.461", "003.40", "0", "9999999.999999"]);
+    for unit in ["MWh", "mvarh", "MW"] {
+        let file = format!("{HEADER_12}{}{settled}{END}", channel_in(unit));
+        let content = read_file(file.as_bytes()).expect("a file to be accepted");
+        assert_eq!(content.days[0].values[..5], [17_461_000, 3_400_000, 0, 9_999_999_999_999, 1_000_000], "{unit}");
+    }
+    for (unit, part, field) in [("kWh", "9999999.9", 6), ("pf", "17.461", 3), ("Wh", "17.461", 3)] {
+        let file = format!("{HEADER_12}{}{settled}{END}", channel_in(unit));
+        assert_eq!(refused(&file), refusal_at(&file, part, 6, 2, field), "{unit}");
+    }
+}
+
+#[test]
+fn values_and_quantities_have_at_most_their_units_decimals() {
+    for unit in Unit::all() {
+        let decimals = "7".repeat(unit.decimals());
+        for name in [unit.name().to_string(), unit.name().to_lowercase(), unit.name().to_uppercase()] {
+            let day = |fraction: &str| format!("{HEADER_12}{}{}{END}", channel_in(&name), day_with(&["0", fraction]));
+            let sample = |fraction: &str| format!("{HEADER_13}{}{END}", sample_in(fraction, &name));
+            let full = format!("1.{decimals}");
+            assert!(is_accepted(&day(&full)) && is_accepted(&sample(&full)), "{name}");
+            // Zeros at the end count too.
+            for past in [format!("1.{decimals}7"), format!("1.{decimals}0"), format!("1.{decimals}00")] {
+                let (day, sample) = (day(&past), sample(&past));
+                assert_eq!(refused(&day), refusal_at(&day, &past, 6, 2, 4), "{name}");
+                assert_eq!(refused(&sample), refusal_at(&sample, &past, 6, 1, 19), "{name}");
+            }
+        }
+    }
+}
+
+#[test]
+fn units_that_are_none_are_6_at_their_field() {
+    for unit in ["", "K", "kWhh", "kW h", "kWh ", " kWh", "MVARH1", "kkkkk", "GWh", "k7h"] {
+        let file = format!("{HEADER_12}{}{}{END}", channel_in(unit), day_with(&[]));
+        assert_eq!(refused(&file), refusal_at(&file, &format!("{unit},30,"), 6, 1, 8), "{unit:?}");
+        // A quantity before such a unit is held to 01's rule alone.
+        for (quantity, field) in
+            [("343.5", 20), ("343.567891", 20), ("343.500000", 20), ("343.5678912", 19), (".5", 19), ("", 19)]
+        {
+            let file = format!("{HEADER_13}{}{END}", sample_in(quantity, unit));
+            let at_quantity = refusal_at(&file, &format!("{quantity},{unit},20040509"), 6, 1, 19);
+            let place = at_quantity.place + if field == 20 { quantity.len() + 1 } else { 0 };
+            assert_eq!(refused(&file), Refusal { place, field, ..at_quantity }, "{quantity} {unit:?}");
+        }
+    }
+}
+
+#[test]
+fn a_unit_holds_under_its_own_200_or_250_alone() {
+    let in_two = |first: (&str, &str), second: (&str, &str)| {
+        let [first, second] = [first, second].map(|(value, unit)| channel_in(unit) + &day_with(&[value]));
+        format!("{HEADER_12}{first}{second}{END}")
+    };
+    assert!(is_accepted(&in_two(("0.1", "Wh"), ("0.123456", "MWh"))));
+    assert!(is_accepted(&in_two(("0.123456", "MWh"), ("0.1", "Wh"))));
+    let stale = in_two(("0.1", "MWh"), ("0.12345", "kWh"));
+    assert_eq!(refused(&stale), refusal_at(&stale, "0.12345", 6, 4, 3));
+    let file = in_two(("0.1", "Wh"), ("0.1", "MWh"));
+    let content = read_file(file.as_bytes()).expect("a file to be accepted");
+    assert_eq!(content.days.iter().map(|day| day.unit.name()).collect::<Vec<&str>>(), ["Wh", "MWh"]);
+
+    let (in_wh, in_mwh) = (sample_in("0.1", "Wh"), sample_in("0.123456", "MWh"));
+    for (first, second) in [(&in_wh, &in_mwh), (&in_mwh, &in_wh)] {
+        assert!(is_accepted(&format!("{HEADER_13}{first}{second}{END}")));
+    }
+    let stale = format!("{HEADER_13}{in_mwh}{}{END}", sample_in("0.98765", "kWh"));
+    assert_eq!(refused(&stale), refusal_at(&stale, "0.98765", 6, 2, 19));
+}
+
+#[test]
+fn decimals_are_asked_with_the_fields_and_the_leftmost_field_counts() {
+    let past = day_with(&["1", "1.50000"]);
+    let file = |day: &str| channel_file(&(day_30("20030501", "A,,") + day));
+    for (from, to, part, field) in [
+        ("A,,", "v,,", "1.50000", 4),
+        // Rules across fields and the order of dates are asked later.
+        ("A,,", "S14,,", "1.50000", 4),
+        ("20030501", "20030430", "1.50000", 4),
+        ("20030501", "20030229", "20030229", 2),
+        (",1,1.50000", ",.5,1.50000", ".5,1.50000", 3),
+    ] {
+        let file = file(&past.replace(from, to));
+        assert_eq!(refused(&file), refusal_at(&file, part, 6, 3, field), "{to}");
+    }
+    let both = channel_in("kWhh").replace(",30,", ",31,") + &past;
+    let file = format!("{HEADER_12}{both}{END}");
+    assert_eq!(refused(&file), refusal_at(&file, "kWhh", 6, 1, 8));
+}
+
 // --- Reading a day ---
 
 #[test]
@@ -548,7 +663,7 @@ fn a_v_day_is_read_from_its_400s() {
         lengths: &mut lengths,
     };
     let read = read_day(file.as_bytes(), 0, lists).expect("a day");
-    assert_eq!((read.date, read.n, read.update, read.load), (20030501, 48, 20030502153445, 0));
+    assert_eq!((read.date, read.n, read.update, read.load, read.unit), (20030501, 48, 20030502153445, 0, KWH));
     assert_eq!((values[0], values[47], values[48], values[49]), (1_000_000, 1_000_000, 7, 7));
     let interval = |index: usize| (flags[index], methods[index], reasons[index], starts[index], lengths[index]);
     assert_eq!(interval(30), (b'A', 255, 65535, 0, 0));
@@ -572,7 +687,7 @@ struct WriteTest {
 impl WriteTest {
     fn new() -> WriteTest {
         WriteTest {
-            head: DayHead { date: 20030922, length: 30, update: 20030922092231, load: 0 },
+            head: DayHead { date: 20030922, length: 30, update: 20030922092231, load: 0, unit: MWH },
             values: vec![3_000_000; 48],
             flags: vec![b'A'; 48],
             methods: vec![NO_METHOD; 48],
@@ -713,6 +828,56 @@ fn written_null_data_reads_back() {
     assert_eq!(read.notes.iter().map(|note| note.quality.method).collect::<Vec<u8>>(), day.methods);
     assert_eq!(read.notes.iter().map(|note| note.reason).collect::<Vec<u16>>(), day.reasons);
     assert_eq!(total(file.as_bytes(), 0), Ok(48 * 3_000_000 + 1_500_000));
+}
+
+#[test]
+fn values_are_written_if_they_are_exact_in_their_unit() {
+    for unit in Unit::all() {
+        let mut day = WriteTest::new();
+        day.head.unit = unit.number();
+        day.values[47] = 10_000_000_000_000 - unit.smallest_step();
+        let largest = format!(",9999999.{},A", "9".repeat(unit.decimals()));
+        assert!(day.block().contains(&largest), "{}", unit.name());
+        let file = format!("{HEADER_12}{}{}{END}", channel_in(unit.name()), day.block());
+        let content = read_file(file.as_bytes()).expect("a file to be accepted");
+        assert_eq!((&content.days[0].values, content.days[0].unit), (&day.values, unit));
+    }
+}
+
+#[test]
+fn values_that_are_not_exact_in_their_unit_are_unfit() {
+    for unit in Unit::all().filter(|unit| unit.decimals() < 6) {
+        let mut day = WriteTest::new();
+        day.head.unit = unit.number();
+        for millionths in [1, unit.smallest_step() / 10, unit.smallest_step() - 1] {
+            day.values[47] = 3_000_000 + millionths;
+            assert_eq!(day.refused(), 16, "{} {millionths}", unit.name());
+        }
+    }
+}
+
+#[test]
+fn units_are_asked_among_the_unfit_parts() {
+    for unit in [23, 24, 128, 255] {
+        let mut day = WriteTest::new();
+        day.head.unit = unit;
+        assert_eq!(day.refused(), 16);
+        assert_eq!(day.write(&mut []), Err(Refusal::without_place(16)));
+        day.methods.pop();
+        assert_eq!(day.refused(), 15);
+        day.head.length = 31;
+        assert_eq!(day.refused(), 16);
+    }
+    let mut inexact = WriteTest::new();
+    (inexact.head.unit, inexact.values[47]) = (KWH, 3_000_010);
+    assert_eq!(inexact.write(&mut []), Err(Refusal::without_place(16)));
+    inexact.starts.pop();
+    assert_eq!(inexact.refused(), 15);
+    // What stands behind the day's intervals counts for nothing.
+    let mut longer = WriteTest::new();
+    longer.head.unit = KWH;
+    longer.values.push(1);
+    assert!(longer.block().starts_with("300,20030922,3,"));
 }
 
 #[test]

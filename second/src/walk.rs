@@ -1,12 +1,13 @@
 //! The walk from record to record: the order in which they may come, all that one is refused for, and what they hold.
 
-use crate::fields;
+use crate::fields::{self, Rule, MOST_DECIMALS};
 use crate::notes::Note;
 use crate::records::{kind_of, layout, quality_fields, Kind, Record};
 use crate::refusal::{
     Refusal, COVER_BROKEN, COVER_INCOMPLETE, DATE_NOT_LATER, DAY_ALL_ALIKE, FIELD_BREAKS_RULE, READ_OUTSIDE_DAY,
     RECORD_OUT_OF_PLACE, RULE_ACROSS_BROKEN, WRONG_FIELD_COUNT,
 };
+use crate::units::Unit;
 
 /// What an accepted file holds. A block on its own counts as one day of one channel.
 pub struct MeterFile<'a> {
@@ -23,6 +24,8 @@ pub struct Channel {
 
 pub struct Day<'a> {
     pub date: u32,
+    /// Its channel's.
+    pub unit: Unit,
     pub update: u64,
     /// 0 if none.
     pub load: u64,
@@ -79,6 +82,8 @@ pub struct Walk<'a> {
     place: Place,
     /// Intervals in a day of the current 200.
     n: usize,
+    /// The unit of the current 200, if there is one.
+    unit: Option<Unit>,
     /// Date of the last day in the current 200.
     last_date: Option<u32>,
     /// The interval at which the next 400 has to start.
@@ -95,6 +100,7 @@ impl<'a> Walk<'a> {
             records: 0,
             place: Place::AtStart,
             n: 0,
+            unit: None,
             last_date: None,
             next_interval: 1,
             over_block: false,
@@ -102,10 +108,10 @@ impl<'a> Walk<'a> {
         }
     }
 
-    /// At the start of a block on its own, as if behind a 200 whose days have n intervals.
-    pub fn at_start_of_block(n: usize) -> Walk<'a> {
+    /// At the start of a block on its own, as if behind a 200 whose days have n intervals of this unit.
+    pub fn at_start_of_block(n: usize, unit: Unit) -> Walk<'a> {
         let mut walk = Walk::at_start_of_file();
-        walk.enter_channel(n);
+        walk.enter_channel(n, unit);
         walk.over_block = true;
         walk
     }
@@ -171,8 +177,11 @@ impl<'a> Walk<'a> {
         if record.fields.len() != rules.len() {
             return Err(record.refuse(WRONG_FIELD_COUNT));
         }
+        let most_decimals = self.most_decimals(kind, record);
         for (index, rule) in rules.iter().enumerate() {
-            if !rule.allows(record.fields[index].bytes) {
+            let field = record.fields[index].bytes;
+            let has_too_many_decimals = *rule == Rule::Value && fields::decimals_of(field) > most_decimals;
+            if !rule.allows(field) || has_too_many_decimals {
                 return Err(record.refuse_field(FIELD_BREAKS_RULE, index + 1));
             }
         }
@@ -182,6 +191,12 @@ impl<'a> Walk<'a> {
             }
         }
         Ok(())
+    }
+
+    /// The decimals that the unit of a record's values allows. Where no unit is known, only every value's limit holds.
+    fn most_decimals(&self, kind: Kind, record: &Record) -> usize {
+        let unit = if kind == Kind::R250 { Unit::named(record.bytes(20)) } else { self.unit };
+        unit.map_or(MOST_DECIMALS, Unit::decimals)
     }
 
     fn take_header(&mut self, record: &Record) {
@@ -195,12 +210,14 @@ impl<'a> Walk<'a> {
     }
 
     fn take_channel(&mut self, record: &Record) {
+        let unit = Unit::named(record.bytes(8)).expect("a unit that keeps its rule");
         let n = fields::intervals_for_field(record.bytes(9)).expect("an interval length that keeps its rule");
-        self.enter_channel(n);
+        self.enter_channel(n, unit);
     }
 
-    fn enter_channel(&mut self, n: usize) {
+    fn enter_channel(&mut self, n: usize, unit: Unit) {
         self.n = n;
+        self.unit = Some(unit);
         self.last_date = None;
         self.content.channels.push(Channel { total: 0 });
         self.place = Place::AfterChannel;
@@ -214,9 +231,11 @@ impl<'a> Walk<'a> {
         let n = self.n;
         let values: Vec<u64> = (3..n + 3).map(|number| value_of(record, number)).collect();
         let note = record.note(n + 3);
+        let unit = self.unit.expect("days stand under a channel");
         self.channel().total += values.iter().map(|value| u128::from(*value)).sum::<u128>();
         self.content.days.push(Day {
             date,
+            unit,
             update: record.decimal(n + 6),
             load: record.decimal(n + 7),
             values,

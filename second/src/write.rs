@@ -3,6 +3,7 @@
 use crate::fields::{self, Quality, Rule, LONGEST_DESCRIPTION, NO_METHOD, VALUE_LIMIT};
 use crate::notes::{Note, NO_REASON};
 use crate::refusal::{Refusal, DAY_UNFIT, LENT_TOO_SHORT};
+use crate::units::Unit;
 
 #[derive(Clone, Copy, Debug)]
 pub struct DayHead {
@@ -12,6 +13,8 @@ pub struct DayHead {
     pub update: u64,
     /// 0 if none.
     pub load: u64,
+    /// Number of the unit in which its values are.
+    pub unit: u8,
 }
 
 /// The lists of the day's intervals, and the text in which their descriptions lie.
@@ -48,9 +51,10 @@ pub fn compose(head: DayHead, lists: DayLists) -> Result<(Vec<u8>, usize), Refus
     if lists.shortest() < n {
         return Err(Refusal::without_place(LENT_TOO_SHORT));
     }
+    let unit = Unit::numbered(head.unit).ok_or(unfit)?;
     let values = &lists.values[..n];
     let notes = lists.notes(n).ok_or(unfit)?;
-    if !is_fit_head(head) || values.iter().any(|value| *value >= VALUE_LIMIT) {
+    if !is_fit_head(head) || !values.iter().all(|value| is_fit_value(*value, unit)) {
         return Err(unfit);
     }
     let stretches = stretches(&notes);
@@ -69,6 +73,11 @@ pub fn compose(head: DayHead, lists: DayLists) -> Result<(Vec<u8>, usize), Refus
 fn is_fit_head(head: DayHead) -> bool {
     let is_time = |number: u64| fields::is_time(number.to_string().as_bytes());
     fields::is_date(head.date.to_string().as_bytes()) && is_time(head.update) && (head.load == 0 || is_time(head.load))
+}
+
+/// A value fits if it isn't too large and no digit of it stands behind the unit's last decimal.
+fn is_fit_value(millionths: u64, unit: Unit) -> bool {
+    millionths < VALUE_LIMIT && millionths % unit.smallest_step() == 0
 }
 
 impl<'a> DayLists<'a> {

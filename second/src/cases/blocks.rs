@@ -1,41 +1,53 @@
 //! Cases that hand in a day block on its own: accepted ones, damaged ones, aimed ones and sweeps.
 
 use super::chance::Chance;
-use super::files::{self, Draft};
+use super::files::{self, Channel, Draft};
+use super::unit_sweep::{self, BlockUnit};
 use super::{aimed, damage, requests, sweep, words};
 use crate::records::Kind;
 
-/// An interval length in minutes, and the intervals of its day. Blocks of 5 minutes are large, and so they are fewer.
-fn some_length(chance: &mut Chance) -> (u32, usize) {
+fn some_channel(chance: &mut Chance) -> Channel {
+    let unit = words::unit(chance);
+    Channel::of(some_minutes(chance), unit)
+}
+
+/// An interval length. Blocks of 5 minutes are large, and so they are fewer.
+fn some_minutes(chance: &mut Chance) -> u32 {
     match chance.below(8) {
-        0 => (5, 288),
-        1..=2 => (15, 96),
-        _ => (30, 48),
+        0 => 5,
+        1..=2 => 15,
+        _ => 30,
     }
 }
 
-fn case(minutes: u32, block: &[u8]) -> Vec<u8> {
-    requests::case(&format!("block {minutes}"), block)
+fn case(channel: Channel, block: &[u8]) -> Vec<u8> {
+    case_of_numbers(channel.minutes, channel.unit.number(), block)
+}
+
+/// A case behind any interval length and unit number.
+fn case_of_numbers(minutes: u32, unit: u8, block: &[u8]) -> Vec<u8> {
+    requests::case(&format!("block {minutes} {unit}"), block)
 }
 
 pub fn accepted(chance: &mut Chance) -> Vec<u8> {
-    let (minutes, n) = some_length(chance);
-    case(minutes, &files::block(chance, n).bytes())
+    let channel = some_channel(chance);
+    case(channel, &files::block(chance, channel).bytes())
 }
 
 /// A block that is longer than any file may be, and accepted all the same.
 pub fn large(chance: &mut Chance) -> Vec<u8> {
-    case(30, &files::large_block(chance))
+    let channel = Channel::half_hours(chance);
+    case(channel, &files::large_block(chance, channel))
 }
 
 /// A block with several changes, anywhere or in one record.
 pub fn damaged(chance: &mut Chance) -> Vec<u8> {
-    let (minutes, n) = some_length(chance);
-    case(minutes, &damaged_bytes(chance, n))
+    let channel = some_channel(chance);
+    case(channel, &damaged_bytes(chance, channel))
 }
 
-fn damaged_bytes(chance: &mut Chance, n: usize) -> Vec<u8> {
-    let make = |chance: &mut Chance| files::block(chance, n);
+fn damaged_bytes(chance: &mut Chance, channel: Channel) -> Vec<u8> {
+    let make = |chance: &mut Chance| files::block(chance, channel);
     if chance.one_in(3) {
         damage::tangled(chance, &make)
     } else {
@@ -45,67 +57,80 @@ fn damaged_bytes(chance: &mut Chance, n: usize) -> Vec<u8> {
 
 /// A block with each field's interesting contents in turn.
 pub fn with_field(chance: &mut Chance, turn: u64) -> Vec<u8> {
-    let (minutes, n) = some_length(chance);
-    case(minutes, &sweep::block_with_field(chance, n, turn))
+    let channel = some_channel(chance);
+    case(channel, &sweep::block_with_field(chance, channel, turn))
 }
 
 /// A block with each thing at each place in the order of its records in turn.
 pub fn with_order(chance: &mut Chance, turn: u64) -> Vec<u8> {
-    let (minutes, n) = some_length(chance);
-    case(minutes, &sweep::block_with_order(chance, n, turn))
+    let channel = some_channel(chance);
+    case(channel, &sweep::block_with_order(chance, channel, turn))
 }
 
 /// A block with each read time near to each date at an edge in turn.
 pub fn with_read_time(chance: &mut Chance, turn: u64) -> Vec<u8> {
-    let (minutes, n) = some_length(chance);
-    case(minutes, &sweep::block_with_read_time(chance, n, turn))
+    let channel = some_channel(chance);
+    case(channel, &sweep::block_with_read_time(chance, channel, turn))
 }
 
 /// A block with each kind of null data in turn.
 pub fn with_null_data(chance: &mut Chance, turn: u64) -> Vec<u8> {
-    let (minutes, n) = some_length(chance);
-    case(minutes, &sweep::block_with_null_data(chance, n, turn))
+    let channel = some_channel(chance);
+    case(channel, &sweep::block_with_null_data(chance, channel, turn))
+}
+
+/// A block behind each unit, with a value of each fit in turn, and behind numbers that are no unit's.
+pub fn with_unit(chance: &mut Chance, turn: u64) -> Vec<u8> {
+    match unit_sweep::block_unit(turn) {
+        BlockUnit::Known(unit, fit) => {
+            let channel = Channel::of(some_minutes(chance), unit);
+            case(channel, &unit_sweep::block(chance, channel, fit))
+        }
+        BlockUnit::None(number) => {
+            let channel = some_channel(chance);
+            case_of_numbers(channel.minutes, number, &files::block(chance, channel).bytes())
+        }
+    }
 }
 
 // --- Aimed blocks ---
 
 /// A block aimed at one refusal.
 pub fn aimed(chance: &mut Chance, aim: u64) -> Vec<u8> {
-    let (minutes, n) = some_length(chance);
+    let channel = some_channel(chance);
     let bytes = match aim {
-        2 if chance.one_in(2) => bytes_behind(chance, n),
-        4 if chance.one_in(2) => record_behind(chance, n),
-        5 if chance.one_in(3) => block_of_other_length(chance, n),
-        16 => any_bytes(chance, n),
-        _ => aimed::bytes_for(chance, &|chance| files::block(chance, n), aim),
+        2 if chance.one_in(2) => bytes_behind(chance, channel),
+        4 if chance.one_in(2) => record_behind(chance, channel),
+        5 if chance.one_in(3) => block_of_other_length(chance, channel),
+        16 => return any_bytes_behind_no_channel(chance, channel),
+        _ => aimed::bytes_for(chance, &|chance| files::block(chance, channel), aim),
     };
-    let minutes = if aim == 16 { words::no_interval_length(chance) } else { minutes };
-    case(minutes, &bytes)
+    case(channel, &bytes)
 }
 
 /// A block or what may be left of one, with bytes behind it that don't end a record.
-fn bytes_behind(chance: &mut Chance, n: usize) -> Vec<u8> {
-    let mut bytes = block_or_part(chance, n).bytes();
+fn bytes_behind(chance: &mut Chance, channel: Channel) -> Vec<u8> {
+    let mut bytes = block_or_part(chance, channel).bytes();
     let behind = chance.pick(&[b"\r".as_slice(), b"\n", b"900", b"500,S,,,", b"400,1,1,A,,\r", b"\x00", b" "]);
     bytes.extend(behind);
     bytes
 }
 
 /// A block or what may be left of one, with a record behind it that leaves the day, or with any other.
-fn record_behind(chance: &mut Chance, n: usize) -> Vec<u8> {
-    let mut draft = block_or_part(chance, n);
+fn record_behind(chance: &mut Chance, channel: Channel) -> Vec<u8> {
+    let mut draft = block_or_part(chance, channel);
     match chance.below(4) {
-        0 => draft.rows.push(files::row(chance, Kind::R200, n)),
-        1 => draft.rows.extend(files::block(chance, n).rows),
-        2 => draft.rows.push(files::row(chance, Kind::R900, n)),
+        0 => draft.rows.push(files::row(chance, Kind::R200, 0)),
+        1 => draft.rows.extend(files::block(chance, channel).rows),
+        2 => draft.rows.push(files::row(chance, Kind::R900, 0)),
         _ => draft.rows.push(damage::any_row(chance)),
     }
     draft.bytes()
 }
 
 /// A block, of which some last records may be missing, so that its cover may be open.
-fn block_or_part(chance: &mut Chance, n: usize) -> Draft {
-    let mut draft = files::block(chance, n);
+fn block_or_part(chance: &mut Chance, channel: Channel) -> Draft {
+    let mut draft = files::block(chance, channel);
     if chance.one_in(2) {
         let keep = chance.below(draft.rows.len());
         draft.rows.truncate(keep);
@@ -113,21 +138,27 @@ fn block_or_part(chance: &mut Chance, n: usize) -> Draft {
     draft
 }
 
-fn block_of_other_length(chance: &mut Chance, n: usize) -> Vec<u8> {
+fn block_of_other_length(chance: &mut Chance, channel: Channel) -> Vec<u8> {
     loop {
-        let other = chance.pick(&[48, 96, 288]);
-        if other != n {
-            return files::block(chance, other).bytes();
+        let other = chance.pick(&[5, 15, 30]);
+        if other != channel.minutes {
+            return files::block(chance, Channel::of(other, channel.unit)).bytes();
         }
     }
 }
 
-/// Bytes of a block in any state, or none.
-fn any_bytes(chance: &mut Chance, n: usize) -> Vec<u8> {
-    match chance.below(3) {
+/// Bytes of a block in any state, or none, behind an interval length or a unit that is none, or behind both.
+fn any_bytes_behind_no_channel(chance: &mut Chance, channel: Channel) -> Vec<u8> {
+    let bytes = match chance.below(3) {
         0 => Vec::new(),
-        1 => damaged_bytes(chance, n),
-        _ => files::block(chance, n).bytes(),
+        1 => damaged_bytes(chance, channel),
+        _ => files::block(chance, channel).bytes(),
+    };
+    let (minutes, unit) = (words::no_interval_length(chance), words::no_unit_number(chance));
+    match chance.below(5) {
+        0 => case_of_numbers(minutes, unit, &bytes),
+        1..=2 => case_of_numbers(channel.minutes, unit, &bytes),
+        _ => case_of_numbers(minutes, channel.unit.number(), &bytes),
     }
 }
 
@@ -138,13 +169,14 @@ mod tests {
     use crate::cases::BLOCK_AIMS;
     use crate::check::{check, Summary, LONGEST_FILE};
     use crate::refusal::{Refusal, DAY_UNFIT, NO_RECORD_END, RECORD_OUT_OF_PLACE};
+    use crate::units::Unit;
 
     const HEADER: &str = "100,NEM12,200301011534,MDP1,Ret1\r\n";
 
-    /// The interval length and the bytes of a `block` case.
-    fn parts(case: &[u8]) -> (u32, &[u8]) {
+    /// The interval length, the unit's number and the bytes of a `block` case.
+    fn parts(case: &[u8]) -> (u32, u8, &[u8]) {
         let (words, bytes) = requests::words_and_bytes(case);
-        (words[1].parse().expect("an interval length"), bytes)
+        (words[1].parse().expect("an interval length"), words[2].parse().expect("a unit's number"), bytes)
     }
 
     /// What the block's refusal would be if it stood in a file behind a header and a 200.
@@ -154,10 +186,11 @@ mod tests {
 
     /// Holds the answer to a block against the answer to a file of which it is the only day.
     fn compare_with_file(case: &[u8]) {
-        let (minutes, block) = parts(case);
-        let channel = format!("{HEADER}200,VABD000163,E1,,E1,,,kWh,{minutes},\r\n");
+        let (minutes, unit, block) = parts(case);
+        let unit_name = Unit::numbered(unit).map_or("", Unit::name);
+        let channel = format!("{HEADER}200,VABD000163,E1,,E1,,,{unit_name},{minutes},\r\n");
         let file = [channel.as_bytes(), block, b"900\r\n"].concat();
-        let in_block = check_block(block, minutes);
+        let in_block = check_block(block, minutes, unit);
         match (in_block, check(&file)) {
             (Ok(_), answer) => assert_eq!(answer, Ok(Summary { version: 12, channels: 1, days: 1 })),
             // There is no such 200.
@@ -178,8 +211,8 @@ mod tests {
     fn blocks_meant_to_be_accepted_are_accepted() {
         for index in 0..300 {
             let case = accepted(&mut Chance::for_case(5, index));
-            let (minutes, block) = parts(&case);
-            let answer = check_block(block, minutes);
+            let (minutes, unit, block) = parts(&case);
+            let answer = check_block(block, minutes, unit);
             assert!(answer.is_ok(), "{answer:?}\n{}", String::from_utf8_lossy(block));
         }
     }
@@ -187,8 +220,8 @@ mod tests {
     #[test]
     fn a_large_block_is_longer_than_a_file_may_be() {
         let case = large(&mut Chance::for_case(5, 0));
-        let (minutes, block) = parts(&case);
-        assert!(block.len() > LONGEST_FILE && check_block(block, minutes).is_ok());
+        let (minutes, unit, block) = parts(&case);
+        assert!(block.len() > LONGEST_FILE && check_block(block, minutes, unit).is_ok());
     }
 
     #[test]
@@ -202,6 +235,7 @@ mod tests {
             compare_with_file(&with_order(chance, index));
             compare_with_file(&with_read_time(chance, index));
             compare_with_file(&with_null_data(chance, index));
+            compare_with_file(&with_unit(chance, index));
         }
     }
 }

@@ -37,6 +37,15 @@ impl Chance {
         choices[self.below(choices.len())]
     }
 
+    /// A place among so many, the first and the last more often than the others.
+    pub fn place_among(&mut self, count: usize) -> usize {
+        match self.below(4) {
+            0 => 0,
+            1 => count - 1,
+            _ => self.below(count),
+        }
+    }
+
     /// A length from low to high: often one of the two, else rather short.
     pub fn length(&mut self, low: usize, high: usize) -> usize {
         match self.below(12) {

@@ -3,8 +3,9 @@
 use super::chance::Chance;
 use super::words::{self, number_word, NoteWords, Word};
 use crate::check::LONGEST_FILE;
-use crate::fields::Rule;
+use crate::fields::{intervals_in_day, Rule};
 use crate::records::{kind_of, layout, Kind};
+use crate::units::Unit;
 use crate::write::record_bytes;
 
 /// A record's fields.
@@ -40,7 +41,7 @@ pub fn rules_of(row: &Row) -> Vec<Rule> {
     }
 }
 
-/// A row of a kind, each field of which keeps its rule.
+/// A row of a kind, each field of which keeps its rule. Its values have few enough decimals for any unit.
 pub fn row(chance: &mut Chance, kind: Kind, n: usize) -> Row {
     let mut row: Row = layout(kind, n).into_iter().map(|rule| words::keeping(chance, rule)).collect();
     row[0] = indicator(kind).as_bytes().to_vec();
@@ -99,41 +100,73 @@ pub fn header(chance: &mut Chance, version: &[u8]) -> Row {
     header
 }
 
+/// What a 200 says of the days under it.
+#[derive(Clone, Copy, Debug)]
+pub struct Channel {
+    /// Interval length.
+    pub minutes: u32,
+    /// Intervals in a day.
+    pub n: usize,
+    pub unit: Unit,
+}
+
+impl Channel {
+    pub fn of(minutes: u32, unit: Unit) -> Channel {
+        let n = intervals_in_day(u64::from(minutes)).expect("one of the three lengths");
+        Channel { minutes, n, unit }
+    }
+
+    /// One of half hours, of any unit.
+    pub fn half_hours(chance: &mut Chance) -> Channel {
+        Channel::of(30, words::unit(chance))
+    }
+}
+
 /// A 200 with its days. Days of 5 minutes are large, and so they are few.
 fn channel(chance: &mut Chance) -> Vec<Row> {
-    let (minutes, n) = match chance.below(16) {
-        0 => (5, 288),
-        1..=3 => (15, 96),
-        _ => (30, 48),
+    let minutes = match chance.below(16) {
+        0 => 5,
+        1..=3 => 15,
+        _ => 30,
     };
-    let days = if n == 48 && chance.one_in(12) { chance.between(3, 9) } else { chance.between(1, 2) };
-    let mut rows = vec![channel_head(chance, minutes)];
+    let channel = Channel::of(minutes, words::unit(chance));
+    channel_of(chance, channel)
+}
+
+pub fn channel_of(chance: &mut Chance, channel: Channel) -> Vec<Row> {
+    let days = if channel.n == 48 && chance.one_in(12) { chance.between(3, 9) } else { chance.between(1, 2) };
+    let mut rows = vec![channel_head(chance, channel)];
     for date in words::rising_dates(chance, days) {
-        rows.extend(day_block(chance, n, date));
+        rows.extend(day_block(chance, channel, date));
     }
     rows
 }
 
-/// A 200 of this interval length.
-pub fn channel_head(chance: &mut Chance, minutes: u32) -> Row {
+pub fn channel_head(chance: &mut Chance, channel: Channel) -> Row {
     let mut head = row(chance, Kind::R200, 0);
-    head[8] = number_word(minutes);
+    head[UNIT_IN_200] = words::unit_word(chance, channel.unit);
+    head[8] = number_word(channel.minutes);
     head
 }
 
+/// The place of a 200's unit among its fields, and those of a 250's quantity and unit.
+pub const UNIT_IN_200: usize = 7;
+pub const QUANTITY_IN_250: usize = 18;
+pub const UNIT_IN_250: usize = 19;
+
 /// A day block on its own, of a date in any year that may stand.
-pub fn block(chance: &mut Chance, n: usize) -> Draft {
+pub fn block(chance: &mut Chance, channel: Channel) -> Draft {
     let date = words::date(chance);
-    Draft { rows: day_block(chance, n, date) }
+    Draft { rows: day_block(chance, channel, date) }
 }
 
-pub fn day_block(chance: &mut Chance, n: usize, date: u32) -> Vec<Row> {
+pub fn day_block(chance: &mut Chance, channel: Channel, date: u32) -> Vec<Row> {
     let mut rows = if chance.one_in(2) {
         let note = words::note(chance);
-        vec![day(chance, n, date, &note.fields())]
+        vec![day(chance, channel, date, &note.fields())]
     } else {
-        let mut rows = vec![day(chance, n, date, &[b"V".to_vec(), Vec::new(), Vec::new()])];
-        rows.extend(cover(chance, n));
+        let mut rows = vec![day(chance, channel, date, &[b"V".to_vec(), Vec::new(), Vec::new()])];
+        rows.extend(cover(chance, channel.n));
         rows
     };
     if chance.one_in(3) {
@@ -144,10 +177,11 @@ pub fn day_block(chance: &mut Chance, n: usize, date: u32) -> Vec<Row> {
     rows
 }
 
-pub fn day(chance: &mut Chance, n: usize, date: u32, note: &[Word; 3]) -> Row {
+pub fn day(chance: &mut Chance, channel: Channel, date: u32, note: &[Word; 3]) -> Row {
+    let n = channel.n;
     let mut day = row(chance, Kind::R300, n);
     day[1] = number_word(date);
-    for (field, value) in day[2..n + 2].iter_mut().zip(words::values(chance, n)) {
+    for (field, value) in day[2..n + 2].iter_mut().zip(words::values(chance, n, channel.unit)) {
         *field = value;
     }
     day[n + 2..n + 5].clone_from_slice(note);
@@ -252,7 +286,15 @@ pub fn nem13(chance: &mut Chance) -> Draft {
 }
 
 pub fn accumulation(chance: &mut Chance) -> Row {
+    let unit = words::unit(chance);
+    accumulation_in(chance, unit)
+}
+
+/// A 250 whose quantity is of this unit.
+pub fn accumulation_in(chance: &mut Chance, unit: Unit) -> Row {
     let mut accumulation = row(chance, Kind::R250, 0);
+    accumulation[QUANTITY_IN_250] = words::value_in(chance, unit);
+    accumulation[UNIT_IN_250] = words::unit_word(chance, unit);
     for quality in [10, 15] {
         let note = words::note_with(chance, Rule::ReadQuality);
         accumulation[quality..quality + 3].clone_from_slice(&note.fields());
@@ -273,17 +315,19 @@ pub fn large(chance: &mut Chance, which: usize) -> Vec<u8> {
 }
 
 fn file_of_length(chance: &mut Chance, length: usize) -> Vec<u8> {
-    full_file(chance, length, 30, 2_000, |chance, date| {
+    let channel = Channel::half_hours(chance);
+    full_file(chance, length, channel, 2_000, |chance, date| {
         let note = words::note(chance);
-        day(chance, 48, date, &note.fields())
+        day(chance, channel, date, &note.fields())
     })
 }
 
 /// A file of the largest length with one channel, whose values are the largest that eight bytes hold with their comma:
 /// none of another shape adds up to more for its bytes. Some 2,500 bytes at the most are left to orders.
 pub fn largest_total(chance: &mut Chance) -> Vec<u8> {
-    full_file(chance, LONGEST_FILE, 5, 2_500, |chance, date| {
-        let mut row = day(chance, 288, date, &[b"A".to_vec(), Vec::new(), Vec::new()]);
+    let channel = Channel::of(5, words::unit(chance));
+    full_file(chance, LONGEST_FILE, channel, 2_500, |chance, date| {
+        let mut row = day(chance, channel, date, &[b"A".to_vec(), Vec::new(), Vec::new()]);
         row[2..290].fill(b"9999999".to_vec());
         row
     })
@@ -293,13 +337,13 @@ pub fn largest_total(chance: &mut Chance) -> Vec<u8> {
 fn full_file(
     chance: &mut Chance,
     length: usize,
-    minutes: u32,
+    channel: Channel,
     most_bytes: usize,
     day_on: impl Fn(&mut Chance, u32) -> Row,
 ) -> Vec<u8> {
     const END: &[u8] = b"900\r\n";
     let mut bytes = record_bytes(&header(chance, b"NEM12"));
-    bytes.extend(record_bytes(&channel_head(chance, minutes)));
+    bytes.extend(record_bytes(&channel_head(chance, channel)));
     let mut date = 19_000_101;
     while bytes.len() + most_bytes < length {
         bytes.extend(record_bytes(&day_on(chance, date)));
@@ -310,10 +354,10 @@ fn full_file(
     bytes
 }
 
-/// A half-hour block that is longer than any file may be.
-pub fn large_block(chance: &mut Chance) -> Vec<u8> {
+/// A block that is longer than any file may be.
+pub fn large_block(chance: &mut Chance, channel: Channel) -> Vec<u8> {
     let length = chance.between(LONGEST_FILE + 1, 1_100_000);
-    let mut bytes = block(chance, 48).bytes();
+    let mut bytes = block(chance, channel).bytes();
     fill_with_orders(&mut bytes, length);
     bytes
 }

@@ -2,14 +2,10 @@
 //! blocks on their own, and it has the end of the last day as every other time.
 
 use super::case;
+use super::parts::{answer, records_of, Checked};
 use super::requests::words_and_bytes;
 use super::words::{time_at, LAST_DATE};
-use crate::block::check_block;
-use crate::check::check;
 use crate::fields::{day_after, decimal, is_real_date, END_OF_LAST_DAY};
-use crate::probe;
-use crate::records::Record;
-use crate::refusal::Refusal;
 
 /// What a kind of read time is called, the number of its refusal if it has one, and whether a time under a date is one.
 type ReadKind = (&'static str, Option<u64>, fn(u32, u64) -> bool);
@@ -97,23 +93,12 @@ impl Judged {
 
 /// The fields judged in a case's file or block. A day to be written has none.
 fn judged_in(case: &[u8]) -> Vec<Judged> {
-    let (words, bytes) = words_and_bytes(case);
-    match words[..] {
-        ["write", ..] => Vec::new(),
-        ["block", minutes, _] => {
-            let minutes = minutes.parse().expect("an interval length");
-            judged_by(bytes, true, check_block(bytes, minutes).err())
-        }
-        _ => judged_by(bytes, false, check(bytes).err()),
-    }
-}
-
-fn judged_by(bytes: &[u8], in_block: bool, refusal: Option<Refusal>) -> Vec<Judged> {
+    let Some(checked) = Checked::of_case(case) else { return Vec::new() };
+    let in_block = checked.block.is_some();
     let mut judged = Vec::new();
-    let (mut start, mut date) = (0, 0);
-    for number in 0.. {
-        let Ok(record) = Record::read(bytes, start, number) else { break };
-        let refusal = refusal.filter(|refusal| refusal.record == number);
+    let mut date = 0;
+    for record in records_of(checked.bytes) {
+        let refusal = checked.refusal.filter(|refusal| refusal.record == record.number);
         let read_time = if record.bytes(1) == b"500" { 4 } else { 0 };
         let field = refusal.map_or(read_time, |refusal| refusal.field);
         if field > 0 {
@@ -132,7 +117,6 @@ fn judged_by(bytes: &[u8], in_block: bool, refusal: Option<Refusal>) -> Vec<Judg
         if record.bytes(1) == b"300" {
             date = record.decimal(2) as u32;
         }
-        start = record.end;
     }
     judged
 }
@@ -143,9 +127,7 @@ fn writes_end_of_last_day(case: &[u8], place: usize) -> bool {
     if words[0] != "write" || words[place].as_bytes() != END_OF_LAST_DAY {
         return false;
     }
-    let mut answer = Vec::new();
-    probe::run(case, &mut answer).expect("an answer");
-    answer.starts_with(b"refused 16 ")
+    answer(case).starts_with(b"refused 16 ")
 }
 
 #[test]

@@ -2,16 +2,13 @@
 //! own and in days to be written.
 
 use super::case;
+use super::parts::{answer, number, records_of, Checked, DayToWrite, Fault};
 use super::requests::words_and_bytes;
 use super::words::NoteWords;
-use crate::block::check_block;
-use crate::check::check;
-use crate::fields::{intervals_in_day, NO_METHOD};
+use crate::fields::NO_METHOD;
 use crate::notes::NO_REASON;
-use crate::probe;
 use crate::records::Record;
 use crate::refusal::Refusal;
-use crate::write::{compose, DayHead, DayLists};
 
 /// The notes and covers of files and blocks.
 #[derive(Default)]
@@ -38,13 +35,10 @@ struct Cover {
 }
 
 impl Found {
-    /// Takes what a case's file or block has. A day to be written has none.
+    /// Takes what a case's file or block has.
     fn take(&mut self, case: &[u8]) {
-        let (words, bytes) = words_and_bytes(case);
-        match words[..] {
-            ["write", ..] => (),
-            ["block", minutes, _] => self.take_records(bytes, true, check_block(bytes, number(minutes)).err()),
-            _ => self.take_records(bytes, false, check(bytes).err()),
+        if let Some(checked) = Checked::of_case(case) {
+            self.take_records(checked.bytes, checked.block.is_some(), checked.refusal);
         }
     }
 
@@ -78,16 +72,6 @@ impl Found {
             }
         }
     }
-}
-
-fn records_of(bytes: &[u8]) -> Vec<Record<'_>> {
-    let mut records: Vec<Record> = Vec::new();
-    let mut start = 0;
-    while let Ok(record) = Record::read(bytes, start, records.len()) {
-        start = record.end;
-        records.push(record);
-    }
-    records
 }
 
 /// The numbers of a record's quality fields, if it has as many fields as it should.
@@ -206,12 +190,6 @@ fn look_for_covers(covers: &[Cover]) {
 
 // --- Days read and channels totalled ---
 
-fn answer(case: &[u8]) -> Vec<u8> {
-    let mut answer = Vec::new();
-    probe::run(case, &mut answer).expect("an answer");
-    answer
-}
-
 /// How many intervals of null data and of actual data the day has that a case reads, if it reads one.
 fn intervals_read(case: &[u8]) -> Option<(usize, usize)> {
     if !case.starts_with(b"day ") {
@@ -245,60 +223,7 @@ fn look_for_answers(cases: &[Vec<u8>]) {
 
 // --- Days to be written ---
 
-#[derive(Clone)]
-struct DayToWrite {
-    head: DayHead,
-    values: Vec<u64>,
-    flags: Vec<u8>,
-    methods: Vec<u8>,
-    reasons: Vec<u16>,
-    starts: Vec<usize>,
-    lengths: Vec<usize>,
-    text: Vec<u8>,
-}
-
 impl DayToWrite {
-    fn of_case(case: &[u8]) -> Option<DayToWrite> {
-        let (words, bytes) = words_and_bytes(case);
-        let ["write", date, length, update, load, ..] = words[..] else { return None };
-        let mut lines = bytes.splitn(7, |byte| *byte == b'\n');
-        Some(DayToWrite {
-            head: DayHead { date: number(date), length: number(length), update: number(update), load: number(load) },
-            values: numbers(lines.next()),
-            flags: numbers(lines.next()),
-            methods: numbers(lines.next()),
-            reasons: numbers(lines.next()),
-            starts: numbers(lines.next()),
-            lengths: numbers(lines.next()),
-            text: lines.next().expect("a text").to_vec(),
-        })
-    }
-
-    /// Its block, or the number of its refusal, room being plenty.
-    fn written(&self) -> Result<Vec<u8>, u64> {
-        let lists = DayLists {
-            values: &self.values,
-            flags: &self.flags,
-            methods: &self.methods,
-            reasons: &self.reasons,
-            starts: &self.starts,
-            lengths: &self.lengths,
-            text: &self.text,
-        };
-        compose(self.head, lists).map(|(block, _)| block).map_err(|refusal| refusal.number)
-    }
-
-    /// Whether it is unfit by intervals with this fault alone.
-    fn is_unfit_by(&self, (_, has_fault, mend): Fault) -> bool {
-        let Some(n) = intervals_in_day(u64::from(self.head.length)) else { return false };
-        let is_unfit = self.written() == Err(16);
-        let mut mended = self.clone();
-        for index in (0..n).filter(|index| is_unfit && has_fault(self, *index)) {
-            mend(&mut mended, index);
-        }
-        is_unfit && mended.written().is_ok()
-    }
-
     /// Whether it is fit and has neighbours of null data that are alike, but for the place of their description.
     fn has_null_described_twice(&self) -> bool {
         let description = |index: usize| self.text.get(self.starts[index]..)?.get(..self.lengths[index]);
@@ -312,18 +237,6 @@ impl DayToWrite {
             })
     }
 }
-
-fn number<T: std::str::FromStr>(word: &str) -> T {
-    word.parse().unwrap_or_else(|_| panic!("{word} is no such number"))
-}
-
-fn numbers<T: std::str::FromStr>(line: Option<&[u8]>) -> Vec<T> {
-    let line = std::str::from_utf8(line.expect("a line")).expect("numbers");
-    line.split_terminator(' ').map(number).collect()
-}
-
-/// What a fault of an interval is called, whether an interval has it, and how it is mended.
-type Fault = (&'static str, fn(&DayToWrite, usize) -> bool, fn(&mut DayToWrite, usize));
 
 const FAULTS: [Fault; 3] = [
     (

@@ -4,7 +4,7 @@
 
 use super::chance::Chance;
 use super::damage;
-use super::files::{self, Draft, Make, Row};
+use super::files::{self, Channel, Draft, Make, Row};
 use super::words::{self, NoteWords, Word};
 use crate::fields::{decimal, Rule};
 use crate::records::{layout, Kind};
@@ -20,7 +20,7 @@ const KINDS_OF_BLOCK: [Kind; 3] = [Kind::R300, Kind::R400, Kind::R500];
 const STEP: u64 = 367;
 
 /// Which of so many things has its turn.
-fn which(turn: u64, count: usize) -> usize {
+pub fn which(turn: u64, count: usize) -> usize {
     (turn.wrapping_mul(STEP) % count as u64) as usize
 }
 
@@ -51,9 +51,9 @@ pub fn file_with_field(chance: &mut Chance, turn: u64) -> Vec<u8> {
     with_field(chance, &files::accepted, &KINDS, turn)
 }
 
-/// A block of n intervals that is accepted but for one field, if that field's content isn't.
-pub fn block_with_field(chance: &mut Chance, n: usize, turn: u64) -> Vec<u8> {
-    with_field(chance, &|chance| files::block(chance, n), &KINDS_OF_BLOCK, turn)
+/// A block that is accepted but for one field, if that field's content isn't.
+pub fn block_with_field(chance: &mut Chance, channel: Channel, turn: u64) -> Vec<u8> {
+    with_field(chance, &|chance| files::block(chance, channel), &KINDS_OF_BLOCK, turn)
 }
 
 fn with_field(chance: &mut Chance, make: Make, kinds: &[Kind], turn: u64) -> Vec<u8> {
@@ -87,7 +87,8 @@ fn leads(chance: &mut Chance) -> Vec<Vec<Row>> {
         header[1] = version.to_vec();
         header
     });
-    let channel = files::channel_head(chance, 30);
+    let half_hours = Channel::half_hours(chance);
+    let channel = files::channel_head(chance, half_hours);
     let accumulation = files::accumulation(chance);
     let order_13 = files::row(chance, Kind::R550, 0);
     let end = files::row(chance, Kind::R900, 0);
@@ -95,8 +96,8 @@ fn leads(chance: &mut Chance) -> Vec<Vec<Row>> {
     let start_12 = vec![header_12, channel];
     let start_13 = vec![header_13, accumulation];
     let in_channel: Vec<Vec<Row>> =
-        leads_of_block(chance, 48).into_iter().map(|lead| [start_12.clone(), lead].concat()).collect();
-    let complete_12 = [start_12.clone(), vec![plain_day(chance, 48), end.clone()]].concat();
+        leads_of_block(chance, half_hours).into_iter().map(|lead| [start_12.clone(), lead].concat()).collect();
+    let complete_12 = [start_12.clone(), vec![plain_day(chance, half_hours), end.clone()]].concat();
     let mut leads = vec![
         Vec::new(),
         start_12[..1].to_vec(),
@@ -111,14 +112,14 @@ fn leads(chance: &mut Chance) -> Vec<Vec<Row>> {
 }
 
 /// The records that lead to each place in the order of a block's records, the block's start being the first.
-fn leads_of_block(chance: &mut Chance, n: usize) -> Vec<Vec<Row>> {
-    let cover = files::cover(chance, n);
+fn leads_of_block(chance: &mut Chance, channel: Channel) -> Vec<Vec<Row>> {
+    let cover = files::cover(chance, channel.n);
     let mut order = files::row(chance, Kind::R500, 0);
     order[3] = Vec::new();
 
-    let in_v_day = vec![files::day(chance, n, DATE, &[b"V".to_vec(), Vec::new(), Vec::new()])];
+    let in_v_day = vec![files::day(chance, channel, DATE, &[b"V".to_vec(), Vec::new(), Vec::new()])];
     let covered = [in_v_day.clone(), cover.clone()].concat();
-    let in_plain_day = vec![plain_day(chance, n)];
+    let in_plain_day = vec![plain_day(chance, channel)];
     vec![
         Vec::new(),
         [in_v_day.clone(), cover[..1].to_vec()].concat(),
@@ -133,9 +134,9 @@ fn leads_of_block(chance: &mut Chance, n: usize) -> Vec<Vec<Row>> {
 /// The date of the days in whose order records are swept.
 const DATE: u32 = 20_030_501;
 
-fn plain_day(chance: &mut Chance, n: usize) -> Row {
+fn plain_day(chance: &mut Chance, channel: Channel) -> Row {
     let note = words::note(chance);
-    files::day(chance, n, DATE, &note.fields())
+    files::day(chance, channel, DATE, &note.fields())
 }
 
 /// A record of each kind, and ones that are of no kind.
@@ -168,9 +169,9 @@ fn block_ends(chance: &mut Chance, n: usize) -> Vec<Vec<u8>> {
     ends
 }
 
-/// A block of n intervals that has one thing behind one place in the order, and ends there.
-pub fn block_with_order(chance: &mut Chance, n: usize, turn: u64) -> Vec<u8> {
-    let (leads, ends) = (leads_of_block(chance, n), block_ends(chance, n));
+/// A block that has one thing behind one place in the order, and ends there.
+pub fn block_with_order(chance: &mut Chance, channel: Channel, turn: u64) -> Vec<u8> {
+    let (leads, ends) = (leads_of_block(chance, channel), block_ends(chance, channel.n));
     let which = which(turn, leads.len() * ends.len());
     let mut bytes = Draft { rows: leads[which / ends.len()].clone() }.bytes();
     bytes.extend(&ends[which % ends.len()]);
@@ -191,26 +192,27 @@ fn dates_with_read_times() -> Vec<(u32, u64)> {
     pairs
 }
 
-/// A day block of n intervals that is accepted but for the read time of its last 500, if that isn't.
-fn rows_with_read_time(chance: &mut Chance, n: usize, turn: u64) -> Vec<Row> {
+/// A day block that is accepted but for the read time of its last 500, if that isn't.
+fn rows_with_read_time(chance: &mut Chance, channel: Channel, turn: u64) -> Vec<Row> {
     let pairs = dates_with_read_times();
     let (date, read_time) = pairs[which(turn, pairs.len())];
-    let mut rows = files::day_block(chance, n, date);
-    let mut order = files::row(chance, Kind::R500, n);
+    let mut rows = files::day_block(chance, channel, date);
+    let mut order = files::row(chance, Kind::R500, 0);
     order[3] = words::number_word(read_time);
     rows.push(order);
     rows
 }
 
-pub fn block_with_read_time(chance: &mut Chance, n: usize, turn: u64) -> Vec<u8> {
-    Draft { rows: rows_with_read_time(chance, n, turn) }.bytes()
+pub fn block_with_read_time(chance: &mut Chance, channel: Channel, turn: u64) -> Vec<u8> {
+    Draft { rows: rows_with_read_time(chance, channel, turn) }.bytes()
 }
 
 /// A file that has such a block as its last day, under a 200 of its own.
 pub fn file_with_read_time(chance: &mut Chance, turn: u64) -> Vec<u8> {
     let mut draft = files::nem12(chance);
-    let mut rows = vec![files::channel_head(chance, 30)];
-    rows.extend(rows_with_read_time(chance, 48, turn));
+    let channel = Channel::half_hours(chance);
+    let mut rows = vec![files::channel_head(chance, channel)];
+    rows.extend(rows_with_read_time(chance, channel, turn));
     let end = draft.rows.len() - 1;
     draft.rows.splice(end..end, rows);
     draft.bytes()
@@ -262,18 +264,18 @@ fn null_reads() -> Vec<(usize, NoteWords)> {
     [10, 15].into_iter().flat_map(|quality| notes.iter().map(move |note| (quality, NoteWords::of(*note)))).collect()
 }
 
-fn rows_of_null_day(chance: &mut Chance, n: usize, day: &NullDay) -> Vec<Row> {
+fn rows_of_null_day(chance: &mut Chance, channel: Channel, day: &NullDay) -> Vec<Row> {
     let date = words::date(chance);
     if !day.in_cover {
-        return vec![files::day(chance, n, date, &day.notes[0].fields())];
+        return vec![files::day(chance, channel, date, &day.notes[0].fields())];
     }
-    let mut rows = vec![files::day(chance, n, date, &[b"V".to_vec(), Vec::new(), Vec::new()])];
-    rows.extend(files::cover_with(chance, n, &day.notes));
+    let mut rows = vec![files::day(chance, channel, date, &[b"V".to_vec(), Vec::new(), Vec::new()])];
+    rows.extend(files::cover_with(chance, channel.n, &day.notes));
     rows
 }
 
-pub fn block_with_null_data(chance: &mut Chance, n: usize, turn: u64) -> Vec<u8> {
-    Draft { rows: rows_of_null_day(chance, n, &null_day(turn)) }.bytes()
+pub fn block_with_null_data(chance: &mut Chance, channel: Channel, turn: u64) -> Vec<u8> {
+    Draft { rows: rows_of_null_day(chance, channel, &null_day(turn)) }.bytes()
 }
 
 /// A file of one such day, or of one 250.
@@ -282,8 +284,9 @@ pub fn file_with_null_data(chance: &mut Chance, turn: u64) -> Vec<u8> {
     let which = which(turn, days.len() + reads.len());
     let mut rows = Vec::new();
     if let Some(day) = days.get(which) {
-        rows.extend([files::header(chance, b"NEM12"), files::channel_head(chance, 30)]);
-        rows.extend(rows_of_null_day(chance, 48, day));
+        let channel = Channel::half_hours(chance);
+        rows.extend([files::header(chance, b"NEM12"), files::channel_head(chance, channel)]);
+        rows.extend(rows_of_null_day(chance, channel, day));
     } else {
         let (quality, note) = &reads[which - days.len()];
         let mut accumulation = files::accumulation(chance);
@@ -294,11 +297,9 @@ pub fn file_with_null_data(chance: &mut Chance, turn: u64) -> Vec<u8> {
     Draft { rows }.bytes()
 }
 
+/// Holds a run of 5,000 cases to sweeping so many things, of which each round has so many.
 #[cfg(test)]
-mod tests {
-    use super::*;
-    use crate::cases::{NULL_DATA_EVERY, ROUND, SWEPT_BLOCKS_PER_ROUND, SWEPT_PER_ROUND};
-
+pub fn assert_swept(what: &str, count: usize, per_round: u64) {
     fn share_no_divisor(number: u64, other: u64) -> bool {
         if other == 0 {
             number == 1
@@ -306,24 +307,28 @@ mod tests {
             share_no_divisor(other, number % other)
         }
     }
+    let rounds = 5000 / super::ROUND;
+    assert!(count as u64 <= rounds * per_round, "{count} {what} to sweep");
+    assert!(share_no_divisor(count as u64, STEP), "{count} {what}");
+}
+
+#[cfg(test)]
+mod tests {
+    use super::*;
+    use crate::cases::{READ_TIMES_PER_ROUND, SWEPT_BLOCKS_PER_ROUND, SWEPT_ORDERS_PER_ROUND, SWEPT_PER_ROUND};
 
     #[test]
     fn a_run_of_5000_leaves_nothing_out() {
         let chance = &mut Chance::for_case(1, 1);
-        let rounds = 5000 / ROUND;
+        let half_hours = Channel::half_hours(chance);
         let orders = leads(chance).len() * next_rows(chance, 48).len();
-        let orders_of_block = leads_of_block(chance, 48).len() * block_ends(chance, 48).len();
-        for (what, count, swept) in [
-            ("fields", targets(&KINDS).len(), rounds * SWEPT_PER_ROUND),
-            ("orders", orders, rounds),
-            ("fields of blocks", targets(&KINDS_OF_BLOCK).len(), rounds * SWEPT_BLOCKS_PER_ROUND),
-            ("orders of blocks", orders_of_block, rounds),
-            ("read times", dates_with_read_times().len(), rounds),
-            ("days with null data", null_days().len(), rounds / NULL_DATA_EVERY),
-            ("days and reads with null data", null_days().len() + null_reads().len(), rounds / NULL_DATA_EVERY),
-        ] {
-            assert!(count as u64 <= swept, "{count} {what} to sweep");
-            assert!(share_no_divisor(count as u64, STEP), "{count} {what}");
-        }
+        let orders_of_block = leads_of_block(chance, half_hours).len() * block_ends(chance, 48).len();
+        assert_swept("fields", targets(&KINDS).len(), SWEPT_PER_ROUND);
+        assert_swept("orders", orders, SWEPT_ORDERS_PER_ROUND);
+        assert_swept("fields of blocks", targets(&KINDS_OF_BLOCK).len(), SWEPT_BLOCKS_PER_ROUND);
+        assert_swept("orders of blocks", orders_of_block, SWEPT_ORDERS_PER_ROUND);
+        assert_swept("read times", dates_with_read_times().len(), READ_TIMES_PER_ROUND);
+        assert_swept("days with null data", null_days().len(), 1);
+        assert_swept("days and reads with null data", null_days().len() + null_reads().len(), 1);
     }
 }

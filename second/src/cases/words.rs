@@ -1,13 +1,15 @@
 //! The contents of single fields: ones that keep their rules, and ones that are near to breaking them.
 
 use super::chance::Chance;
-use crate::fields::{belongs_to_day, day_after, days_in_month, decimal, is_real_date, Quality, Rule, END_OF_LAST_DAY};
+use crate::fields::{
+    belongs_to_day, day_after, days_in_month, decimal, is_real_date, Quality, Rule, END_OF_LAST_DAY, MOST_DECIMALS,
+};
 use crate::notes::{Note, NO_REASON};
+use crate::units::Unit;
 
 pub type Word = Vec<u8>;
 
 const LETTERS_AND_DIGITS: &[u8] = b"ABCDEFGHIJKLMNOPQRSTUVWXYZabcdefghijklmnopqrstuvwxyz0123456789";
-const LETTERS: &[u8] = b"ABCDEFGHIJKLMNOPQRSTUVWXYZabcdefghijklmnopqrstuvwxyz";
 const CAPITALS: &[u8] = b"ABCDEFGHIJKLMNOPQRSTUVWXYZ";
 const DIGITS: &[u8] = b"0123456789";
 
@@ -192,28 +194,115 @@ fn read(chance: &mut Chance) -> Word {
     decimal_word(chance, before, length - 1 - before)
 }
 
-/// A value in any shape that is allowed.
-fn value_of_any_shape(chance: &mut Chance) -> Word {
+/// A value in any shape that is allowed where it may have so many decimals, which are one or more.
+fn value_of_any_shape(chance: &mut Chance, decimals: usize) -> Word {
     match chance.below(10) {
-        0 => b"9999999.999999".to_vec(),
-        1 => b"0000000.000000".to_vec(),
+        0 => [b"9999999.", &b"999999"[..decimals]].concat(),
+        1 => [b"0000000.", &b"000000"[..decimals]].concat(),
         2 => b"0".to_vec(),
-        3 => b"003.40".to_vec(),
+        3 => [b"003.", &b"40"[..decimals.min(2)]].concat(),
         _ => {
-            let (before, behind) = (chance.between(1, 7), chance.below(7));
+            let (before, behind) = (chance.between(1, 7), chance.between(0, decimals));
             decimal_word(chance, before, behind)
         }
     }
 }
 
+/// A value or quantity of a unit.
+pub fn value_in(chance: &mut Chance, unit: Unit) -> Word {
+    value_of_any_shape(chance, unit.decimals())
+}
+
 /// The values of one day, all in one style.
-pub fn values(chance: &mut Chance, n: usize) -> Vec<Word> {
+pub fn values(chance: &mut Chance, n: usize, unit: Unit) -> Vec<Word> {
     match chance.below(8) {
-        0 => vec![value_of_any_shape(chance); n],
-        1 => (0..n).map(|_| value_of_any_shape(chance)).collect(),
+        0 => vec![value_in(chance, unit); n],
+        1 => (0..n).map(|_| value_in(chance, unit)).collect(),
         2..=4 => (0..n).map(|_| decimal_word(chance, 1, 0)).collect(),
-        _ => (0..n).map(|_| decimal_word(chance, 1, 2)).collect(),
+        _ => (0..n).map(|_| decimal_word(chance, 1, unit.decimals().min(2))).collect(),
     }
+}
+
+/// How a value stands to the decimals that its unit allows.
+#[derive(Clone, Copy, Debug, PartialEq, Eq)]
+pub enum Fit {
+    /// It has as many, and the last isn't 0.
+    Full,
+    /// It has one more, which isn't 0.
+    OnePast,
+    /// It has more, which are all 0.
+    ZerosPast,
+}
+
+/// A value that stands so to these decimals.
+pub fn value_of_fit(chance: &mut Chance, decimals: usize, fit: Fit) -> Word {
+    let before = chance.between(1, 7);
+    match fit {
+        Fit::Full => value_ending_in_digit(chance, before, decimals),
+        Fit::OnePast => value_ending_in_digit(chance, before, decimals + 1),
+        Fit::ZerosPast => {
+            let zeros = chance.between(1, (MOST_DECIMALS - decimals).max(1));
+            [decimal_word(chance, before, decimals), vec![b'0'; zeros]].concat()
+        }
+    }
+}
+
+/// A value whose last digit isn't 0.
+fn value_ending_in_digit(chance: &mut Chance, before: usize, behind: usize) -> Word {
+    let mut word = decimal_word(chance, before, behind);
+    word.pop();
+    word.push(chance.pick(b"123456789"));
+    word
+}
+
+// --- Units ---
+
+pub fn unit(chance: &mut Chance) -> Unit {
+    let units: Vec<Unit> = Unit::all().collect();
+    chance.pick(&units)
+}
+
+/// How a unit's letters are spelled.
+#[derive(Clone, Copy, Debug, PartialEq, Eq)]
+pub enum Spelling {
+    AsInTable,
+    Small,
+    Capitals,
+    /// Each letter by chance.
+    Mixed,
+}
+
+pub const SPELLINGS: [Spelling; 4] = [Spelling::AsInTable, Spelling::Small, Spelling::Capitals, Spelling::Mixed];
+
+pub fn spelled(chance: &mut Chance, unit: Unit, spelling: Spelling) -> Word {
+    let name = unit.name().as_bytes();
+    match spelling {
+        Spelling::AsInTable => name.to_vec(),
+        Spelling::Small => name.to_ascii_lowercase(),
+        Spelling::Capitals => name.to_ascii_uppercase(),
+        Spelling::Mixed => {
+            let any_case = |letter: &u8| chance.pick(&[letter.to_ascii_lowercase(), letter.to_ascii_uppercase()]);
+            name.iter().map(any_case).collect()
+        }
+    }
+}
+
+/// A unit's name in any spelling.
+pub fn unit_word(chance: &mut Chance, unit: Unit) -> Word {
+    let spelling = chance.pick(&SPELLINGS);
+    spelled(chance, unit, spelling)
+}
+
+/// Words that are nearly units: parts of their names, more than these, other units, and bytes that differ from a letter
+/// as its two cases do.
+pub const NEARLY_UNITS: [&str; 26] = [
+    "", " ", "k", "K", "M", "h", "kWhh", "kkWh", "kW h", "kWh ", " kWh", "kWh1", "MVARH1", "MVArhh", "kVArhkVArh",
+    "GWh", "hWk", "MV", "mA", "kVARs", "p", "pff", "kW.h", "k7h", "-Wh", "!",
+];
+
+/// A number that is no unit's.
+pub fn no_unit_number(chance: &mut Chance) -> u8 {
+    chance.pick(&[Unit::COUNT, Unit::COUNT + 1, 99, 128, u8::MAX - 1, u8::MAX])
 }
 
 // --- Notes ---
@@ -360,8 +449,8 @@ pub fn keeping(chance: &mut Chance, rule: Rule) -> Word {
         }
         Rule::Serial => text_of(chance, 0, 12),
         Rule::Unit => {
-            let length = chance.between(1, 5);
-            from_alphabet(chance, LETTERS, length)
+            let unit = unit(chance);
+            unit_word(chance, unit)
         }
         Rule::IntervalLength => number_word(chance.pick(&[5, 15, 30])),
         Rule::Date => number_word(date(chance)),
@@ -376,7 +465,8 @@ pub fn keeping(chance: &mut Chance, rule: Rule) -> Word {
         }
         Rule::ReadTime if chance.one_in(8) => END_OF_LAST_DAY.to_vec(),
         Rule::ReadTime => keeping(chance, Rule::TimeOrEmpty),
-        Rule::Value => value_of_any_shape(chance),
+        // Of as many decimals as every unit allows.
+        Rule::Value => value_of_any_shape(chance, Unit::all().map(Unit::decimals).min().unwrap_or(0)),
         Rule::DayQuality | Rule::IntervalQuality => quality(chance, b"AAANNEEFS"),
         Rule::ReadQuality => quality(chance, b"AAAEEFS"),
         Rule::Reason => reason(chance),
@@ -445,6 +535,9 @@ const INTERVAL_NUMBERS: [&str; 28] = [
 const INTERVAL_LENGTHS: [&str; 18] =
     ["5", "15", "30", "05", "015", "030", "10", "60", "0", "1", "", "3O", "30 ", " 5", "300", "31", "5.0", "55"];
 
+/// Units of each number of decimals, in different spellings.
+const SPELLED_UNITS: [&str; 5] = ["MWh", "KWH", "wh", "mVaRh", "PF"];
+
 /// A number of minutes that is no interval length.
 pub fn no_interval_length(chance: &mut Chance) -> u32 {
     chance.pick(&[0, 1, 4, 6, 10, 14, 16, 29, 31, 45, 60, 288, 300, 1440, u32::MAX])
@@ -475,7 +568,13 @@ pub fn edges(rule: Rule) -> Vec<Word> {
         Rule::Participant => lengths(10, b"# ~!"),
         Rule::Nmi => lengths(10, b"-_ /:@[`{5Z"),
         Rule::Suffix | Rule::DataStream => lengths(2, b"-_ /:@[`{5Z"),
-        Rule::Unit => lengths(5, b"0-@[`{ Z"),
+        Rule::Unit => {
+            let names = SPELLED_UNITS.iter().chain(&NEARLY_UNITS).map(|word| word.as_bytes().to_vec());
+            let mut words: Vec<Word> = names.chain(lengths(5, b"0-@[`{ Z")).collect();
+            words.sort_unstable();
+            words.dedup();
+            words
+        }
         Rule::Configuration | Rule::Description => lengths(240, b"# ~!"),
         Rule::Register => lengths(10, b"# ~!"),
         Rule::Serial => lengths(12, b"# ~!"),

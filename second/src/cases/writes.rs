@@ -1,10 +1,14 @@
-//! Cases that write a day: fit ones, unfit ones, ones with null data, and ones with several faults at once.
+//! Cases that write a day: fit ones, unfit ones, ones with null data, ones of each unit, and ones with several faults
+//! at once.
 
 use super::chance::Chance;
+use super::files::{self, Channel};
+use super::sweep;
+use super::unit_sweep::{self, WriteUnit};
 use super::words::{self, NoteWords};
-use super::{files, sweep};
-use crate::fields::{decimal, intervals_in_day, END_OF_LAST_DAY, NO_METHOD, VALUE_LIMIT};
+use crate::fields::{decimal, END_OF_LAST_DAY, NO_METHOD, VALUE_LIMIT};
 use crate::notes::NO_REASON;
+use crate::units::Unit;
 use crate::write::{compose, DayHead, DayLists};
 
 const LONGEST_LIST: usize = 300;
@@ -56,10 +60,32 @@ pub fn unfit(chance: &mut Chance) -> Vec<u8> {
 
 /// A day with each kind of null data in turn.
 pub fn with_null_data(chance: &mut Chance, turn: u64) -> Vec<u8> {
-    let (length, n) = some_length(chance);
+    let channel = some_channel(chance);
     let mut text = Vec::new();
-    let sayings = sayings_with(chance, n, &sweep::null_day(turn).notes, &mut text);
-    let draft = draft(chance, length, &sayings, text);
+    let sayings = sayings_with(chance, channel.n, &sweep::null_day(turn).notes, &mut text);
+    let draft = draft(chance, channel, &sayings, text);
+    case(chance, &draft)
+}
+
+/// A day of each unit with a value that is exact in it or isn't, in turn, and ones of numbers that are no unit's.
+pub fn with_unit(chance: &mut Chance, turn: u64) -> Vec<u8> {
+    let (unit, has_short_list) = unit_sweep::unit_and_short_list(turn);
+    let mut draft = match unit {
+        WriteUnit::Full(unit) | WriteUnit::Past(unit, _) => {
+            let channel = Channel { unit, ..some_channel(chance) };
+            fit_draft_in(chance, channel)
+        }
+        WriteUnit::None(_) => fit_draft(chance),
+    };
+    let place = chance.place_among(draft.values.len());
+    match unit {
+        WriteUnit::Full(unit) => draft.values[place] = value_of_all_decimals(chance, unit),
+        WriteUnit::Past(unit, millionths) => draft.values[place] = value_of_all_decimals(chance, unit) + millionths,
+        WriteUnit::None(number) => draft.head.unit = number,
+    }
+    if has_short_list {
+        shorten_list(chance, &mut draft);
+    }
     case(chance, &draft)
 }
 
@@ -84,33 +110,37 @@ pub fn with_several_faults(chance: &mut Chance) -> Vec<u8> {
 // --- Fit days ---
 
 fn fit_draft(chance: &mut Chance) -> Draft {
-    let (length, n) = some_length(chance);
-    let mut text = Vec::new();
-    let sayings = sayings(chance, n, &mut text);
-    draft(chance, length, &sayings, text)
+    let channel = some_channel(chance);
+    fit_draft_in(chance, channel)
 }
 
-/// An interval length in minutes, and the intervals of its day.
-fn some_length(chance: &mut Chance) -> (u32, usize) {
-    let length = match chance.below(8) {
+fn fit_draft_in(chance: &mut Chance, channel: Channel) -> Draft {
+    let mut text = Vec::new();
+    let sayings = sayings(chance, channel.n, &mut text);
+    draft(chance, channel, &sayings, text)
+}
+
+fn some_channel(chance: &mut Chance) -> Channel {
+    let minutes = match chance.below(8) {
         0 => 5,
         1 | 2 => 15,
         _ => 30,
     };
-    (length, intervals_in_day(u64::from(length)).expect("one of the three lengths"))
+    Channel::of(minutes, words::unit(chance))
 }
 
 /// A day of which this is said, fit but for that.
-fn draft(chance: &mut Chance, length: u32, sayings: &[Saying], text: Vec<u8>) -> Draft {
+fn draft(chance: &mut Chance, channel: Channel, sayings: &[Saying], text: Vec<u8>) -> Draft {
     let date = words::date(chance);
     Draft {
         head: DayHead {
             date,
-            length,
+            length: channel.minutes,
             update: words::time(chance),
             load: if chance.one_in(2) { 0 } else { words::time(chance) },
+            unit: channel.unit.number(),
         },
-        values: values(chance, sayings.len()),
+        values: values(chance, channel),
         flags: sayings.iter().map(|saying| saying.flag).collect(),
         methods: sayings.iter().map(|saying| saying.method).collect(),
         reasons: sayings.iter().map(|saying| saying.reason).collect(),
@@ -120,14 +150,27 @@ fn draft(chance: &mut Chance, length: u32, sayings: &[Saying], text: Vec<u8>) ->
     }
 }
 
-fn values(chance: &mut Chance, n: usize) -> Vec<u64> {
+/// Values that can be written in the channel's unit.
+fn values(chance: &mut Chance, channel: Channel) -> Vec<u64> {
+    let n = channel.n;
     let small = chance.below(1000) as u64;
-    match chance.below(6) {
+    let mut values: Vec<u64> = match chance.below(6) {
         0 => vec![VALUE_LIMIT - 1; n],
         1 => vec![small * 1_000_000; n],
         2 => (0..n).map(|_| any_value(chance)).collect(),
         _ => (0..n).map(|_| chance.below(100_000) as u64 * 1_000).collect(),
+    };
+    for value in &mut values {
+        *value -= *value % channel.unit.smallest_step();
     }
+    values
+}
+
+/// A value that has a digit in the unit's last decimal, and none behind it.
+fn value_of_all_decimals(chance: &mut Chance, unit: Unit) -> u64 {
+    let step = unit.smallest_step();
+    let tenfold = any_value(chance) / (10 * step) * (10 * step);
+    tenfold + step * chance.between(1, 9) as u64
 }
 
 fn any_value(chance: &mut Chance) -> u64 {
@@ -275,10 +318,20 @@ fn spoil_interval_length(chance: &mut Chance, draft: &mut Draft) {
 
 fn spoil_head(chance: &mut Chance, draft: &mut Draft) {
     let head = &mut draft.head;
-    match chance.below(3) {
-        0 => head.date = spoilt_date(chance),
-        1 => head.update = if chance.one_in(5) { 0 } else { spoilt_time(chance) },
-        _ => head.load = spoilt_time(chance),
+    match chance.below(7) {
+        0..=1 => head.date = spoilt_date(chance),
+        2..=3 => head.update = if chance.one_in(5) { 0 } else { spoilt_time(chance) },
+        4..=5 => head.load = spoilt_time(chance),
+        _ => head.unit = spoilt_unit(chance),
+    }
+}
+
+/// Mostly no unit's number, else one in which the values may be exact or not.
+fn spoilt_unit(chance: &mut Chance) -> u8 {
+    if chance.one_in(3) {
+        words::unit(chance).number()
+    } else {
+        words::no_unit_number(chance)
     }
 }
 
@@ -304,8 +357,8 @@ fn spoilt_time(chance: &mut Chance) -> u64 {
 
 /// Spoils what is said of one interval, by what is named or by any change near to it.
 fn spoil_interval(chance: &mut Chance, draft: &mut Draft) {
-    let place = spoilt_place(chance, draft.values.len());
-    match chance.below(12) {
+    let place = chance.place_among(draft.values.len());
+    match chance.below(13) {
         0 => draft.values[place] = chance.pick(&[VALUE_LIMIT, VALUE_LIMIT + 1, u64::MAX, VALUE_LIMIT - 1]),
         1 => draft.flags[place] = chance.pick(b"AEFNSVaefnsv \x00\x7f\xff0,"),
         2 => draft.methods[place] = chance.pick(&[0, 14, 99, 100, 101, 254, 255]),
@@ -323,16 +376,9 @@ fn spoil_interval(chance: &mut Chance, draft: &mut Draft) {
             draft.lengths[place] = 0;
         }
         9 => set_place_outside(chance, draft, place),
+        // Exact in some units, and not in others.
+        10 => draft.values[place] = chance.pick(&[1, 10, 100, 1_000, 10_000, 100_000]) * chance.between(1, 99) as u64,
         _ => lay_bad_description(chance, draft, place),
-    }
-}
-
-/// An interval, the first and the last more often than the others.
-fn spoilt_place(chance: &mut Chance, n: usize) -> usize {
-    match chance.below(4) {
-        0 => 0,
-        1 => n - 1,
-        _ => chance.below(n),
     }
 }
 
@@ -389,8 +435,8 @@ fn lay_bad_description(chance: &mut Chance, draft: &mut Draft, place: usize) {
 
 fn case(chance: &mut Chance, draft: &Draft) -> Vec<u8> {
     assert!(draft.text.len() <= LONGEST_TEXT, "a text that the probe takes");
-    let DayHead { date, length, update, load } = draft.head;
-    let mut case = format!("write {date} {length} {update} {load} {}", room(chance, draft));
+    let DayHead { date, length, update, load, unit } = draft.head;
+    let mut case = format!("write {date} {length} {update} {load} {unit} {}", room(chance, draft));
     let counts = [
         draft.values.len(),
         draft.flags.len(),
@@ -468,12 +514,14 @@ mod tests {
             let draft = fit_draft(&mut Chance::for_case(3, index));
             let (block, records) = compose(draft.head, draft.lists()).expect("a fit day");
             let mut file = b"100,NEM12,200301011534,MDP1,Ret1\r\n".to_vec();
-            file.extend(format!("200,VABD000163,E1,,E1,,,kWh,{},\r\n", draft.head.length).bytes());
+            let unit = Unit::numbered(draft.head.unit).expect("a unit");
+            file.extend(format!("200,VABD000163,E1,,E1,,,{},{},\r\n", unit.name(), draft.head.length).bytes());
             file.extend(&block);
             file.extend(b"900\r\n");
             let content = read_file(&file).unwrap_or_else(|refusal| panic!("{refusal:?}"));
             let day = &content.days[0];
             assert_eq!((day.date, day.update, day.load), (draft.head.date, draft.head.update, draft.head.load));
+            assert_eq!(day.unit, unit);
             assert_eq!(day.values, draft.values);
             for (index, note) in day.notes.iter().enumerate() {
                 assert_eq!(note.quality.flag, draft.flags[index]);
