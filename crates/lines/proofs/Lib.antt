@@ -3,3 +3,4 @@ pub mod Passes
 pub mod Ends
 pub mod Cuts
 pub mod Commas
+pub mod Steps

@@ -1,18 +1,47 @@
 // The fields of a record from left to right, each a part of the file itself.
-use leaf::bytes::first_at;
+use eights::comma_marks;
+use eights::lowest_mark;
 ghost use mathlib.Core.Path.{_≡_};
-ghost use Prim.Native.Nat.{_≤_};
-ghost use lib.ListN.{length};
+ghost use Prim.Native.Nat.{_+_, _≤_};
+ghost use lib.ListN.{length, drop};
 ghost use Rattle.ground.specs.Lists.{spanOf, other, part};
 ghost use Rattle.format.specs.Cut.{fields, field};
 ghost use Rattle.lines.specs.Places.{Cut};
 
-// How many bytes stand before the first comma.
+// Looked for byte by byte, from a place on that has no comma before it.
+fn end_singly(t: &[u8], from: usize) -> usize
+    requires { ⌜ (from ≤ length (now t)) × (spanOf (other 44) (now t) ≡ from + spanOf (other 44) (drop from (now t))) ⌝ }
+    ensures is { λ r. ⌜ r ≡ spanOf (other 44) (now (t .entry)) ⌝ }
+    ensures within { λ r. ⌜ r ≤ length (now (t .entry)) ⌝ }
+{
+    let n = t.len();
+    let mut i = from;
+    while i < n {
+        if t[i] == 44 {
+            return i;
+        }
+        i += 1;
+    }
+    i
+}
+
+// How many bytes stand before the first comma: eight are looked at together as long as eight are left, the rest one by one.
 pub fn field_end(t: &[u8]) -> usize
     ensures is { λ r. ⌜ r ≡ spanOf (other 44) (now (t .entry)) ⌝ }
     ensures within { λ r. ⌜ r ≤ length (now (t .entry)) ⌝ }
 {
-    first_at(t, 44)
+    let n = t.len();
+    let mut i: usize = 0;
+    let mut e: usize = 8;
+    while e <= n {
+        let marks = comma_marks(&t[i..e]);
+        if marks != 0 {
+            return i + lowest_mark(marks);
+        }
+        i = e;
+        e += 8;
+    }
+    end_singly(t, i)
 }
 
 // Where a field ends, and where the next one starts; the record's end where there is none.

@@ -1,0 +1,2 @@
+-- The laws of eight bytes read as one number.
+pub mod Words
