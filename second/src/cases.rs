@@ -5,6 +5,9 @@ mod blocks;
 mod chance;
 mod damage;
 mod files;
+mod length_sweep;
+#[cfg(test)]
+mod lengths;
 #[cfg(test)]
 mod midnights;
 #[cfg(test)]
@@ -47,6 +50,8 @@ const SWEPT_BLOCKS_PER_ROUND: u64 = 6;
 /// So many files, and as many blocks, sweep the order of records, and so many the read times.
 const SWEPT_ORDERS_PER_ROUND: u64 = 2;
 const READ_TIMES_PER_ROUND: u64 = 2;
+/// So many files and blocks sweep the lengths of fields.
+const LENGTHS_PER_ROUND: u64 = 3;
 /// So many files sweep the units. One block and one day to be written do so too, and one of each sweeps null data.
 const UNITS_PER_ROUND: u64 = 5;
 
@@ -67,13 +72,14 @@ pub fn case(seed: u64, index: u64) -> Vec<u8> {
     let swept = |per_round: u64, place: u64| seed.wrapping_add(round * per_round + place);
     match index % ROUND {
         0 => requests::for_accepted_file(&sweep::file_with_null_data(chance, swept(1, 0)), chance),
-        1..=4 => requests::for_accepted_file(&files::accepted(chance).bytes(), chance),
-        5..=7 => requests::for_file(&damage::damaged(chance, &files::accepted), chance),
-        place @ 8..=13 => {
-            let aim = in_turn(&AIMS, round * AIMED_PER_ROUND + (place - 8));
+        1..=3 => requests::for_accepted_file(&files::accepted(chance).bytes(), chance),
+        4..=5 => requests::for_file(&damage::damaged(chance, &files::accepted), chance),
+        place @ 6..=11 => {
+            let aim = in_turn(&AIMS, round * AIMED_PER_ROUND + (place - 6));
             requests::for_file(&aimed::bytes_for(chance, &files::accepted, aim), chance)
         }
-        14..=16 => requests::for_file(&damage::tangled(chance, &files::accepted), chance),
+        12..=13 => requests::for_file(&damage::tangled(chance, &files::accepted), chance),
+        place @ 14..=16 => length_sweep::case(chance, swept(LENGTHS_PER_ROUND, place - 14)),
         place @ 17..=35 => {
             let turn = swept(SWEPT_PER_ROUND, place - 17);
             requests::for_file(&sweep::file_with_field(chance, turn), chance)
@@ -138,7 +144,7 @@ mod tests {
     #[test]
     fn no_large_case_takes_the_turn_of_a_sweep() {
         for index in [&LARGE_CASES[..], &[LARGE_BLOCK_CASE, LARGEST_TOTAL_CASE]].concat() {
-            assert!(matches!(index % ROUND, 1..=16 | 40..=46 | 60..=63), "case {index}");
+            assert!(matches!(index % ROUND, 1..=13 | 40..=46 | 60..=63), "case {index}");
         }
     }
 

@@ -20,7 +20,8 @@ fn some_minutes(chance: &mut Chance) -> u32 {
     }
 }
 
-fn case(channel: Channel, block: &[u8]) -> Vec<u8> {
+/// A case behind a 200 such as this one.
+pub fn case(channel: Channel, block: &[u8]) -> Vec<u8> {
     case_of_numbers(channel.minutes, channel.unit.number(), block)
 }
 

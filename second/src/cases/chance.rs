@@ -37,6 +37,14 @@ impl Chance {
         choices[self.below(choices.len())]
     }
 
+    /// Puts things into any order.
+    pub fn shuffle<T>(&mut self, things: &mut [T]) {
+        for last in (1..things.len()).rev() {
+            let place = self.below(last + 1);
+            things.swap(place, last);
+        }
+    }
+
     /// A place among so many, the first and the last more often than the others.
     pub fn place_among(&mut self, count: usize) -> usize {
         match self.below(4) {

@@ -10,7 +10,7 @@ use crate::fields::{decimal, Rule};
 use crate::records::{layout, Kind};
 use crate::write::record_bytes;
 
-const KINDS: [Kind; 8] =
+pub const KINDS: [Kind; 8] =
     [Kind::R100, Kind::R200, Kind::R300, Kind::R400, Kind::R500, Kind::R250, Kind::R550, Kind::R900];
 
 /// The kinds of record that a block has.

@@ -42,6 +42,10 @@ pub fn text(chance: &mut Chance, length: usize) -> Word {
 
 fn participant(chance: &mut Chance) -> Word {
     let length = chance.length(1, 10);
+    participant_of_length(chance, length)
+}
+
+fn participant_of_length(chance: &mut Chance, length: usize) -> Word {
     let mut name = text(chance, length);
     for byte in &mut name {
         if *byte == b'#' {
@@ -187,6 +191,10 @@ fn decimal_word(chance: &mut Chance, before: usize, behind: usize) -> Word {
 
 fn read(chance: &mut Chance) -> Word {
     let length = chance.length(1, 15);
+    read_of_length(chance, length)
+}
+
+fn read_of_length(chance: &mut Chance, length: usize) -> Word {
     if length < 3 || chance.one_in(3) {
         return decimal_word(chance, length, 0);
     }
@@ -221,6 +229,15 @@ pub fn values(chance: &mut Chance, n: usize, unit: Unit) -> Vec<Word> {
         2..=4 => (0..n).map(|_| decimal_word(chance, 1, 0)).collect(),
         _ => (0..n).map(|_| decimal_word(chance, 1, unit.decimals().min(2))).collect(),
     }
+}
+
+/// The values of one day in every shape that a value can have in a unit of six decimals, mixed: each number of digits
+/// before the point with none and each number of them behind it. There are 49, so half hours are too few.
+pub fn values_of_every_shape(chance: &mut Chance, n: usize) -> Vec<Word> {
+    let shape = |index: usize| (1 + index % 7, index / 7 % (MOST_DECIMALS + 1));
+    let mut shapes: Vec<(usize, usize)> = (0..n).map(shape).collect();
+    chance.shuffle(&mut shapes);
+    shapes.into_iter().map(|(before, behind)| decimal_word(chance, before, behind)).collect()
 }
 
 /// How a value stands to the decimals that its unit allows.
@@ -375,6 +392,17 @@ pub fn note_with(chance: &mut Chance, quality: Rule) -> NoteWords {
     }
 }
 
+/// A note with this description, whose quality keeps this rule.
+pub fn note_with_description(chance: &mut Chance, quality: Rule, description: &[u8]) -> NoteWords {
+    loop {
+        let quality = keeping(chance, quality);
+        let note = NoteWords { quality, reason: reason(chance), description: description.to_vec() };
+        if note.keeps_rules_across() {
+            return note;
+        }
+    }
+}
+
 /// A note that differs from this one, mostly in one part alone.
 pub fn other_note(chance: &mut Chance, from: &NoteWords) -> NoteWords {
     loop {
@@ -480,6 +508,20 @@ pub fn keeping(chance: &mut Chance, rule: Rule) -> Word {
             let word = read(chance);
             or_empty(chance, word)
         }
+    }
+}
+
+/// Bytes that differ from a comma in one bit or by one. Beside a comma, what looks at several bytes at once can take
+/// one of them for it.
+const NEARLY_COMMAS: &[u8] = b"$(+-.<l";
+
+/// A content of this length for a text or a read. It keeps the rule if the rule allows the length.
+pub fn of_length(chance: &mut Chance, rule: Rule, length: usize) -> Word {
+    match rule {
+        Rule::Read | Rule::ReadOrEmpty => read_of_length(chance, length),
+        _ if chance.one_in(2) => from_alphabet(chance, NEARLY_COMMAS, length),
+        Rule::Participant => participant_of_length(chance, length),
+        _ => text(chance, length),
     }
 }
 
