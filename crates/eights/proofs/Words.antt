@@ -56,17 +56,18 @@ mark-here k a =
 
 -- ---- the marks of n bytes
 
--- what the code makes of the number w of n bytes: each byte is all ones where a comma stands, and one is added to each
+-- the number w of n bytes, each of its bytes flipped by 211, which are the bits that a comma lacks: where one stands all are ones
 abbrev flipped : ℕ → ℕ → ℕ
 flipped n w = bitXor w (every 211 n)
 
+-- the top bits that are set in it, and not in the sum
 abbrev marked : ℕ → ℕ → ℕ → ℕ
 marked n w sum = bitAnd (bitAnd (flipped n w) (2 ^ wide n - 1 - sum % 2 ^ wide n)) (every 128 n)
 
 ones-less : (o x c : ℕ) → x ≤ o → c ≤ 255 → o * 2 ^ 8 + 255 - (x * 2 ^ 8 + c) ≡ (o - x) * 2 ^ 8 + (255 - c)
 ones-less o x c h k = omega arith
 
--- the lowest byte by itself: b is that byte, v the others, and the sum a in the others and c in it
+-- the lowest byte by itself: b is that byte and w the others, c is the sum's lowest byte and a its others
 module _ (n w b a c : ℕ) (h : b < 2 ^ 8) (k : c < 2 ^ 8) where
   abbrev y : ℕ
   y = bitXor b 211
@@ -90,7 +91,7 @@ module _ (n w b a c : ℕ) (h : b < 2 ^ 8) (k : c < 2 ^ 8) where
       rw (flip, others, and-block 8 (flipped n w) (2 ^ wide n - 1 - a % 2 ^ wide n) y (255 - c) y-lt (omega arith))
       (and-block 8 (bitAnd (flipped n w) (2 ^ wide n - 1 - a % 2 ^ wide n)) (every 128 n) (bitAnd y (255 - c)) 128 (and-lt 8 y (255 - c) y-lt (omega arith)) (omega arith))
 
--- of all bytes but a comma: flipped it is no 255, and one more than it has the same top bit
+-- any byte but a comma, flipped, is no 255, and has no top bit that one more than it has not
 abbrev unmarked : ℕ → Bool
 unmarked b = eqb b 44 || (leb (bitXor b 211) 254 && eqb (bitAnd (bitAnd (bitXor b 211) (255 - (bitXor b 211 + 1))) 128) 0)
 
@@ -214,15 +215,15 @@ module _ (t : List ℕ) (m : ℕ) (e : length t ≡ 8) (h : m < 2 ^ 64) (f : tra
       by false z false a = refl
 
 -- w and sum are what the code made on the way
-module _ (t : List ℕ) (w sum : ℕ) (e : length t ≡ 8) (q : w ≡ number t) (h : all (λ b. ltb b 256) t ≡ true) (s : sum ≡ (bitXor w 15263776468834178003 + 72340172838076673) % 2 ^ 64) where
+module _ (t : List ℕ) (w sum : ℕ) (e : length t ≡ 8) (q : w ≡ number t) (h : all (λ b. ltb b 256) t ≡ true) (s : sum ≡ raised 8 w % 2 ^ 64) where
   abbrev marks : ℕ
-  marks = bitAnd (bitAnd (bitXor w 15263776468834178003) (18446744073709551615 - sum)) 9259542123273814144
+  marks = bitAnd (bitAnd (flipped 8 w) (2 ^ 64 - 1 - sum)) (every 128 8)
 
   pub comma-first : trailingZeros 64 marks / 8 ≡ spanOf (other 44) t
   comma-first = rw (s, q) (rw e at (first-mark t h))
 
   pub comma-some : eqb marks 0 ≡ all (other 44) t
-  comma-some = some-mark t marks e (omega (arith, and-le-r (bitAnd (bitXor w 15263776468834178003) (18446744073709551615 - sum)) 9259542123273814144)) comma-first
+  comma-some = some-mark t marks e (omega (arith, and-le-r (bitAnd (flipped 8 w) (2 ^ 64 - 1 - sum)) (every 128 8))) comma-first
 
 -- each byte of a slice fits a byte, as the code is given it
 pub byte-fits : (t : List ℕ) (i : ℕ) → ((k : ℕ) → Fits w8 (getD t k 0)) → Fits w64 (getD t i 0)
