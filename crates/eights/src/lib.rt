@@ -36,7 +36,7 @@ pub fn comma_marks(t: &[u8]) -> u64
     v & !wrapping_add_u64(v, 0x0101_0101_0101_0101) & 0x8080_8080_8080_8080
 }
 
-// In which of the eight bytes the lowest mark stands.
+// In which of the eight bytes the lowest mark stands; 8 where there is no mark.
 pub fn lowest_mark(marks: u64) -> usize
     ensures is { λ r. ⌜ r ≡ trailingZeros 64 marks / 8 ⌝ }
     ensures within { λ r. ⌜ r ≤ 8 ⌝ }

@@ -8,7 +8,8 @@ ghost use Rattle.ground.specs.Lists.{spanOf, other, part};
 ghost use Rattle.format.specs.Cut.{fields, field};
 ghost use Rattle.lines.specs.Places.{Cut};
 
-// Looked for byte by byte, from a place on that has no comma before it.
+// How many bytes stand before the first comma, looked for one by one from a place on that has none before it. A loop of its own: the compiler makes more of it
+// than of `first_at` on the rest (docs/SPEED.md).
 fn end_singly(t: &[u8], from: usize) -> usize
     requires { ⌜ (from ≤ length (now t)) × (spanOf (other 44) (now t) ≡ from + spanOf (other 44) (drop from (now t))) ⌝ }
     ensures is { λ r. ⌜ r ≡ spanOf (other 44) (now (t .entry)) ⌝ }
@@ -25,7 +26,7 @@ fn end_singly(t: &[u8], from: usize) -> usize
     i
 }
 
-// How many bytes stand before the first comma: eight are looked at together as long as eight are left, the rest one by one.
+// The same for the whole: eight bytes are looked at together while eight are left, the rest one by one.
 pub fn field_end(t: &[u8]) -> usize
     ensures is { λ r. ⌜ r ≡ spanOf (other 44) (now (t .entry)) ⌝ }
     ensures within { λ r. ⌜ r ≤ length (now (t .entry)) ⌝ }
