@@ -1,9 +1,9 @@
 // The entry that is handed a day: write_day.
 use super::kept;
 use super::kept::end_line;
+use answers::answers;
 use format::DayHead;
 use format::Written;
-use page::answers;
 use writing::write_day;
 ghost use mathlib.Core.Path.{_≡_};
 ghost use lib.ListN.{length};

@@ -6,8 +6,8 @@ use borrow.Fn.Kinds.{Dens, resT, endedOf}
 use denote.Triple.Clauses.{AtExit}
 use denote.Ref.{now}
 use Rattle.format.specs.Day.{Outcome}
-use Rattle.reading.proofs.check.check.Kinds as check-kinds
-use Rattle.reading.proofs.check.check.Reads as check-reads
+use Rattle.checking.proofs.check.check.Kinds as check-kinds
+use Rattle.checking.proofs.check.check.Reads as check-reads
 use Rattle.reading.proofs.read_day.read_day.Kinds as read-kinds
 use Rattle.reading.proofs.read_day.read_day.Reads as read-reads
 use Rattle.reading.proofs.total.total.Kinds as total-kinds

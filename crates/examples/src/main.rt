@@ -1,13 +1,13 @@
 // Answers for each file of data/ that standard input names, a line each: the check, and of an accepted file each day and each total. The lines are those
 // that the program 'probe' gives for the same calls.
+use answers::answers;
+use answers::days::day_line;
+use checking::check::check;
 use disk::Loaded;
 use format::Checked;
 use leaf::bytes::first_at;
-use page::answers;
-use page::days::day_line;
 use page::texts::part;
 use page::texts::put;
-use reading::check::check;
 use reading::read_day::read_day;
 use reading::total::total;
 

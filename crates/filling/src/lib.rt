@@ -14,7 +14,8 @@ ghost use mathlib.Core.Path.{_≡_};
 ghost use mathlib.Core.Bool.{true};
 ghost use Prim.Native.Nat.{_+_};
 ghost use Rattle.format.specs.Answers.{dayReadAs};
-ghost use Rattle.format.specs.Day.{five, outcome, readInto, readFirst, readOf};
+ghost use lib.ListN.{drop};
+ghost use Rattle.format.specs.Day.{five, outcome, readInto, readFirst, readOf, daysOf};
 ghost use Rattle.passing.specs.Sound.{areSound};
 ghost use Rattle.day.specs.Places.{blockAt, DayAhead, located, inside};
 ghost use Rattle.format.specs.File.{IsAccepted};
@@ -125,9 +126,10 @@ fn read_place(
     }
 }
 
-// What a reading of a day answers, and from where the day behind it is found.
+// What a reading of a day answers, where the day stands, and from where the day behind it is found.
 pub struct DayTurn {
     pub answer: DayRead,
+    pub place: Place,
     pub next: DayStart,
 }
 
@@ -146,10 +148,25 @@ pub fn read_noted(
 ) -> DayTurn
     requires { ⌜ IsAccepted (now file) × DayAhead (now file) day from ⌝ }
     ensures is { λ r. ⌜ outcome (dayReadAs (r .answer)) (now (values .exit)) (five (now (flags .exit)) (now (methods .exit)) (now (reasons .exit)) (now (starts .exit)) (now (lengths .exit))) ≡ readOf (now (file .entry)) day (now (values .entry)) (five (now (flags .entry)) (now (methods .entry)) (now (reasons .entry)) (now (starts .entry)) (now (lengths .entry))) ⌝ }
+    ensures place { λ r. ⌜ located (now (file .entry)) (r .place) ≡ drop day (daysOf (now (file .entry))) ⌝ }
+    ensures inside { λ r. ⌜ inside (now (file .entry)) (r .place) ⌝ }
     ensures next { λ r. ⌜ DayAhead (now (file .entry)) (day + 1) (r .next) ⌝ }
 {
-    let p = find_day(file, day, from);
-    let next = behind(file, p);
-    let answer = read_place(file, p, values, flags, methods, reasons, starts, lengths);
-    DayTurn { answer, next }
+    let place = find_day(file, day, from);
+    let next = behind(file, place);
+    let answer = read_place(
+        file,
+        place,
+        values,
+        flags,
+        methods,
+        reasons,
+        starts,
+        lengths,
+    );
+    DayTurn {
+        answer,
+        place,
+        next,
+    }
 }

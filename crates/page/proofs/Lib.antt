@@ -1,5 +1,4 @@
 pub mod Parts
 pub mod Filling
 pub mod Listed
-pub mod Answered
 pub mod Long

@@ -1,2 +1,2 @@
 pub mod Filled
-pub mod Lines
+pub mod Texts

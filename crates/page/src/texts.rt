@@ -3,12 +3,10 @@ use field_texts::values::put_value;
 use text::bytes::put_bytes;
 use text::digits::put_dec;
 ghost use mathlib.Core.Path.{_≡_};
-ghost use mathlib.Core.List.{_∷_};
 ghost use Rattle.ground.specs.Lists.{part as Lists·part};
 ghost use Rattle.ground.specs.Digits.{dec};
 ghost use Rattle.format.specs.Block.{valueText};
 ghost use Rattle.page.specs.Filled.{Filled};
-ghost use Rattle.page.specs.Lines.{numbersText};
 
 // The bytes from one place up to another, as far as there are any.
 pub fn part(text: &[u8], from: usize, to: usize) -> &[u8]
@@ -55,25 +53,4 @@ pub fn value(page: &mut [u8], at: usize, v: u64) -> usize
     let mut digits = [0u8; 27];
     let k = put_value(&mut digits, 0, v);
     put(page, at, &digits[..k])
-}
-
-// A byte, and behind it a number.
-pub fn number_behind(page: &mut [u8], at: usize, sign: u8, n: u64) -> usize
-    ensures { λ r. ⌜ Filled (now (page .entry)) at (sign ∷ dec n) r (now (page .exit)) ⌝ }
-{
-    let p = put(page, at, &[sign]);
-    number(page, p, n)
-}
-
-// Numbers, each behind the byte.
-pub fn numbers_behind(page: &mut [u8], at: usize, sign: u8, list: &[u64]) -> usize
-    ensures { λ r. ⌜ Filled (now (page .entry)) at (numbersText sign (now (list .entry))) r (now (page .exit)) ⌝ }
-{
-    let mut p = at;
-    let mut i: usize = 0;
-    while i < list.len() {
-        p = number_behind(page, p, sign, list[i]);
-        i += 1;
-    }
-    p
 }

@@ -28,6 +28,10 @@ pointText to v at = cellText (to - width (v / 1000000)) (valueText v) at
 unfoldable pub beside : ℕ → List ℕ → (ℕ → List ℕ) → List ℕ
 beside at t f = t ++ f (at + length t)
 
+-- a text, and the line's end
+unfoldable pub lineText : List ℕ → List ℕ
+lineText t = t ++ 10 ∷ []
+
 unfoldable pub quotedText : List ℕ → List ℕ
 quotedText t = bytes "'" ++ t ++ bytes "'"
 

@@ -25,8 +25,8 @@ use Rattle.theorems.proofs.Reach.{check-number}
 use Rattle.shortest.specs.Blocks.{markOf}
 use Rattle.shortest.proofs.Refuses.{writes-exactly}
 use Rattle.shortest.proofs.Theorems.{written-accepted as accepted-with}
-use Rattle.reading.proofs.check.check.Kinds as check-kinds
-use Rattle.reading.proofs.check.check.Reads as check-reads
+use Rattle.checking.proofs.check.check.Kinds as check-kinds
+use Rattle.checking.proofs.check.check.Reads as check-reads
 use Rattle.reading.proofs.read_day.read_day.Kinds as read-kinds
 use Rattle.reading.proofs.read_day.read_day.Reads as read-reads
 use Rattle.reading.proofs.total.total.Kinds as total-kinds

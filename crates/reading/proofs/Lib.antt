@@ -1,3 +1,1 @@
-pub mod Ahead
-pub mod Walks
 pub mod Entries

@@ -1,5 +1,3 @@
-// What a file says: a check of the whole, one day, one channel's total.
-pub mod check;
+// What a file says: one day, one channel's total.
 pub mod read_day;
 pub mod total;
-pub mod tour;

@@ -1,5 +1,5 @@
 // Reads one day.
-use super::tour::check_and_note;
+use checking::tour::check_and_note;
 use filling::read_noted;
 use format::Checked;
 use format::DayRead;

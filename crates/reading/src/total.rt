@@ -1,6 +1,6 @@
 // Totals one channel.
-use super::tour::check_and_note;
 use channel::total_noted;
+use checking::tour::check_and_note;
 use format::Checked;
 use format::Totalled;
 ghost use mathlib.Core.Path.{_≡_};

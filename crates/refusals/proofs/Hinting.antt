@@ -15,7 +15,7 @@ use Rattle.format.specs.Numbers.{behind}
 use Rattle.format.specs.Units.{units, isUnit, unitName, decimalsOf}
 use Rattle.units.proofs.Cells.{known, none}
 use Rattle.page.specs.Filled.{Filled}
-use Rattle.page.specs.Lines.{texts}
+use Rattle.page.specs.Texts.{texts}
 use Rattle.page.proofs.Filling.{filled-then, filled-as}
 use Rattle.page.proofs.Listed.{Counted, counted-more, counted-all}
 use Rattle.phrase.specs.Phrases.{countedText}

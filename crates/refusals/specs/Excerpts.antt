@@ -6,7 +6,7 @@ use lib.ListN.{length, getD}
 use lib.Dec.{leb, ltb}
 use Rattle.ground.specs.Lists.{part}
 use Rattle.ground.specs.Text.{bytes}
-use Rattle.page.specs.Lines.{texts}
+use Rattle.page.specs.Texts.{texts}
 use Rattle.phrase.specs.Phrases.{blank}
 
 -- a byte as it can be shown: '?' for one that is not plain

@@ -9,7 +9,7 @@ ghost use lib.ListN.{length};
 ghost use Rattle.format.specs.Numbers.{behind};
 ghost use Rattle.format.specs.Units.{units as Units·units, unitName};
 ghost use Rattle.page.specs.Filled.{Filled};
-ghost use Rattle.page.specs.Lines.{texts};
+ghost use Rattle.page.specs.Texts.{texts};
 ghost use Rattle.refusals.specs.Hints.{commaBefore, listed as Hints·listed, knownUnits, atMost, tooMany};
 
 // A unit's name, as the table spells it.

@@ -1,9 +1,9 @@
 // The settled cases of document 01, and of document 02's requests, that are not proved as rows of a statement: each is run, and its file 'stdout' has
 // what the documents say of it.
+use answers::answers;
 use calls::files;
 use format::DayHead;
 use format::Written;
-use page::answers;
 use page::texts::part;
 use page::texts::put;
 use writing::write_day;

@@ -1,6 +1,6 @@
 // Numbers in lists of their types.
 use calls::PLACES;
-use page::days::u64_at;
+use page::items::u64_at;
 ghost use mathlib.Core.Path.{_≡_};
 ghost use Prim.Native.Nat.{ℕ, _%_};
 ghost use Rattle.sheet.specs.Sheets.{allBelow, Holds};

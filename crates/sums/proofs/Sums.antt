@@ -147,6 +147,11 @@ day-sum : (file : List ℕ) (a e v n : ℕ) → Rest file (fields (part file a e
 unfolding valuesIn
 day-sum file a e v n s = ap sum (values-move s n 0) ∙ sum-take n 2 (fields (part file a e))
 
+-- a day by itself: nothing was added up before it
+pub day-whole : (file : List ℕ) (a e v n y : ℕ) → Rest file (fields (part file a e)) a 2 v e → y ≡ 0 + sum (valuesFrom n 0 (fields (part file v e)))
+    → y ≡ sum (valuesIn n (fields (part file a e)))
+day-whole file a e v n y s h = h ∙ zero-add _ ∙ day-sum file a e v n s
+
 -- ---- the days of a channel: the record at a place ends at e
 
 module _ (file : List ℕ) (at e n acc whole : ℕ) (s : LineEnd file at e) (inv : acc + sumAt file at n ≡ whole) where
@@ -193,3 +198,7 @@ module _ (file : List ℕ) (a e v n acc : ℕ) (o : a ≤ e) (g : e ≤ length f
 
   pub passed-on : {y : ℕ} → y ≡ acc + sum (valuesFrom n 0 (fields (part file v e))) → y ≤ (e + 2) * 10 ^ 13
   passed-on ey = omega (arith, day-most)
+
+pub day-fits : (file : List ℕ) (a e v n : ℕ) → a ≤ e → e ≤ length file → Rest file (fields (part file a e)) a 2 v e → length file ≤ most
+    → 0 + sum (valuesFrom n 0 (fields (part file v e))) < 2 ^ 64
+day-fits file a e v n o g z l = passed-fits file a e v n 0 o g z (omega arith) l

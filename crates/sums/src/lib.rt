@@ -13,6 +13,7 @@ ghost use lib.ListN.{length};
 ghost use Rattle.ground.specs.Lists.{part, sum};
 ghost use Rattle.format.specs.Cut.{fields};
 ghost use Rattle.format.specs.File.{most};
+ghost use Rattle.format.specs.Records.{valuesIn};
 ghost use Rattle.day.specs.Places.{valuesFrom};
 ghost use Rattle.lumps.specs.Lumps.{Alike};
 ghost use Rattle.sums.specs.Sums.{sumAt, Adds};
@@ -87,6 +88,15 @@ fn add_values(file: &[u8], a: usize, e: usize, n: usize, before: u64) -> u64
     }
     let t = singly(file, x, e, n - i);
     acc + t.v
+}
+
+// The n values of the day whose 300 stands at a..e.
+pub fn add_day(file: &[u8], a: usize, e: usize, n: usize) -> u64
+    requires { ⌜ (a ≤ e) × (e ≤ length (now file)) × (length (now file) ≤ most) ⌝ }
+    ensures { λ r. ⌜ r ≡ sum (valuesIn n (fields (part (now (file .entry)) a e))) ⌝ }
+{
+    let v = skip(file, a, e, 2);
+    add_values(file, v, e, n, 0)
 }
 
 // The values of the days from a place on up to the next channel, n to a day.

@@ -75,7 +75,7 @@ fn name_len(t: &[u8; 161], unit: usize) -> usize
 }
 
 // A letter as a capital, any other byte as it is.
-fn capital(b: u8) -> u8
+pub fn capital(b: u8) -> u8
     ensures { λ r. ⌜ r ≡ capital b ⌝ }
 {
     if b < 97 {

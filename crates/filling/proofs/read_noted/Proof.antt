@@ -32,7 +32,7 @@ same-length-6 : tie.Need-same-length-6
 same-length-6 c = search needs
 
 returns : tie.Need-returns
-returns c = (search noted-is, search next-noted)
+returns c = (search noted-is, (search needs, (search needs, search next-noted)))
 
 pub read-noted-spec : {M : Type 1} → statement M
 read-noted-spec =
