@@ -1,0 +1,3 @@
+pub mod Cells
+pub mod Times
+pub mod Rows
