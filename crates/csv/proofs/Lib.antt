@@ -1,1 +1,3 @@
 mod Doubling
+mod Clocks
+mod Rowed
