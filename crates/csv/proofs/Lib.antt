@@ -1,3 +1,1 @@
-mod Doubling
-mod Clocks
 mod Rowed

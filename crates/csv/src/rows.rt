@@ -1,26 +1,18 @@
 // The lines of the tables: headings, a row for an interval, for a read and for a day.
-use super::cells::cell;
 use super::times::seconds;
+use cells::moments::span;
+use cells::quotes::cell;
 use page::texts::number;
 use page::texts::put;
 use page::texts::value;
 use phrase::times::date;
-ghost use mathlib.Core.Path.{_≡_};
-ghost use mathlib.Core.Bool.{cond};
 ghost use mathlib.Core.List.{[], _∷_, _++_};
-ghost use Prim.Native.Nat.{_+_, _/_, _%_, _≤_};
-ghost use lib.Dec.{ltb};
 ghost use Rattle.format.specs.Block.{valueText, qualityText, reasonText};
 ghost use Rattle.page.specs.Filled.{Filled};
-ghost use Rattle.phrase.specs.Phrases.{dateText, clockText};
-ghost use Rattle.csv.specs.Cells.{cellText};
+ghost use Rattle.phrase.specs.Phrases.{dateText};
+ghost use Rattle.cells.specs.Cells.{fieldText, cellText};
 ghost use Rattle.csv.specs.Times.{secondsText};
-ghost use Rattle.csv.specs.Rows.{heading as Rows·heading, dailyHeading, fieldText, frontText, minutesOf, momentText, intervalText, readingText, dailyText};
-
-const FULL_DAY: u64 = 1440;
-
-// The most intervals that a day has.
-const MOST: u64 = 288;
+ghost use Rattle.csv.specs.Rows.{heading as Rows·heading, dailyHeading, frontText, intervalText, readingText, dailyText};
 
 const NO_METHOD: u8 = 255;
 
@@ -76,63 +68,6 @@ fn ending(page: &mut [u8], at: usize, text: &[u8]) -> usize
 }
 
 // ---- an interval
-
-// How many minutes k intervals have, n of which make a day.
-fn minutes_of(k: u64, n: usize) -> u64
-    requires { ⌜ k ≤ 288 ⌝ }
-    ensures { λ r. ⌜ r ≡ minutesOf k n ⌝ }
-{
-    if n == 0 {
-        return 0;
-    }
-    k * FULL_DAY / n as u64
-}
-
-// Minutes behind midnight as a clock, made as one text: a row has two of them.
-fn clock(page: &mut [u8], at: usize, minutes: u64) -> usize
-    ensures { λ r. ⌜ Filled (now (page .entry)) at (clockText (minutes / 60 % 24) (minutes % 60)) r (now (page .exit)) ⌝ }
-{
-    let hour = minutes / 60 % 24;
-    let minute = minutes % 60;
-    put(
-        page,
-        at,
-        &[
-            48 + (hour / 10) as u8,
-            48 + (hour % 10) as u8,
-            b':',
-            48 + (minute / 10) as u8,
-            48 + (minute % 10) as u8,
-        ],
-    )
-}
-
-// The day on which a moment is: minutes that make a full day lead to the day after.
-fn day_of(page: &mut [u8], at: usize, today: &[u8], after: &[u8], minutes: u64) -> usize
-    ensures { λ r. ⌜ Filled (now (page .entry)) at (cond (ltb minutes 1440) (now (today .entry)) (now (after .entry))) r (now (page .exit)) ⌝ }
-{
-    if minutes < FULL_DAY {
-        return put(page, at, today);
-    }
-    put(page, at, after)
-}
-
-fn moment(page: &mut [u8], at: usize, today: &[u8], after: &[u8], minutes: u64) -> usize
-    ensures { λ r. ⌜ Filled (now (page .entry)) at (fieldText (momentText (now (today .entry)) (now (after .entry)) minutes)) r (now (page .exit)) ⌝ }
-{
-    let p = day_of(page, at, today, after, minutes);
-    let q = clock(page, p, minutes);
-    put(page, q, b",")
-}
-
-// From when to when interval i from 0 goes, of n in its day.
-fn span(page: &mut [u8], at: usize, today: &[u8], after: &[u8], i: usize, n: usize) -> usize
-    ensures { λ r. ⌜ Filled (now (page .entry)) at (fieldText (momentText (now (today .entry)) (now (after .entry)) (minutesOf (i % 288) n)) ++ fieldText (momentText (now (today .entry)) (now (after .entry)) (minutesOf (i % 288 + 1) n))) r (now (page .exit)) ⌝ }
-{
-    let k = i as u64 % MOST;
-    let p = moment(page, at, today, after, minutes_of(k, n));
-    moment(page, p, today, after, minutes_of(k + 1, n))
-}
 
 // A flag and its method, as E52.
 fn quality(page: &mut [u8], at: usize, flag: u8, method: u8) -> usize

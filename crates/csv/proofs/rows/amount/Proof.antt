@@ -1,6 +1,6 @@
 -- `csv::rows::amount` meets its contract. Assumes nothing.
 use Rattle.page.proofs.Filling.{filled-then}
-use Rattle.csv.specs.Rows.{fieldText}
+use Rattle.cells.specs.Cells.{fieldText}
 use borrow.Author.Needs.{needs}
 use Rattle.csv.proofs.rows.amount.Statement.{statement}
 use Rattle.csv.proofs.rows.amount.Tie as tie

@@ -2,7 +2,7 @@
 use Rattle.ground.proofs.Tests.{tests}
 use Rattle.ground.specs.Digits.{padded}
 use Rattle.format.specs.Block.{qualityText}
-use Rattle.csv.specs.Rows.{fieldText}
+use Rattle.cells.specs.Cells.{fieldText}
 use borrow.Author.Needs.{needs}
 use Rattle.csv.proofs.rows.quality.Statement.{statement}
 use Rattle.csv.proofs.rows.quality.Tie as tie

@@ -2,7 +2,7 @@
 use Rattle.ground.proofs.Tests.{tests}
 use Rattle.page.proofs.Filling.{filled-then}
 use Rattle.format.specs.Block.{reasonText}
-use Rattle.csv.specs.Rows.{fieldText}
+use Rattle.cells.specs.Cells.{fieldText}
 use borrow.Author.Needs.{needs}
 use Rattle.csv.proofs.rows.reason.Statement.{statement}
 use Rattle.csv.proofs.rows.reason.Tie as tie
