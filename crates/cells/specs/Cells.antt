@@ -17,10 +17,11 @@ unfoldable pub doubled : List ℕ → List ℕ
 doubled [] = []
 doubled (b ∷ s) = twice b ++ doubled s
 
+-- a text between two quotes, with its own doubled
 unfoldable pub quoted : List ℕ → List ℕ
 quoted t = quote ∷ [] ++ doubled t ++ quote ∷ []
 
--- a field: as it is where it has no quote
+-- a field: as it is where it has no quote, else between two
 unfoldable pub cellText : List ℕ → List ℕ
 cellText t = cond (all (other quote) t) t (quoted t)
 

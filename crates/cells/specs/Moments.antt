@@ -5,7 +5,7 @@ use mathlib.Core.List.{List, _++_}
 use lib.Dec.{ltb}
 use Rattle.phrase.specs.Phrases.{clockText}
 
--- how many minutes k intervals have, n of which make a day
+-- how many minutes k intervals have, n of which make a day; 0 where n is 0
 unfoldable pub minutesOf : ℕ → ℕ → ℕ
 minutesOf k n = k * 1440 / n
 

@@ -15,7 +15,7 @@ const FULL_DAY: u64 = 1440;
 // The most intervals that a day has.
 const MOST: u64 = 288;
 
-// How many minutes k intervals have, n of which make a day.
+// How many minutes k intervals have, n of which make a day; 0 where n is 0.
 fn minutes_of(k: u64, n: usize) -> u64
     requires { ⌜ k ≤ 288 ⌝ }
     ensures { λ r. ⌜ r ≡ minutesOf k n ⌝ }
