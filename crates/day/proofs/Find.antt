@@ -96,10 +96,19 @@ pub behind-none : (file : List ℕ) (p : Place) → p ≡ Missing → (r : DaySt
 unfolding daysFrom lines
 behind-none file p h r ra rl u = record { within = omega arith; heads = u; is = rw (h, ra, rl, drop-length file) }
 
--- the 200 of a day that was found
+-- the 300 of a day that was found, and its 200
 module _ (file : List ℕ) (p : Place) (a e : ℕ) (u : Under) (h : p ≡ At a e u) (i : inside file p) where
-  heads-found : Heads file u
-  heads-found = let w : (a ≤ e) × (e + 2 ≤ length file) × Heads file u = rw h at i in w .2
+  found : (a ≤ e) × (e + 2 ≤ length file) × Heads file u
+  found = rw h at i
+
+  pub day-order : a ≤ e
+  day-order = found .0
+
+  pub day-within : e ≤ length file
+  day-within = omega (arith, found .1)
+
+  pub heads-found : Heads file u
+  heads-found = found .2
 
   pub under-order : u .at ≤ u .end
   under-order = heads-found .order

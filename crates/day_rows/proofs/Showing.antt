@@ -1,11 +1,9 @@
 -- What is shown of a day, from its parts. Assumes nothing.
-use Prim.Native.Nat.{ℕ, _+_, _-_, _%_, _≤_, _<_}
+use Prim.Native.Nat.{ℕ, _+_, _%_}
 use mathlib.Core.Path.{_≡_, sym, ap, _∙_}
 use mathlib.Core.List.{List, [], _∷_}
-use native.Mathlib.Omega.{arith}
-use borrow.Author.Tests.{le-leb, lt-leb, eq-eqb, ne-eqb}
-use lib.ListN.{length, getD}
-use Rattle.ground.specs.Lists.{part}
+use borrow.Author.Tests.{eq-eqb, ne-eqb}
+use lib.ListN.{getD}
 use Rattle.format.specs.Answers.{checkedAs}
 use Rattle.format.specs.File.{checkOf}
 use Rattle.format.specs.declared.Checked.{Checked}
@@ -16,8 +14,9 @@ use Rattle.page.specs.Filled.{Filled}
 use Rattle.page.proofs.Filling.{filled-then, filled-as}
 use Rattle.tables.specs.Days.{titleText, headings, rowText}
 use Rattle.phrase.specs.Phrases.{lineText}
+use Rattle.records.specs.Records.{textAt}
 use Rattle.explain.specs.Said.{explanation}
-use Rattle.day_rows.specs.Shown.{noDay, noDayText, refusedText, topText, textAt, intervalRow, minutesOf}
+use Rattle.day_rows.specs.Shown.{noDay, noDayText, refusedText, topText, intervalRow, minutesOf}
 
 -- ---- why there is none
 
@@ -43,19 +42,6 @@ pub top-put : {p₀ p₁ p₂ p₃ p₄ : List ℕ} {i j k l : ℕ} (day : DayHe
     → Filled p₂ j headings k p₃ → Filled p₃ k (10 ∷ []) l p₄ → Filled p₀ 0 (topText day n) l p₄
 unfolding topText lineText
 top-put day n a b c d = filled-then (filled-then a b) (filled-then c d)
-
-module _ (file : List ℕ) (from n : ℕ) where
-  pub text-past : length file < from → [] ≡ textAt file from n
-  unfolding textAt
-  text-past h = let k : length file < from + n = omega arith in rw (lt-leb _ _ k)
-
-  pub text-short : from ≤ length file → length file - from < n → [] ≡ textAt file from n
-  unfolding textAt
-  text-short h g = let k : length file < from + n = omega arith in rw (lt-leb _ _ k)
-
-  pub text-there : {t : List ℕ} → from ≤ length file → n ≤ length file - from → t ≡ part file from (from + n) → t ≡ textAt file from n
-  unfolding textAt
-  text-there h g e = let k : from + n ≤ length file = omega arith in rw (le-leb _ _ k, e)
 
 pub row-put : (file : List ℕ) (i n : ℕ) (vs fs ms rs ss ls : List ℕ) {p₀ p₁ p₂ : List ℕ} {j k : ℕ} (v f m r s w : ℕ) {t : List ℕ}
     → v ≡ getD vs i 0 → f ≡ getD fs i 0 → m ≡ getD ms i 0 → r ≡ getD rs i 0 → s ≡ getD ss i 0 → w ≡ getD ls i 0 → t ≡ textAt file s w

@@ -2,9 +2,8 @@
 use Prim.Native.Nat.{ℕ, _+_, _%_}
 use mathlib.Core.Bool.{cond}
 use mathlib.Core.List.{List, [], _∷_, _++_}
-use lib.ListN.{length, getD}
-use lib.Dec.{leb, eqb}
-use Rattle.ground.specs.Lists.{part}
+use lib.ListN.{getD}
+use lib.Dec.{eqb}
 use Rattle.ground.specs.Text.{bytes}
 use Rattle.format.specs.Answers.{Answer, accepted, refused}
 use Rattle.format.specs.File.{checkOf}
@@ -12,6 +11,7 @@ use Rattle.format.specs.declared.DayHead.{DayHead}
 use Rattle.format.specs.declared.Refusal.{Refusal}
 use Rattle.phrase.specs.Phrases.{lineText, countedText}
 use Rattle.tables.specs.Days.{titleText, headings, rowText}
+use Rattle.records.specs.Records.{textAt}
 use Rattle.explain.specs.Said.{explanation}
 
 -- ---- why there is none
@@ -36,10 +36,6 @@ refusedText file x = cond (eqb (x .number) 14) (noDayText file (checkOf file)) (
 
 unfoldable pub topText : DayHead → ℕ → List ℕ
 topText day n = lineText (titleText day n) ++ lineText headings
-
--- the n bytes of the file from a place on, none where it has no such part
-unfoldable pub textAt : List ℕ → ℕ → ℕ → List ℕ
-textAt file from n = cond (leb (from + n) (length file)) (part file from (from + n)) []
 
 -- interval i of six lists, of n in its day, counted from 1; no day has more than 288, so the remainder is i itself
 unfoldable pub intervalRow : List ℕ → ℕ → ℕ → List ℕ → List ℕ → List ℕ → List ℕ → List ℕ → List ℕ → List ℕ

@@ -11,13 +11,14 @@ use page::items::usize_at;
 use page::texts::part;
 use page::texts::put;
 use phrase::counts::counted;
+use records::text_at;
 use tables::days::headings;
 use tables::days::row;
 use tables::days::title;
 ghost use mathlib.Core.Path.{_≡_};
 ghost use Rattle.format.specs.File.{checkOf};
 ghost use Rattle.page.specs.Filled.{Filled};
-ghost use Rattle.day_rows.specs.Shown.{daysThere, noDay, noDayText, refusedText, textAt, intervalRow, topText, minutesOf};
+ghost use Rattle.day_rows.specs.Shown.{daysThere, noDay, noDayText, refusedText, intervalRow, topText, minutesOf};
 
 // ---- refused
 
@@ -65,19 +66,6 @@ pub fn refused(page: &mut [u8], file: &[u8], x: Refusal) -> usize
 }
 
 // ---- the table
-
-// The n bytes of the file from a place on, none where it has no such part.
-fn text_at(file: &[u8], from: usize, n: usize) -> &[u8]
-    ensures { λ r. ⌜ now r ≡ textAt (now (file .entry)) from n ⌝ }
-{
-    if file.len() < from {
-        return &file[..0];
-    }
-    if file.len() - from < n {
-        return &file[..0];
-    }
-    part(file, from, from + n)
-}
 
 // Interval i of the lists. Its line has room for a number up to 288, and no day has more intervals.
 pub fn interval(

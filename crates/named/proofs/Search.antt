@@ -17,7 +17,7 @@ use Rattle.format.specs.Records.{dateIn}
 use Rattle.format.specs.Units.{sameLetters}
 use Rattle.format.specs.declared.Number.{Number}
 use Rattle.format.specs.declared.Number.the-variants.{Is, Bad}
-use Rattle.day.specs.Places.{Heads, dayAt, located, inside}
+use Rattle.day.specs.Places.{dayAt, located}
 use Rattle.day.specs.declared.Under.{Under}
 use Rattle.day.specs.declared.Place.{Place}
 use Rattle.day.specs.declared.Place.the-variants.{At, Missing}
@@ -65,19 +65,6 @@ module _ (is : DayRows → Bool) (file : List ℕ) (k end : ℕ) (whole : Number
 module _ (file : List ℕ) (p : Place) where
   pub wanted-at : (is : DayRows → Bool) (a e : ℕ) (u : Under) → p ≡ At a e u → {b : Bool} → b ≡ is (dayAt file a e u) → b ≡ isFirst is (located file p)
   wanted-at is a e u h eb = rw h eb
-
-  module _ (i : inside file p) (a e : ℕ) (u : Under) (h : p ≡ At a e u) where
-    there : (a ≤ e) × (e + 2 ≤ length file) × Heads file u
-    there = rw h at i
-
-    pub there-order : a ≤ e
-    there-order = there .0
-
-    pub there-end : e + 2 ≤ length file
-    there-end = there .1
-
-    pub there-heads : Heads file u
-    there-heads = there .2
 
   pub wanted-none : (is : DayRows → Bool) → p ≡ Missing → false ≡ isFirst is (located file p)
   wanted-none is h = rw h

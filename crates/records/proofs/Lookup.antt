@@ -1,10 +1,10 @@
 -- The record in which a place stands, the 200 before a place and a field of a record, as they are looked for. Assumes nothing.
 use Prim.Native.Nat.{ℕ, zero, suc, _+_, _-_, _≤_, _<_}
 use mathlib.Core.Path.{_≡_, refl, sym, ap, _∙_}
-use mathlib.Core.List.{List}
+use mathlib.Core.List.{List, []}
 use mathlib.Core.Bool.{Bool, true, false}
 use native.Mathlib.Omega.{arith}
-use borrow.Author.Tests.{lt-ltb, le-ltb, ne-eqb}
+use borrow.Author.Tests.{le-leb, lt-leb, lt-ltb, le-ltb, ne-eqb}
 use lib.ListN.{length, getD, take, drop, List·getD-eq-default}
 use lib.Dec.{eqb, ltb}
 use Rattle.ground.specs.Lists.{spanOf, part}
@@ -21,7 +21,7 @@ use Rattle.format.proofs.Numbers.{intervals-most}
 use Rattle.lines.specs.Places.{LineEnd, Looked, Rest}
 use Rattle.lines.proofs.Cuts.{rest-first}
 use Rattle.lines.proofs.Ends.{line-none, line-more, line-long}
-use Rattle.records.specs.Records.{crlfBefore, recordStart, firstOf, recordAs, recordOf, channelBehind, channelFrom, channelBefore, nBefore, unitNamed}
+use Rattle.records.specs.Records.{crlfBefore, recordStart, firstOf, recordAs, recordOf, channelBehind, channelFrom, channelBefore, nBefore, unitNamed, textAt}
 use Rattle.records.specs.declared.Record.{Record}
 
 -- ---- where a record starts
@@ -129,3 +129,18 @@ pub unit-named : (s : List ℕ) (number n x u : ℕ) → n ≡ number - 1 → Re
     → u ≡ numberIn (unitOf (field 0 (fields (part s x (length s))))) → u ≡ unitNamed (number - 1) s
 unfolding unitNamed
 unit-named s number n x u e r h = h ∙ ap (λ (f : List ℕ). numberIn (unitOf f)) (field-is s number n x e r refl)
+
+-- ---- descriptions
+
+module _ (file : List ℕ) (from n : ℕ) where
+  pub text-past : length file < from → [] ≡ textAt file from n
+  unfolding textAt
+  text-past h = let k : length file < from + n = omega arith in rw (lt-leb _ _ k)
+
+  pub text-short : from ≤ length file → length file - from < n → [] ≡ textAt file from n
+  unfolding textAt
+  text-short h g = let k : length file < from + n = omega arith in rw (lt-leb _ _ k)
+
+  pub text-there : {t : List ℕ} → from ≤ length file → n ≤ length file - from → t ≡ part file from (from + n) → t ≡ textAt file from n
+  unfolding textAt
+  text-there h g e = let k : from + n ≤ length file = omega arith in rw (le-leb _ _ k, e)

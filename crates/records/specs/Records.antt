@@ -3,8 +3,8 @@ use Prim.Native.Nat.{ℕ, zero, suc, _+_, _-_}
 use mathlib.Core.List.{List, []}
 use mathlib.Core.Bool.{Bool, cond, _&&_}
 use lib.ListN.{length, getD, take, drop}
-use lib.Dec.{ltb, eqb}
-use Rattle.ground.specs.Lists.{spanOf}
+use lib.Dec.{leb, ltb, eqb}
+use Rattle.ground.specs.Lists.{spanOf, part}
 use Rattle.format.specs.Bytes.{plain}
 use Rattle.format.specs.Numbers.{numberIn}
 use Rattle.format.specs.Units.{unitOf}
@@ -58,3 +58,9 @@ nBefore file place = intervalsIn (fields (channelBefore file place))
 -- the number of the unit that the field of a number from 0 names
 unfoldable pub unitNamed : ℕ → List ℕ → ℕ
 unitNamed i r = numberIn (unitOf (field i (fields r)))
+
+-- ---- descriptions
+
+-- the n bytes of the file from a place on, none where it has no such part
+unfoldable pub textAt : List ℕ → ℕ → ℕ → List ℕ
+textAt file from n = cond (leb (from + n) (length file)) (part file from (from + n)) []

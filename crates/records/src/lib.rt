@@ -11,7 +11,7 @@ ghost use mathlib.Core.Path.{_≡_};
 ghost use Prim.Native.Nat.{_-_, _≤_};
 ghost use lib.ListN.{length, drop};
 ghost use Rattle.format.specs.Cut.{lines, fields, field as Cut·field};
-ghost use Rattle.records.specs.Records.{crlfBefore, recordStart, recordOf, channelBefore, nBefore, unitNamed};
+ghost use Rattle.records.specs.Records.{crlfBefore, recordStart, recordOf, channelBefore, nBefore, unitNamed, textAt};
 
 // A record: where it starts and ends, its kind or 0, and how many fields it has.
 pub struct Record {
@@ -138,4 +138,19 @@ fn before(number: usize) -> usize
         return 0;
     }
     number - 1
+}
+
+// ---- descriptions
+
+// The n bytes of the file from a place on, none where it has no such part.
+pub fn text_at(file: &[u8], from: usize, n: usize) -> &[u8]
+    ensures { λ r. ⌜ now r ≡ textAt (now (file .entry)) from n ⌝ }
+{
+    if file.len() < from {
+        return &file[..0];
+    }
+    if file.len() - from < n {
+        return &file[..0];
+    }
+    part(file, from, from + n)
 }

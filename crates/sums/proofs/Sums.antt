@@ -16,7 +16,7 @@ use Rattle.ground.specs.Lists.{all, spanOf, other, sum, part}
 use Rattle.format.specs.Bytes.{areAll}
 use Rattle.format.specs.Numbers.{numberOf, valueOf}
 use Rattle.format.specs.Cut.{fields, field}
-use Rattle.format.specs.Records.{kindIn, millionths, valuesIn}
+use Rattle.format.specs.Records.{kindIn, millionths, valuesIn, intervalsIn}
 use Rattle.format.specs.Total.{sumFrom}
 use Rattle.format.specs.File.{most}
 use Rattle.format.proofs.Total.{record-most}
@@ -27,9 +27,12 @@ use Rattle.lines.proofs.Ends.{line-none, line-more}
 use Rattle.lines.proofs.Cuts.{rest-whole, rest-next, rest-on, rest-first}
 use Rattle.lumps.specs.Lumps.{Alike}
 use Rattle.lines.proofs.Commas.{comma-field, comma-cut}
-use Rattle.day.specs.Places.{valuesFrom}
+use Rattle.day.specs.Places.{valuesFrom, located}
+use Rattle.day.specs.declared.Under.{Under}
+use Rattle.day.specs.declared.Place.{Place}
+use Rattle.day.specs.declared.Place.the-variants.{At, Missing}
 use Rattle.day.proofs.Values.{values-move}
-use Rattle.sums.specs.Sums.{sumAt, Adds}
+use Rattle.sums.specs.Sums.{sumAt, sumFirst, Adds}
 
 -- ---- some of the values of a 300
 
@@ -202,3 +205,12 @@ module _ (file : List ℕ) (a e v n acc : ℕ) (o : a ≤ e) (g : e ≤ length f
 pub day-fits : (file : List ℕ) (a e v n : ℕ) → a ≤ e → e ≤ length file → Rest file (fields (part file a e)) a 2 v e → length file ≤ most
     → 0 + sum (valuesFrom n 0 (fields (part file v e))) < 2 ^ 64
 day-fits file a e v n o g z l = passed-fits file a e v n 0 o g z (omega arith) l
+
+-- the day at the place p that the walk to it answers
+module _ (file : List ℕ) (p : Place) where
+  pub sum-there : (a e n y : ℕ) (u : Under) → p ≡ At a e u → n ≡ intervalsIn (fields (part file (u .at) (u .end)))
+      → y ≡ sum (valuesIn n (fields (part file a e))) → y ≡ sumFirst (located file p)
+  sum-there a e n y u h en ey = rw (h, ← en) ey
+
+  pub sum-none : p ≡ Missing → 0 ≡ sumFirst (located file p)
+  sum-none h = rw h

@@ -1,10 +1,12 @@
 -- Sums of values from a place of the file on, for the contracts of the inner functions.
 use Prim.Native.Nat.{ℕ}
 use mathlib.Core.Path.{_≡_}
-use mathlib.Core.List.{List}
+use mathlib.Core.List.{List, [], _∷_}
 use lib.ListN.{drop}
 use Rattle.ground.specs.Lists.{sum, part}
 use Rattle.format.specs.Cut.{lines, fields}
+use Rattle.format.specs.Records.{valuesIn}
+use Rattle.format.specs.Day.{DayRows}
 use Rattle.format.specs.Total.{sumFrom}
 use Rattle.lines.specs.Places.{Rest}
 use Rattle.day.specs.Places.{valuesFrom}
@@ -17,3 +19,8 @@ pub record Adds (file : List ℕ) (x e m v y : ℕ) : Type 0 where
 -- the values of the days from place p on, up to the next channel
 abbrev pub sumAt : List ℕ → ℕ → ℕ → ℕ
 sumAt file p n = sumFrom n (lines (drop p file))
+
+-- the values of the first of these days, 0 where there is none
+abbrev pub sumFirst : List DayRows → ℕ
+sumFirst [] = 0
+sumFirst (d ∷ ds) = sum (valuesIn (d .block .n) (d .block .top .cells))

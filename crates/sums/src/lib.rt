@@ -1,6 +1,8 @@
-// The values of a channel's days, added up, sixteen at a time. No sum is tested: a value is below 10^13 and has a comma of its own before it, so that what was
+// The values of a day, and those of a channel's days, added up, sixteen at a time. No sum is tested: a value is below 10^13 and has a comma of its own before it, so that what was
 // added up is at most 10^13 for each byte passed, and a file that was accepted has no more than 1,048,576 of them.
+use day::Place;
 use day::fields::skip;
+use day::walk::intervals_of;
 use lines::line_end;
 use lumps::sixteen;
 use lumps::thousand;
@@ -14,9 +16,9 @@ ghost use Rattle.ground.specs.Lists.{part, sum};
 ghost use Rattle.format.specs.Cut.{fields};
 ghost use Rattle.format.specs.File.{most};
 ghost use Rattle.format.specs.Records.{valuesIn};
-ghost use Rattle.day.specs.Places.{valuesFrom};
+ghost use Rattle.day.specs.Places.{valuesFrom, located, inside};
 ghost use Rattle.lumps.specs.Lumps.{Alike};
-ghost use Rattle.sums.specs.Sums.{sumAt, Adds};
+ghost use Rattle.sums.specs.Sums.{sumAt, sumFirst, Adds};
 
 // The values of some fields from a place on, added up, and where the field behind them starts.
 pub struct Sum {
@@ -91,12 +93,23 @@ fn add_values(file: &[u8], a: usize, e: usize, n: usize, before: u64) -> u64
 }
 
 // The n values of the day whose 300 stands at a..e.
-pub fn add_day(file: &[u8], a: usize, e: usize, n: usize) -> u64
+fn add_day(file: &[u8], a: usize, e: usize, n: usize) -> u64
     requires { ⌜ (a ≤ e) × (e ≤ length (now file)) × (length (now file) ≤ most) ⌝ }
     ensures { λ r. ⌜ r ≡ sum (valuesIn n (fields (part (now (file .entry)) a e))) ⌝ }
 {
     let v = skip(file, a, e, 2);
     add_values(file, v, e, n, 0)
+}
+
+// What the day at a place adds up to, 0 where there is none.
+pub fn day_sum(file: &[u8], place: Place) -> u64
+    requires { ⌜ inside (now file) place × (length (now file) ≤ most) ⌝ }
+    ensures { λ r. ⌜ r ≡ sumFirst (located (now (file .entry)) place) ⌝ }
+{
+    match place {
+        Place::At(a, e, under) => add_day(file, a, e, intervals_of(file, under.at, under.end)),
+        Place::Missing => 0,
+    }
 }
 
 // The values of the days from a place on up to the next channel, n to a day.

@@ -1,5 +1,6 @@
 -- `named::is_wanted` meets its contract. Assumes nothing.
-use Rattle.named.proofs.Search.{wanted-at, wanted-none, there-order, there-end, there-heads}
+use Rattle.day.proofs.Find.{day-order, room-behind, heads-found}
+use Rattle.named.proofs.Search.{wanted-at, wanted-none}
 use borrow.Author.Needs.{needs}
 use Rattle.named.proofs.is_wanted.Statement.{statement}
 use Rattle.named.proofs.is_wanted.Tie as tie
@@ -8,7 +9,7 @@ enum-known-place : tie.Need-enum-known-place
 enum-known-place c = search needs
 
 has-key-requires : tie.Need-has-key-requires
-has-key-requires c κs = (search there-order, search there-end, search there-heads)
+has-key-requires c κs = (search day-order, search room-behind, search heads-found)
 
 enum-told : tie.Need-enum-told
 enum-told c = search needs

@@ -1,8 +1,8 @@
--- `day_rows::text_at` meets its contract. Assumes nothing.
-use Rattle.day_rows.proofs.Showing.{text-past, text-short, text-there}
+-- `records::text_at` meets its contract. Assumes nothing.
+use Rattle.records.proofs.Lookup.{text-past, text-short, text-there}
 use borrow.Author.Needs.{needs}
-use Rattle.day_rows.proofs.text_at.Statement.{statement}
-use Rattle.day_rows.proofs.text_at.Tie as tie
+use Rattle.records.proofs.text_at.Statement.{statement}
+use Rattle.records.proofs.text_at.Tie as tie
 
 slice-aggregate-result : tie.Need-slice-aggregate-result
 slice-aggregate-result c = search needs

@@ -1,0 +1,2 @@
+mod Counting
+mod Columns
