@@ -1,4 +1,5 @@
-//! Fresh cases for the probe, made from a seed. A case depends on the seed and its own number alone.
+//! Fresh cases for the probe, and fresh files, made from a seed. A case or a file depends on the seed and its own number
+//! alone.
 
 mod aimed;
 mod blocks;
@@ -16,6 +17,9 @@ mod null_data;
 mod parts;
 mod requests;
 mod sweep;
+mod table_sweep;
+#[cfg(test)]
+mod tables;
 mod unit_sweep;
 #[cfg(test)]
 mod units;
@@ -23,6 +27,8 @@ mod words;
 mod writes;
 
 use chance::Chance;
+
+pub use table_sweep::file;
 
 /// The cases with these numbers have files at the limit of length and above it. There are few, as they are large. They
 /// and the next two stand where no sweep has a turn, as its turn would be lost.

@@ -133,7 +133,7 @@ pub fn is_real_date(date: u32) -> bool {
     (1900..=2199).contains(&year) && (1..=12).contains(&month) && (1..=days_in_month(year, month)).contains(&day)
 }
 
-fn year_month_day(date: u32) -> (u32, u32, u32) {
+pub fn year_month_day(date: u32) -> (u32, u32, u32) {
     (date / 10_000, date / 100 % 100, date % 100)
 }
 

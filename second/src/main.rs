@@ -1,5 +1,6 @@
 //! A second program for the rules of NEM12 and NEM13 metering files, written for plainness and not for speed.
-//! It answers the probe's cases, so that its answers can be held against another program's, and makes cases.
+//! It answers the probe's cases and writes files as tables, so that its answers can be held against another program's,
+//! and makes cases and files.
 
 #![forbid(unsafe_code)]
 
@@ -14,15 +15,20 @@ mod records;
 mod refusal;
 #[cfg(test)]
 mod settled;
+mod table;
 mod total;
 mod units;
 mod walk;
 mod write;
 
+use refusal::Refusal;
+use std::fs;
 use std::io::{self, BufWriter, Read, Write};
+use std::path::Path;
 use std::process::ExitCode;
 
-const USAGE: &str = "usage: second probe [--tally] | second cases SEED COUNT";
+const USAGE: &str = "usage: second probe [--tally] | second cases SEED COUNT | second files SEED COUNT FOLDER | \
+                     second csv FILE | second daily FILE";
 
 fn main() -> ExitCode {
     let arguments: Vec<String> = std::env::args().skip(1).collect();
@@ -34,6 +40,12 @@ fn main() -> ExitCode {
             (Ok(seed), Ok(count)) => make_cases(seed, count),
             _ => return usage(),
         },
+        ["files", seed, count, folder] => match (seed.parse(), count.parse()) {
+            (Ok(seed), Ok(count)) => make_files(seed, count, Path::new(folder)),
+            _ => return usage(),
+        },
+        ["csv", file] => write_table(table::csv, file),
+        ["daily", file] => write_table(table::daily, file),
         _ => return usage(),
     };
     match outcome {
@@ -68,4 +80,23 @@ fn make_cases(seed: u64, count: u64) -> io::Result<()> {
         output.write_all(&cases::case(seed, index))?;
     }
     output.flush()
+}
+
+fn make_files(seed: u64, count: u64, folder: &Path) -> io::Result<()> {
+    for index in 0..count {
+        fs::write(folder.join(format!("{}.csv", index + 1)), cases::file(seed, index))?;
+    }
+    Ok(())
+}
+
+/// Writes a file's table, and nothing of a refused file. `-` is standard input.
+fn write_table(table: fn(&[u8]) -> Result<Vec<u8>, Refusal>, name: &str) -> io::Result<()> {
+    let mut file = Vec::new();
+    if name == "-" {
+        io::stdin().lock().read_to_end(&mut file)?;
+    } else {
+        file = fs::read(name)?;
+    }
+    let table = table(&file).map_err(|refusal| io::Error::other(format!("refused {}", refusal.number)))?;
+    io::stdout().lock().write_all(&table)
 }

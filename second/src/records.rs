@@ -74,7 +74,7 @@ pub struct Field<'a> {
     pub bytes: &'a [u8],
 }
 
-#[derive(Debug)]
+#[derive(Clone, Debug)]
 pub struct Record<'a> {
     pub start: usize,
     /// Place behind the record's CR LF.
@@ -110,6 +110,11 @@ impl<'a> Record<'a> {
     /// The number that a field's digits write, 0 if it is empty.
     pub fn decimal(&self, number: usize) -> u64 {
         fields::decimal(self.bytes(number))
+    }
+
+    /// The millionths of the value in this field, which is known to keep its rule.
+    pub fn value(&self, number: usize) -> u64 {
+        fields::value(self.bytes(number)).expect("a value that keeps its rule")
     }
 
     /// The note whose quality field has this number. The three fields are known to keep their rules.

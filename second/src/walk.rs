@@ -13,16 +13,20 @@ use crate::units::Unit;
 pub struct MeterFile<'a> {
     /// 12 or 13.
     pub version: u64,
-    pub channels: Vec<Channel>,
+    pub channels: Vec<Channel<'a>>,
     pub days: Vec<Day<'a>>,
 }
 
-pub struct Channel {
+pub struct Channel<'a> {
+    /// The 200 or 250 that it begins with. A block on its own has none before it.
+    pub record: Option<Record<'a>>,
     /// Millionths: the values of all its days, or its quantity. Wide enough never to overflow.
     pub total: u128,
 }
 
 pub struct Day<'a> {
+    /// Number of its channel, from 0.
+    pub channel: usize,
     pub date: u32,
     /// Its channel's.
     pub unit: Unit,
@@ -111,7 +115,7 @@ impl<'a> Walk<'a> {
     /// At the start of a block on its own, as if behind a 200 whose days have n intervals of this unit.
     pub fn at_start_of_block(n: usize, unit: Unit) -> Walk<'a> {
         let mut walk = Walk::at_start_of_file();
-        walk.enter_channel(n, unit);
+        walk.enter_channel(None, n, unit);
         walk.over_block = true;
         walk
     }
@@ -209,17 +213,17 @@ impl<'a> Walk<'a> {
         }
     }
 
-    fn take_channel(&mut self, record: &Record) {
+    fn take_channel(&mut self, record: &Record<'a>) {
         let unit = Unit::named(record.bytes(8)).expect("a unit that keeps its rule");
         let n = fields::intervals_for_field(record.bytes(9)).expect("an interval length that keeps its rule");
-        self.enter_channel(n, unit);
+        self.enter_channel(Some(record.clone()), n, unit);
     }
 
-    fn enter_channel(&mut self, n: usize, unit: Unit) {
+    fn enter_channel(&mut self, record: Option<Record<'a>>, n: usize, unit: Unit) {
         self.n = n;
         self.unit = Some(unit);
         self.last_date = None;
-        self.content.channels.push(Channel { total: 0 });
+        self.content.channels.push(Channel { record, total: 0 });
         self.place = Place::AfterChannel;
     }
 
@@ -229,11 +233,12 @@ impl<'a> Walk<'a> {
             return Err(record.refuse_field(DATE_NOT_LATER, 2));
         }
         let n = self.n;
-        let values: Vec<u64> = (3..n + 3).map(|number| value_of(record, number)).collect();
+        let values: Vec<u64> = (3..n + 3).map(|number| record.value(number)).collect();
         let note = record.note(n + 3);
         let unit = self.unit.expect("days stand under a channel");
         self.channel().total += values.iter().map(|value| u128::from(*value)).sum::<u128>();
         self.content.days.push(Day {
+            channel: self.content.channels.len() - 1,
             date,
             unit,
             update: record.decimal(n + 6),
@@ -273,22 +278,18 @@ impl<'a> Walk<'a> {
         Ok(())
     }
 
-    fn take_accumulation(&mut self, record: &Record) {
-        self.content.channels.push(Channel { total: u128::from(value_of(record, 19)) });
+    fn take_accumulation(&mut self, record: &Record<'a>) {
+        self.content.channels.push(Channel { record: Some(record.clone()), total: u128::from(record.value(19)) });
         self.place = Place::After250;
     }
 
-    fn channel(&mut self) -> &mut Channel {
+    fn channel(&mut self) -> &mut Channel<'a> {
         self.content.channels.last_mut().expect("days stand under a channel")
     }
 
     fn day(&mut self) -> &mut Day<'a> {
         self.content.days.last_mut().expect("400s and 500s stand under a day")
     }
-}
-
-fn value_of(record: &Record, field: usize) -> u64 {
-    fields::value(record.bytes(field)).expect("a value that keeps its rule")
 }
 
 fn all_say_same(notes: &[Note]) -> bool {

@@ -176,7 +176,7 @@ fn cover_record(stretch: &Stretch) -> Vec<u8> {
 }
 
 /// Quality, reason and description.
-fn note_fields(note: &Note) -> [Vec<u8>; 3] {
+pub fn note_fields(note: &Note) -> [Vec<u8>; 3] {
     let reason = if note.reason == NO_REASON { Vec::new() } else { note.reason.to_string().into_bytes() };
     [quality_field(note.quality), reason, note.description.to_vec()]
 }
@@ -191,7 +191,7 @@ fn quality_field(quality: Quality) -> Vec<u8> {
 }
 
 /// A value without needless zeros, and without a point if nothing stands behind it.
-fn value_field(millionths: u64) -> Vec<u8> {
+pub fn value_field(millionths: u64) -> Vec<u8> {
     let whole = millionths / 1_000_000;
     let fraction = format!("{:06}", millionths % 1_000_000);
     let fraction = fraction.trim_end_matches('0');

@@ -123,7 +123,7 @@ impl Channel {
 }
 
 /// A 200 with its days. Days of 5 minutes are large, and so they are few.
-fn channel(chance: &mut Chance) -> Vec<Row> {
+pub fn channel(chance: &mut Chance) -> Vec<Row> {
     let minutes = match chance.below(16) {
         0 => 5,
         1..=3 => 15,
@@ -165,7 +165,7 @@ pub fn day_block(chance: &mut Chance, channel: Channel, date: u32) -> Vec<Row> {
         let note = words::note(chance);
         vec![day(chance, channel, date, &note.fields())]
     } else {
-        let mut rows = vec![day(chance, channel, date, &[b"V".to_vec(), Vec::new(), Vec::new()])];
+        let mut rows = vec![day(chance, channel, date, &v_note())];
         rows.extend(cover(chance, channel.n));
         rows
     };
@@ -186,6 +186,11 @@ pub fn day(chance: &mut Chance, channel: Channel, date: u32, note: &[Word; 3]) -
     }
     day[n + 2..n + 5].clone_from_slice(note);
     day
+}
+
+/// Quality, reason and description in the 300 of a V day.
+pub fn v_note() -> [Word; 3] {
+    [b"V".to_vec(), Vec::new(), Vec::new()]
 }
 
 pub fn cover_row(start: usize, end: usize, note: &NoteWords) -> Row {

@@ -194,13 +194,8 @@ fn channel_for_every_value(chance: &mut Chance) -> Channel {
 
 fn day_of_every_value(chance: &mut Chance, channel: Channel, date: u32, note: &[Word; 3]) -> Row {
     let mut day = files::day(chance, channel, date, note);
-    day[2..channel.n + 2].clone_from_slice(&words::values_of_every_shape(chance, channel.n));
+    day[2..channel.n + 2].clone_from_slice(&words::values_of_every_shape(chance, channel.n, MOST_DECIMALS));
     day
-}
-
-/// Quality, reason and description in the 300 of a V day.
-fn v_note() -> [Word; 3] {
-    [b"V".to_vec(), Vec::new(), Vec::new()]
 }
 
 /// A 500 with a read time that belongs to the day of this date.
@@ -266,7 +261,7 @@ fn covered_day(chance: &mut Chance, behind: Behind) -> Vec<Row> {
         cover[2] = number_word((index + 1) * channel.n / count);
     }
     let mut rows = vec![files::channel_head(chance, channel)];
-    rows.push(day_of_every_value(chance, channel, date, &v_note()));
+    rows.push(day_of_every_value(chance, channel, date, &files::v_note()));
     rows.extend(covers);
     rows.extend(rows_of_every_length(chance, behind, |chance| order(chance, date)));
     rows
@@ -330,7 +325,7 @@ fn block_with_last_description(chance: &mut Chance, channel: Channel, length: us
     let description = words::of_length(chance, Rule::Description, length);
     let last = words::note_with_description(chance, Rule::IntervalQuality, &description);
     let first = words::other_note(chance, &last);
-    let mut rows = vec![day_of_every_value(chance, channel, date, &v_note())];
+    let mut rows = vec![day_of_every_value(chance, channel, date, &files::v_note())];
     rows.extend(files::cover_with(chance, channel.n, &[first, last]));
     rows
 }

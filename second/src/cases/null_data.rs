@@ -2,7 +2,7 @@
 //! own and in days to be written.
 
 use super::case;
-use super::parts::{answer, number, records_of, Checked, DayToWrite, Fault};
+use super::parts::{answer, note_of, number, records_of, Checked, DayToWrite, Fault};
 use super::requests::words_and_bytes;
 use super::words::NoteWords;
 use crate::fields::NO_METHOD;
@@ -82,11 +82,6 @@ fn quality_fields(record: &Record) -> Vec<usize> {
         (b"250", 23) => vec![11, 16],
         _ => Vec::new(),
     }
-}
-
-fn note_of(record: &Record, quality: usize) -> NoteWords {
-    let [quality, reason, description] = [0, 1, 2].map(|further| record.bytes(quality + further).to_vec());
-    NoteWords { quality, reason, description }
 }
 
 // --- Notes ---

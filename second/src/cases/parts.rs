@@ -1,6 +1,7 @@
 //! For tests: cases taken apart.
 
 use super::requests::words_and_bytes;
+use super::words::NoteWords;
 use crate::block::check_block;
 use crate::check::check;
 use crate::fields::intervals_in_day;
@@ -59,6 +60,12 @@ pub fn records_of(bytes: &[u8]) -> Vec<Record<'_>> {
         records.push(record);
     }
     records
+}
+
+/// The note whose quality field has this number.
+pub fn note_of(record: &Record, quality: usize) -> NoteWords {
+    let [quality, reason, description] = [0, 1, 2].map(|further| record.bytes(quality + further).to_vec());
+    NoteWords { quality, reason, description }
 }
 
 // --- Days to be written ---

@@ -117,7 +117,7 @@ fn leads_of_block(chance: &mut Chance, channel: Channel) -> Vec<Vec<Row>> {
     let mut order = files::row(chance, Kind::R500, 0);
     order[3] = Vec::new();
 
-    let in_v_day = vec![files::day(chance, channel, DATE, &[b"V".to_vec(), Vec::new(), Vec::new()])];
+    let in_v_day = vec![files::day(chance, channel, DATE, &files::v_note())];
     let covered = [in_v_day.clone(), cover.clone()].concat();
     let in_plain_day = vec![plain_day(chance, channel)];
     vec![
@@ -269,7 +269,7 @@ fn rows_of_null_day(chance: &mut Chance, channel: Channel, day: &NullDay) -> Vec
     if !day.in_cover {
         return vec![files::day(chance, channel, date, &day.notes[0].fields())];
     }
-    let mut rows = vec![files::day(chance, channel, date, &[b"V".to_vec(), Vec::new(), Vec::new()])];
+    let mut rows = vec![files::day(chance, channel, date, &files::v_note())];
     rows.extend(files::cover_with(chance, channel.n, &day.notes));
     rows
 }

@@ -9,6 +9,7 @@ use crate::block::check_block;
 use crate::fields::{decimals_of, intervals_in_day, Rule, MOST_DECIMALS};
 use crate::records::{layout, quality_fields, Kind, Record};
 use crate::units::Unit;
+use std::collections::BTreeSet;
 use std::ops::RangeInclusive;
 
 /// Where a value stands.
@@ -207,20 +208,25 @@ fn look_for_faults_beside(beside: &[(Place, OtherFault)]) {
 fn look_for_names(names: &[Named]) {
     for (indicator, field) in [("200", 8), ("250", 20)] {
         let here = || names.iter().filter(|named| named.indicator == indicator.as_bytes());
-        for unit in Unit::all() {
-            let name = unit.name().as_bytes();
-            let told = [name.to_vec(), name.to_ascii_lowercase(), name.to_ascii_uppercase()];
-            let passed = || here().filter(|named| named.refused_field.is_none()).map(|named| &named.word);
-            for spelling in &told {
-                assert!(passed().any(|word| word == spelling), "{spelling:?} in a {indicator}");
-            }
-            let is_mixed = |word: &Vec<u8>| Unit::named(word) == Some(unit) && !told.contains(word);
-            assert_eq!(passed().any(is_mixed), name.len() > 1, "{} mixed in a {indicator}", unit.name());
-        }
+        let passed = here().filter(|named| named.refused_field.is_none()).map(|named| named.word.clone());
+        look_for_spellings(&passed.collect(), indicator);
         for word in words::NEARLY_UNITS {
             let is_refused = |named: &Named| named.refused_field == Some(field) && named.word == word.as_bytes();
             assert!(here().any(is_refused), "{word:?} in a {indicator}");
         }
+    }
+}
+
+/// Looks for every unit as the table spells it, in small letters, in capitals and mixed.
+pub fn look_for_spellings(words: &BTreeSet<Vec<u8>>, indicator: &str) {
+    for unit in Unit::all() {
+        let name = unit.name().as_bytes();
+        let told = [name.to_vec(), name.to_ascii_lowercase(), name.to_ascii_uppercase()];
+        for spelling in &told {
+            assert!(words.contains(spelling), "{spelling:?} in a {indicator}");
+        }
+        let is_mixed = |word: &Vec<u8>| Unit::named(word) == Some(unit) && !told.contains(word);
+        assert_eq!(words.iter().any(is_mixed), name.len() > 1, "{} mixed in a {indicator}", unit.name());
     }
 }
 

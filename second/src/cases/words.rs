@@ -83,7 +83,13 @@ pub fn next_date(date: u32) -> Option<u32> {
 
 /// One date or more, each later than the one before it.
 pub fn rising_dates(chance: &mut Chance, count: usize) -> Vec<u32> {
-    let mut dates = vec![date(chance)];
+    let first = date(chance);
+    rising_dates_from(chance, first, count)
+}
+
+/// Likewise, this one being the first. Behind the last date that a file may hold there are none.
+pub fn rising_dates_from(chance: &mut Chance, first: u32, count: usize) -> Vec<u32> {
+    let mut dates = vec![first];
     while dates.len() < count {
         let mut last = dates[dates.len() - 1];
         for _ in 0..if chance.one_in(4) { chance.between(1, 400) } else { 1 } {
@@ -202,10 +208,15 @@ fn read_of_length(chance: &mut Chance, length: usize) -> Word {
     decimal_word(chance, before, length - 1 - before)
 }
 
+/// The largest value of so many decimals, which are one or more.
+pub fn largest_value(decimals: usize) -> Word {
+    [b"9999999.", &b"999999"[..decimals]].concat()
+}
+
 /// A value in any shape that is allowed where it may have so many decimals, which are one or more.
 fn value_of_any_shape(chance: &mut Chance, decimals: usize) -> Word {
     match chance.below(10) {
-        0 => [b"9999999.", &b"999999"[..decimals]].concat(),
+        0 => largest_value(decimals),
         1 => [b"0000000.", &b"000000"[..decimals]].concat(),
         2 => b"0".to_vec(),
         3 => [b"003.", &b"40"[..decimals.min(2)]].concat(),
@@ -231,10 +242,11 @@ pub fn values(chance: &mut Chance, n: usize, unit: Unit) -> Vec<Word> {
     }
 }
 
-/// The values of one day in every shape that a value can have in a unit of six decimals, mixed: each number of digits
-/// before the point with none and each number of them behind it. There are 49, so half hours are too few.
-pub fn values_of_every_shape(chance: &mut Chance, n: usize) -> Vec<Word> {
-    let shape = |index: usize| (1 + index % 7, index / 7 % (MOST_DECIMALS + 1));
+/// The values of one day in every shape that a value can have in a unit of so many decimals, mixed: each number of
+/// digits before the point with none and each number of them behind it. In a unit of six decimals there are 49, so half
+/// hours are too few for the last.
+pub fn values_of_every_shape(chance: &mut Chance, n: usize, decimals: usize) -> Vec<Word> {
+    let shape = |index: usize| (1 + index % 7, index / 7 % (decimals + 1));
     let mut shapes: Vec<(usize, usize)> = (0..n).map(shape).collect();
     chance.shuffle(&mut shapes);
     shapes.into_iter().map(|(before, behind)| decimal_word(chance, before, behind)).collect()
