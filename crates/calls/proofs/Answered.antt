@@ -12,7 +12,7 @@ use Rattle.format.specs.declared.DayRead.{DayRead}
 use Rattle.format.specs.declared.DayRead.the-variants as dayRead
 use Rattle.format.specs.declared.Written.{Written}
 use Rattle.page.specs.Filled.{Filled}
-use Rattle.answers.specs.Lines.{lineOf, intervalIn, intervalsRead, dayLine}
+use Rattle.answer_lines.specs.Lines.{lineOf, intervalIn, intervalsRead, dayLine}
 use Rattle.page.proofs.Filling.{filled-then, filled-as}
 use Rattle.calls.specs.Kept.{kept, keptAll, ending}
 use Rattle.calls.specs.Lines.{answerLine, intervalsIn, dayText, bytesIn, blockText}

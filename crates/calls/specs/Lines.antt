@@ -6,7 +6,7 @@ use Rattle.format.specs.Answers.{Answer, accepted, refused}
 use Rattle.format.specs.Day.{Five, five, Outcome}
 use Rattle.format.specs.Block.{Given, writeOf, roomOf}
 use Rattle.page.specs.Texts.{texts}
-use Rattle.answers.specs.Lines.{lineOf, intervalIn}
+use Rattle.answer_lines.specs.Lines.{lineOf, intervalIn}
 use Rattle.calls.specs.Kept.{kept, wideMark, halfMark, byteMark, keptAll, ending}
 
 -- an answer's line where nothing that could change was lent

@@ -1,7 +1,7 @@
 // The entry that is handed a day: write_day.
 use super::kept;
 use super::kept::end_line;
-use answers::answers;
+use answer_lines::answers;
 use format::DayHead;
 use format::Written;
 use writing::write_day;

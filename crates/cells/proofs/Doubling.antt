@@ -10,7 +10,7 @@ use Rattle.ground.specs.Lists.{all, spanOf, other}
 use Rattle.ground.proofs.Cases.{by}
 use Rattle.ground.proofs.Spans.{all-span, spanned-all}
 use Rattle.page.specs.Filled.{Filled}
-use Rattle.page.specs.Lines.{texts}
+use Rattle.page.specs.Texts.{texts}
 use Rattle.page.proofs.Filling.{filled-as}
 use Rattle.page.proofs.Listed.{Counted}
 use Rattle.cells.specs.Cells.{twice, doubled, quoted, cellText}

@@ -1,14 +1,14 @@
--- The entries that read: the file's own refusal, or what is read of an accepted file. Assumes nothing.
+-- The entries that read, where the file is refused. Assumes nothing.
 use Prim.Native.Nat.{ℕ}
 use mathlib.Core.Path.{_≡_, sym, ap, _∙_}
-use mathlib.Core.List.{List, [], _∷_}
-use Rattle.format.specs.Answers.{accepted, refusedAs, checkedAs}
-use Rattle.format.specs.File.{checkOf, IsAccepted}
+use mathlib.Core.List.{List}
+use Rattle.format.specs.Answers.{refusedAs, checkedAs}
+use Rattle.format.specs.File.{checkOf}
 use Rattle.format.specs.Day.{Five, outcome, readOf}
 use Rattle.format.specs.Total.{totalOf}
 use Rattle.format.specs.declared.Refusal.{Refusal}
 use Rattle.format.specs.declared.Checked.{Checked}
-use Rattle.format.specs.declared.Checked.the-variants.{Accepted, Refused}
+use Rattle.format.specs.declared.Checked.the-variants.{Refused}
 
 -- c is what the check answers
 module _ (file : List ℕ) (c : Checked) (ec : checkedAs c ≡ checkOf file) where
@@ -23,10 +23,3 @@ module _ (file : List ℕ) (c : Checked) (ec : checkedAs c ≡ checkOf file) whe
     pub total-refused : (channel : ℕ) → refusedAs x ≡ totalOf file channel
     unfolding totalOf
     total-refused channel = rw refused-is
-
-  module _ (v n d : ℕ) (h : c ≡ Accepted v n d) where
-    accepted-is : checkOf file ≡ accepted (v ∷ n ∷ d ∷ [])
-    accepted-is = sym ec ∙ ap checkedAs h
-
-    pub is-accepted : IsAccepted file
-    is-accepted = (v ∷ n ∷ d ∷ [], accepted-is)

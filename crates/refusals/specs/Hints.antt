@@ -8,7 +8,7 @@ use Rattle.ground.specs.Digits.{dec}
 use Rattle.ground.specs.Text.{bytes}
 use Rattle.format.specs.Numbers.{behind}
 use Rattle.format.specs.Units.{units, unitName, decimalsOf}
-use Rattle.page.specs.Lines.{texts}
+use Rattle.page.specs.Texts.{texts}
 use Rattle.phrase.specs.Phrases.{countedText}
 
 -- what parts a unit's name from the one before it

@@ -1,6 +1,6 @@
 // The settled cases of document 01, and of document 02's requests, that are not proved as rows of a statement: each is run, and its file 'stdout' has
 // what the documents say of it.
-use answers::answers;
+use answer_lines::answers;
 use calls::files;
 use format::DayHead;
 use format::Written;

@@ -1,5 +1,6 @@
 -- `reading::read_day::read_day` meets its contract. Assumes nothing.
-use Rattle.reading.proofs.Entries.{read-refused, is-accepted}
+use Rattle.checking.proofs.Answered.{is-accepted}
+use Rattle.reading.proofs.Entries.{read-refused}
 use borrow.Author.Needs.{needs}
 use Rattle.reading.proofs.read_day.read_day.Statement.{statement}
 use Rattle.reading.proofs.read_day.read_day.Tie as tie

@@ -1,5 +1,6 @@
 -- `reading::total::total` meets its contract. Assumes nothing.
-use Rattle.reading.proofs.Entries.{total-refused, is-accepted}
+use Rattle.checking.proofs.Answered.{is-accepted}
+use Rattle.reading.proofs.Entries.{total-refused}
 use borrow.Author.Needs.{needs}
 use Rattle.reading.proofs.total.total.Statement.{statement}
 use Rattle.reading.proofs.total.total.Tie as tie
