@@ -1,0 +1,4 @@
+mod Bounds
+mod Chaining
+mod Drawing
+mod Gathering

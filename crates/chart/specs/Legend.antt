@@ -1,0 +1,37 @@
+-- The legend below the plot: what each colour means, and how many intervals have it.
+use Prim.Native.Nat.{ℕ, _+_}
+use mathlib.Core.Bool.{cond}
+use mathlib.Core.List.{List, _++_}
+use lib.ListN.{take}
+use lib.Dec.{eqb}
+use Rattle.ground.specs.Digits.{dec}
+use Rattle.ground.specs.Text.{bytes}
+use Rattle.format.specs.Quality.{flagA, flagE, flagF, flagN, flagS}
+use Rattle.words.specs.Qualities.{qualityName}
+use Rattle.chart.specs.Gathered.{gathered}
+use Rattle.chart.specs.Parts.{colourText, bandText}
+
+-- one more than k where x is the flag
+unfoldable pub counted : ℕ → ℕ → ℕ → ℕ
+counted flag k x = cond (eqb x flag) (k + 1) k
+
+-- how many of the first n are the flag
+unfoldable pub countOf : List ℕ → ℕ → ℕ → ℕ
+countOf flags n flag = gathered (counted flag) 0 (take n flags)
+
+-- a square as the bars of the quality are, and hatched as its columns are
+unfoldable pub squareText : ℕ → List ℕ
+squareText flag = bytes "<rect width='14' height='14'" ++ colourText flag ++ bytes "<rect width='14' height='14'" ++ bandText flag
+
+unfoldable pub namedText : ℕ → ℕ → List ℕ
+namedText flag count = bytes "<text x='21' y='11.5'>" ++ qualityName flag ++ bytes ": " ++ dec count ++ bytes "</text></g>\n"
+
+-- the entry of a quality that so many intervals have, at x
+unfoldable pub entryText : ℕ → ℕ → ℕ → List ℕ
+entryText x flag count = bytes "<g transform='translate(" ++ dec x ++ bytes " 42)'>" ++ squareText flag ++ namedText flag count
+
+-- far enough apart for counts of three digits
+unfoldable pub legendText : List ℕ → ℕ → List ℕ
+legendText flags n =
+    entryText 0 flagA (countOf flags n flagA) ++ entryText 161 flagE (countOf flags n flagE) ++ entryText 342 flagF (countOf flags n flagF)
+    ++ entryText 563 flagS (countOf flags n flagS) ++ entryText 754 flagN (countOf flags n flagN)

@@ -1,0 +1,34 @@
+-- What the parts of the picture are made of. Lengths in the picture are in millionths of its unit, as values are, and are written as values are.
+use Prim.Native.Nat.{ℕ, _/_}
+use mathlib.Core.Bool.{cond}
+use mathlib.Core.List.{List, _++_}
+use lib.Dec.{eqb}
+use Rattle.ground.specs.Text.{bytes}
+use Rattle.format.specs.Block.{valueText}
+use Rattle.format.specs.Quality.{flagA, flagE, flagF, flagN, flagS}
+
+-- one of n equal shares, nothing of none
+unfoldable pub shareOf : ℕ → ℕ → ℕ
+shareOf whole n = cond (eqb n 0) 0 (whole / n)
+
+-- a value and its unit
+unfoldable pub amountText : ℕ → List ℕ → List ℕ
+amountText v unit = valueText v ++ bytes " " ++ unit
+
+-- a length as an attribute, behind its name
+unfoldable pub attributeText : List ℕ → ℕ → List ℕ
+attributeText name v = name ++ valueText v ++ bytes "'"
+
+-- the colour of a quality, and the end of its rectangle. From dark to light: final substituted stands beside actual, and estimated is lightest, so that they
+-- are told apart without colour too.
+unfoldable pub colourText : ℕ → List ℕ
+colourText flag =
+    cond (eqb flag flagA) (bytes " fill='#0b4f8a'/>")
+    (cond (eqb flag flagE) (bytes " fill='#f2b632'/>")
+    (cond (eqb flag flagF) (bytes " fill='#c4500c'/>")
+    (cond (eqb flag flagS) (bytes " fill='#35a79c'/>")
+    (bytes " fill='#767676'/>"))))
+
+-- what fills the whole height at an interval: a hatch where there is no data, else nothing
+unfoldable pub bandText : ℕ → List ℕ
+bandText flag = cond (eqb flag flagN) (bytes " fill='url(#null)'/>") (bytes " fill='none'/>")

@@ -1,0 +1,139 @@
+// The bar of an interval.
+use super::axis::height;
+use super::parts::amount;
+use super::parts::attribute;
+use super::parts::band;
+use super::parts::colour;
+use super::parts::share;
+use page::texts::put;
+use phrase::times::clock;
+use words::qualities::name;
+ghost use mathlib.Core.Path.{_≡_};
+ghost use Prim.Native.Nat.{_<_};
+ghost use Rattle.page.specs.Filled.{Filled};
+ghost use Rattle.chart.specs.Bars.{minutesText, spanText, hintText, rectText, xOf, columnText, pillarText, intervalText, barText};
+
+// The plot's width and height, and what all bars are wide together, in millionths.
+const WIDTH: u64 = 864000000;
+
+const HEIGHT: u64 = 300000000;
+
+const BARS: u64 = 768000000;
+
+const MINUTES: u64 = 1440;
+
+// ---- what is shown where one points at the bar
+
+fn minutes(page: &mut [u8], at: usize, m: u64) -> usize
+    ensures { λ r. ⌜ Filled (now (page .entry)) at (minutesText m) r (now (page .exit)) ⌝ }
+{
+    clock(page, at, m / 60, m % 60)
+}
+
+fn span(page: &mut [u8], at: usize, i: u64, n: usize) -> usize
+    requires { ⌜ i < 288 ⌝ }
+    ensures { λ r. ⌜ Filled (now (page .entry)) at (spanText i n) r (now (page .exit)) ⌝ }
+{
+    let p = minutes(page, at, share(i * MINUTES, n));
+    let q = put(page, p, b" to ");
+    let r = minutes(page, q, share((i + 1) * MINUTES, n));
+    put(page, r, b": ")
+}
+
+fn hint(
+    page: &mut [u8],
+    at: usize,
+    i: u64,
+    n: usize,
+    value: u64,
+    flag: u8,
+    unit: &[u8],
+) -> usize
+    requires { ⌜ i < 288 ⌝ }
+    ensures { λ r. ⌜ Filled (now (page .entry)) at (hintText i n value flag (now (unit .entry))) r (now (page .exit)) ⌝ }
+{
+    let p = span(page, at, i, n);
+    let q = amount(page, p, value, unit);
+    let r = put(page, q, b", ");
+    name(page, r, flag)
+}
+
+// ---- its rectangles
+
+// On the base line, up to its colour.
+fn rect(page: &mut [u8], at: usize, x: u64, width: u64, height: u64) -> usize
+    ensures { λ r. ⌜ Filled (now (page .entry)) at (rectText x width height) r (now (page .exit)) ⌝ }
+{
+    let p = attribute(page, at, b"<rect x='", x);
+    let q = attribute(page, p, b" y='-", height);
+    let r = attribute(page, q, b" width='", width);
+    attribute(page, r, b" height='", height)
+}
+
+fn x_of(i: u64, n: usize) -> u64
+    requires { ⌜ i < 288 ⌝ }
+    ensures { λ r. ⌜ r ≡ xOf i n ⌝ }
+{
+    share(i * WIDTH, n)
+}
+
+fn column(page: &mut [u8], at: usize, i: u64, n: usize, flag: u8) -> usize
+    requires { ⌜ i < 288 ⌝ }
+    ensures { λ r. ⌜ Filled (now (page .entry)) at (columnText i n flag) r (now (page .exit)) ⌝ }
+{
+    let p = rect(page, at, x_of(i, n), share(WIDTH, n), HEIGHT);
+    band(page, p, flag)
+}
+
+fn pillar(
+    page: &mut [u8],
+    at: usize,
+    i: u64,
+    n: usize,
+    value: u64,
+    flag: u8,
+    most: u64,
+) -> usize
+    requires { ⌜ i < 288 ⌝ }
+    ensures { λ r. ⌜ Filled (now (page .entry)) at (pillarText i n value flag most) r (now (page .exit)) ⌝ }
+{
+    let p = rect(page, at, x_of(i, n), share(BARS, n), height(most, value));
+    colour(page, p, flag)
+}
+
+fn interval(
+    page: &mut [u8],
+    at: usize,
+    i: u64,
+    n: usize,
+    value: u64,
+    flag: u8,
+    most: u64,
+    unit: &[u8],
+) -> usize
+    requires { ⌜ i < 288 ⌝ }
+    ensures { λ r. ⌜ Filled (now (page .entry)) at (intervalText i n value flag most (now (unit .entry))) r (now (page .exit)) ⌝ }
+{
+    let p = put(page, at, b"<g><title>");
+    let q = hint(page, p, i, n, value, flag, unit);
+    let r = put(page, q, b"</title>");
+    let s = column(page, r, i, n, flag);
+    let t = pillar(page, s, i, n, value, flag, most);
+    put(page, t, b"</g>\n")
+}
+
+// Interval i from 0, of n in a day with this largest value. No day has more than 288.
+pub fn bar(
+    page: &mut [u8],
+    at: usize,
+    i: usize,
+    n: usize,
+    value: u64,
+    flag: u8,
+    most: u64,
+    unit: &[u8],
+) -> usize
+    ensures { λ r. ⌜ Filled (now (page .entry)) at (barText i n value flag most (now (unit .entry))) r (now (page .exit)) ⌝ }
+{
+    interval(page, at, i as u64 % 288, n, value, flag, most, unit)
+}
