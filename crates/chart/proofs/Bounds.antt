@@ -2,12 +2,12 @@
 use Prim.Native.Nat.{ℕ, zero, suc, _+_, _-_, _*_, _/_, _≤_, _<_}
 use mathlib.Core.Path.{_≡_, refl, sym, ap, _∙_}
 use mathlib.Core.Bool.{cond}
-use native.Mathlib.Nat.{div-mul-le-self, lt-div-mul-add, div-le-of-le-mul, mul-le-mul-right}
+use native.Mathlib.Nat.{div-mul-le-self, lt-div-mul-add, div-le-of-le-mul, div-le-self, mul-le-mul-right}
 use native.Mathlib.Omega.{arith}
 use borrow.Author.Tests.{le-leb, lt-leb, lt-ltb, le-ltb, eq-eqb, ne-eqb}
 use lib.Dec.{leb, ltb, eqb}
 use Rattle.ground.proofs.Cases.{split, same-or}
-use Rattle.chart.specs.Axis.{reachOf, stepIn, stepFrom, stepFor, stepsFor, topFor, heightOn}
+use Rattle.chart.specs.Axis.{reachOf, stepIn, stepFrom, stepFor, stepsFor, topFor, heightOn, heightOf}
 
 -- from 1 up to a most
 pub record Within (most x : ℕ) : Type 0 where
@@ -20,9 +20,9 @@ reach-within most =
     same-or most 0
     (λ e. rw (eq-eqb most 0 e) (record { low = omega arith; high = omega arith }))
     (λ e.
-    split 10000000000000 most
-    (λ h. rw (ne-eqb most 0 e, le-ltb most 10000000000000 h) (record { low = omega arith; high = omega arith }))
-    (λ h. rw (ne-eqb most 0 e, lt-ltb most 10000000000000 h) (record { low = omega (arith, e); high = omega arith })))
+    split most 9999999999999
+    (λ h. rw (ne-eqb most 0 e, le-leb most 9999999999999 h) (record { low = omega (arith, e); high = omega arith }))
+    (λ h. rw (ne-eqb most 0 e, lt-leb most 9999999999999 h) (record { low = omega arith; high = omega arith })))
 
 in-within : (ten reach : ℕ) → Within 4000000000000 ten → Within 20000000000000 (stepIn ten reach)
 unfolding stepIn
@@ -53,7 +53,6 @@ unfolding topFor stepsFor
 top-within most =
     let r = reach-within most in
     let s = step-within most in
-    let a = reachOf most + stepFor most - 1 in
     record {
       low = omega (arith, r .low, s .low, lt-div-mul-add {a = reachOf most + stepFor most - 1} {b = stepFor most} (omega (arith, s .low)));
       high = omega (arith, r .high, s .high, div-mul-le-self (reachOf most + stepFor most - 1) (stepFor most));
@@ -78,6 +77,34 @@ module _ (v top l : ℕ) (e : l ≡ cond (ltb v top) v top) where
 
   pub height-small : l * 30000 / top ≤ 30000
   height-small = div-le-of-le-mul top {m = l * 30000} {n = 30000} (omega (arith, lower-small))
+
+pub steps-small : (most : ℕ) → stepsFor most ≤ 100000000000000
+unfolding stepsFor
+steps-small most =
+    omega (arith, reach-within most .high, step-within most .high, div-le-self (reachOf most + stepFor most - 1) (stepFor most))
+
+-- ---- what the code works out is what is meant
+
+module _ (most x s : ℕ) (e : x ≡ reachOf most) where
+  pub step-is : (r : ℕ) → r ≡ stepFrom 13 1 x → r ≡ stepFor most
+  unfolding stepFor
+  step-is r f = rw (← e) f
+
+  pub steps-is : s ≡ stepFor most → (x + s - 1) / s ≡ stepsFor most
+  unfolding stepsFor
+  steps-is f = rw (← e, ← f)
+
+pub top-is : (most k s : ℕ) → k ≡ stepsFor most → s ≡ stepFor most → k * s ≡ topFor most
+unfolding topFor
+top-is most k s e f = rw (← e, ← f)
+
+pub on-is : (v top l : ℕ) → l ≡ cond (ltb v top) v top → l * 30000 / top * 10000 ≡ heightOn top v
+unfolding heightOn
+on-is v top l e = rw (← e)
+
+pub height-is : (most v t r : ℕ) → t ≡ topFor most → r ≡ heightOn t v → r ≡ heightOf most v
+unfolding heightOf
+height-is most v t r e f = rw (← e) f
 
 -- ---- the step, sought with one power of ten a turn
 

@@ -16,7 +16,7 @@ mostOf values n = gathered larger 0 (take n values)
 
 -- what the axis has to reach: the largest value, 1 unit where it is 0, and never more than 9999999.999999, the largest that a file may hold
 unfoldable pub reachOf : ℕ → ℕ
-reachOf most = cond (eqb most 0) 1000000 (cond (ltb most 10000000000000) most 9999999999999)
+reachOf most = cond (eqb most 0) 1000000 (cond (leb most 9999999999999) most 9999999999999)
 
 -- the smallest of 1, 2 and 5 times `ten` of which 5 reach, if any does
 unfoldable pub stepIn : ℕ → ℕ → ℕ

@@ -5,7 +5,7 @@ use Rattle.ground.specs.Text.{bytes}
 use Rattle.words.specs.Qualities.{qualityName}
 use Rattle.phrase.specs.Phrases.{clockText}
 use Rattle.chart.specs.Axis.{heightOf}
-use Rattle.chart.specs.Parts.{shareOf, amountText, attributeText, colourText, bandText}
+use Rattle.chart.specs.Parts.{shareOf, amountText, valueIn, colourText, bandText}
 
 -- so many minutes as a time
 unfoldable pub minutesText : ℕ → List ℕ
@@ -18,6 +18,13 @@ spanText i n = minutesText (shareOf (i * 1440) n) ++ bytes " to " ++ minutesText
 -- what is shown where one points at the bar: the interval's times, its value and unit, and its quality
 unfoldable pub hintText : ℕ → ℕ → ℕ → ℕ → List ℕ → List ℕ
 hintText i n value flag unit = spanText i n ++ amountText value unit ++ bytes ", " ++ qualityName flag
+
+unfoldable pub titleText : ℕ → ℕ → ℕ → ℕ → List ℕ → List ℕ
+titleText i n value flag unit = bytes "<title>" ++ hintText i n value flag unit ++ bytes "</title>"
+
+-- a length as an attribute, behind its name
+unfoldable pub attributeText : List ℕ → ℕ → List ℕ
+attributeText name v = valueIn name v (bytes "'")
 
 -- a rectangle on the base line, up to its colour
 unfoldable pub rectText : ℕ → ℕ → ℕ → List ℕ
@@ -36,10 +43,13 @@ columnText i n flag = rectText (xOf i n) (shareOf 864000000 n) 300000000 ++ band
 unfoldable pub pillarText : ℕ → ℕ → ℕ → ℕ → ℕ → List ℕ
 pillarText i n value flag most = rectText (xOf i n) (shareOf 768000000 n) (heightOf most value) ++ colourText flag
 
+unfoldable pub shapesText : ℕ → ℕ → ℕ → ℕ → ℕ → List ℕ
+shapesText i n value flag most = columnText i n flag ++ pillarText i n value flag most
+
 -- interval i below 288
 unfoldable pub intervalText : ℕ → ℕ → ℕ → ℕ → ℕ → List ℕ → List ℕ
 intervalText i n value flag most unit =
-    bytes "<g><title>" ++ hintText i n value flag unit ++ bytes "</title>" ++ columnText i n flag ++ pillarText i n value flag most ++ bytes "</g>\n"
+    bytes "<g>" ++ titleText i n value flag unit ++ shapesText i n value flag most ++ bytes "</g>\n"
 
 -- no day has more than 288 intervals, so the remainder is i itself
 unfoldable pub barText : ℕ → ℕ → ℕ → ℕ → ℕ → List ℕ → List ℕ

@@ -1,13 +1,11 @@
 -- What stands around the bars: titles, axes and grid. The picture is 960 by 480, the plot 864 by 300 with its origin at 76, 400, where the axes meet; y goes down.
 use Prim.Native.Nat.{ℕ, _+_, _*_}
-use mathlib.Core.List.{List, _++_}
-use Rattle.ground.specs.Digits.{dec}
+use mathlib.Core.List.{List, [], _++_}
 use Rattle.ground.specs.Text.{bytes}
-use Rattle.format.specs.Block.{valueText}
 use Rattle.page.specs.Lines.{texts}
 use Rattle.phrase.specs.Phrases.{dateText, clockText}
 use Rattle.chart.specs.Axis.{stepFor, stepsFor, heightOf}
-use Rattle.chart.specs.Parts.{shareOf, amountText}
+use Rattle.chart.specs.Parts.{shareOf, textIn, numberIn, valueIn, amountText}
 
 -- the picture's size, its letters, the hatch of null data, and white behind it all
 abbrev pub opening : List ℕ
@@ -19,7 +17,7 @@ opening =
 
 -- which channel and day it is
 unfoldable pub dayText : List ℕ → List ℕ → ℕ → List ℕ
-dayText nmi suffix date = bytes "NMI " ++ nmi ++ bytes " &#183; suffix " ++ suffix ++ bytes " &#183; " ++ dateText date
+dayText nmi suffix date = textIn (bytes "NMI ") nmi (bytes " &#183; suffix ") ++ suffix ++ bytes " &#183; " ++ dateText date
 
 unfoldable pub titleText : List ℕ → List ℕ → ℕ → List ℕ
 titleText nmi suffix date = bytes "<g font-size='18' font-weight='600' fill='#111'><text x='76' y='36'>" ++ dayText nmi suffix date ++ bytes "</text>"
@@ -31,8 +29,8 @@ sumText sum unit = bytes "<text x='940' y='36' text-anchor='end'>" ++ amountText
 -- the line below: how many intervals there are, and their length in minutes
 unfoldable pub lengthsText : ℕ → List ℕ
 lengthsText n =
-    bytes "<text x='76' y='56'>" ++ dec n ++ bytes " intervals of " ++ dec (shareOf 1440 n)
-    ++ bytes " minutes</text><text x='940' y='56' text-anchor='end'>sum of the day</text>\n"
+    numberIn (bytes "<text x='76' y='56'>") n (bytes " intervals of ")
+    ++ numberIn [] (shareOf 1440 n) (bytes " minutes</text><text x='940' y='56' text-anchor='end'>sum of the day</text>\n")
 
 unfoldable pub headText : List ℕ → List ℕ → List ℕ → ℕ → ℕ → ℕ → List ℕ
 headText nmi suffix unit date n sum = opening ++ titleText nmi suffix date ++ sumText sum unit ++ lengthsText n
@@ -40,7 +38,7 @@ headText nmi suffix unit date n sum = opening ++ titleText nmi suffix date ++ su
 -- the line and the label of each third hour
 unfoldable pub hourText : ℕ → List ℕ
 hourText k =
-    bytes "<g transform='translate(" ++ dec (k * 108) ++ bytes " 0)'><path d='M0 4v-304' stroke='#e4e4e4'/><text y='19'>" ++ clockText (k * 3) 0
+    numberIn (bytes "<g transform='translate(") (k * 108) (bytes " 0)'><path d='M0 4v-304' stroke='#e4e4e4'/><text y='19'>") ++ clockText (k * 3) 0
     ++ bytes "</text></g>\n"
 
 abbrev pub hoursText : List ℕ
@@ -49,8 +47,8 @@ hoursText = texts hourText 9
 -- the line and the label of a value, in a day with this largest value
 unfoldable pub lineText : ℕ → ℕ → List ℕ
 lineText most v =
-    bytes "<g transform='translate(0 -" ++ valueText (heightOf most v) ++ bytes ")'><path d='M-4 0h868' stroke='#d4d4d4'/><text x='-8' y='4'>" ++ valueText v
-    ++ bytes "</text></g>\n"
+    valueIn (bytes "<g transform='translate(0 -") (heightOf most v) (bytes ")'><path d='M-4 0h868' stroke='#d4d4d4'/><text x='-8' y='4'>")
+    ++ valueIn [] v (bytes "</text></g>\n")
 
 -- step k of the axis, from 0
 unfoldable pub stepText : ℕ → ℕ → List ℕ
@@ -60,11 +58,19 @@ stepText most k = lineText most (k * stepFor most)
 unfoldable pub linesText : ℕ → List ℕ
 linesText most = texts (stepText most) (stepsFor most + 1)
 
--- the grid, with the unit above the axis of values; the plot stays open for the bars
+-- the plot's origin, and the axis of times
+unfoldable pub timesText : List ℕ
+timesText = bytes "<g transform='translate(76 400)' pointer-events='all'>\n<g font-size='11' text-anchor='middle'>\n" ++ hoursText
+
+-- the axis of values, with the unit above it
+unfoldable pub valuesText : ℕ → List ℕ → List ℕ
+valuesText most unit =
+    textIn (bytes "</g>\n<g font-size='11' text-anchor='end'>\n<text x='-8' y='-318' font-weight='600'>") unit (bytes "</text>\n") ++ linesText most
+    ++ bytes "</g>\n"
+
+-- both axes; the plot stays open for the bars
 unfoldable pub gridText : ℕ → List ℕ → List ℕ
-gridText most unit =
-    bytes "<g transform='translate(76 400)' pointer-events='all'>\n<g font-size='11' text-anchor='middle'>\n" ++ hoursText
-    ++ bytes "</g>\n<g font-size='11' text-anchor='end'>\n<text x='-8' y='-318' font-weight='600'>" ++ unit ++ bytes "</text>\n" ++ linesText most ++ bytes "</g>\n"
+gridText most unit = timesText ++ valuesText most unit
 
 -- the base line, over the bars, and the ends of the plot and the picture
 abbrev pub ending : List ℕ

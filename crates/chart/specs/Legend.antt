@@ -4,12 +4,11 @@ use mathlib.Core.Bool.{cond}
 use mathlib.Core.List.{List, _++_}
 use lib.ListN.{take}
 use lib.Dec.{eqb}
-use Rattle.ground.specs.Digits.{dec}
 use Rattle.ground.specs.Text.{bytes}
 use Rattle.format.specs.Quality.{flagA, flagE, flagF, flagN, flagS}
 use Rattle.words.specs.Qualities.{qualityName}
 use Rattle.chart.specs.Gathered.{gathered}
-use Rattle.chart.specs.Parts.{colourText, bandText}
+use Rattle.chart.specs.Parts.{numberIn, colourText, bandText}
 
 -- one more than k where x is the flag
 unfoldable pub counted : ℕ → ℕ → ℕ → ℕ
@@ -24,14 +23,17 @@ unfoldable pub squareText : ℕ → List ℕ
 squareText flag = bytes "<rect width='14' height='14'" ++ colourText flag ++ bytes "<rect width='14' height='14'" ++ bandText flag
 
 unfoldable pub namedText : ℕ → ℕ → List ℕ
-namedText flag count = bytes "<text x='21' y='11.5'>" ++ qualityName flag ++ bytes ": " ++ dec count ++ bytes "</text></g>\n"
+namedText flag count = bytes "<text x='21' y='11.5'>" ++ qualityName flag ++ numberIn (bytes ": ") count (bytes "</text></g>\n")
 
 -- the entry of a quality that so many intervals have, at x
 unfoldable pub entryText : ℕ → ℕ → ℕ → List ℕ
-entryText x flag count = bytes "<g transform='translate(" ++ dec x ++ bytes " 42)'>" ++ squareText flag ++ namedText flag count
+entryText x flag count = numberIn (bytes "<g transform='translate(") x (bytes " 42)'>") ++ squareText flag ++ namedText flag count
+
+-- the entry of a quality, of the first n flags
+unfoldable pub entryOf : List ℕ → ℕ → ℕ → ℕ → List ℕ
+entryOf flags n x flag = entryText x flag (countOf flags n flag)
 
 -- far enough apart for counts of three digits
 unfoldable pub legendText : List ℕ → ℕ → List ℕ
 legendText flags n =
-    entryText 0 flagA (countOf flags n flagA) ++ entryText 161 flagE (countOf flags n flagE) ++ entryText 342 flagF (countOf flags n flagF)
-    ++ entryText 563 flagS (countOf flags n flagS) ++ entryText 754 flagN (countOf flags n flagN)
+    entryOf flags n 0 flagA ++ entryOf flags n 161 flagE ++ entryOf flags n 342 flagF ++ entryOf flags n 563 flagS ++ entryOf flags n 754 flagN

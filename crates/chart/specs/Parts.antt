@@ -3,6 +3,7 @@ use Prim.Native.Nat.{ℕ, _/_}
 use mathlib.Core.Bool.{cond}
 use mathlib.Core.List.{List, _++_}
 use lib.Dec.{eqb}
+use Rattle.ground.specs.Digits.{dec}
 use Rattle.ground.specs.Text.{bytes}
 use Rattle.format.specs.Block.{valueText}
 use Rattle.format.specs.Quality.{flagA, flagE, flagF, flagN, flagS}
@@ -11,13 +12,19 @@ use Rattle.format.specs.Quality.{flagA, flagE, flagF, flagN, flagS}
 unfoldable pub shareOf : ℕ → ℕ → ℕ
 shareOf whole n = cond (eqb n 0) 0 (whole / n)
 
+-- between two texts a third, a number, or a value or a length
+unfoldable pub textIn : List ℕ → List ℕ → List ℕ → List ℕ
+textIn before t after = before ++ t ++ after
+
+unfoldable pub numberIn : List ℕ → ℕ → List ℕ → List ℕ
+numberIn before n after = before ++ dec n ++ after
+
+unfoldable pub valueIn : List ℕ → ℕ → List ℕ → List ℕ
+valueIn before v after = before ++ valueText v ++ after
+
 -- a value and its unit
 unfoldable pub amountText : ℕ → List ℕ → List ℕ
 amountText v unit = valueText v ++ bytes " " ++ unit
-
--- a length as an attribute, behind its name
-unfoldable pub attributeText : List ℕ → ℕ → List ℕ
-attributeText name v = name ++ valueText v ++ bytes "'"
 
 -- the colour of a quality, and the end of its rectangle. From dark to light: final substituted stands beside actual, and estimated is lightest, so that they
 -- are told apart without colour too.

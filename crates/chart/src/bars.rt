@@ -1,17 +1,17 @@
 // The bar of an interval.
 use super::axis::height;
 use super::parts::amount;
-use super::parts::attribute;
 use super::parts::band;
 use super::parts::colour;
 use super::parts::share;
+use super::parts::value_in;
 use page::texts::put;
 use phrase::times::clock;
 use words::qualities::name;
 ghost use mathlib.Core.Path.{_≡_};
 ghost use Prim.Native.Nat.{_<_};
 ghost use Rattle.page.specs.Filled.{Filled};
-ghost use Rattle.chart.specs.Bars.{minutesText, spanText, hintText, rectText, xOf, columnText, pillarText, intervalText, barText};
+ghost use Rattle.chart.specs.Bars.{minutesText, spanText, hintText, titleText, attributeText, rectText, xOf, columnText, pillarText, shapesText, intervalText, barText};
 
 // The plot's width and height, and what all bars are wide together, in millionths.
 const WIDTH: u64 = 864000000;
@@ -58,7 +58,30 @@ fn hint(
     name(page, r, flag)
 }
 
+fn title(
+    page: &mut [u8],
+    at: usize,
+    i: u64,
+    n: usize,
+    value: u64,
+    flag: u8,
+    unit: &[u8],
+) -> usize
+    requires { ⌜ i < 288 ⌝ }
+    ensures { λ r. ⌜ Filled (now (page .entry)) at (titleText i n value flag (now (unit .entry))) r (now (page .exit)) ⌝ }
+{
+    let p = put(page, at, b"<title>");
+    let q = hint(page, p, i, n, value, flag, unit);
+    put(page, q, b"</title>")
+}
+
 // ---- its rectangles
+
+fn attribute(page: &mut [u8], at: usize, what: &[u8], v: u64) -> usize
+    ensures { λ r. ⌜ Filled (now (page .entry)) at (attributeText (now (what .entry)) v) r (now (page .exit)) ⌝ }
+{
+    value_in(page, at, what, v, b"'")
+}
 
 // On the base line, up to its colour.
 fn rect(page: &mut [u8], at: usize, x: u64, width: u64, height: u64) -> usize
@@ -101,6 +124,22 @@ fn pillar(
     colour(page, p, flag)
 }
 
+fn shapes(
+    page: &mut [u8],
+    at: usize,
+    i: u64,
+    n: usize,
+    value: u64,
+    flag: u8,
+    most: u64,
+) -> usize
+    requires { ⌜ i < 288 ⌝ }
+    ensures { λ r. ⌜ Filled (now (page .entry)) at (shapesText i n value flag most) r (now (page .exit)) ⌝ }
+{
+    let p = column(page, at, i, n, flag);
+    pillar(page, p, i, n, value, flag, most)
+}
+
 fn interval(
     page: &mut [u8],
     at: usize,
@@ -114,12 +153,10 @@ fn interval(
     requires { ⌜ i < 288 ⌝ }
     ensures { λ r. ⌜ Filled (now (page .entry)) at (intervalText i n value flag most (now (unit .entry))) r (now (page .exit)) ⌝ }
 {
-    let p = put(page, at, b"<g><title>");
-    let q = hint(page, p, i, n, value, flag, unit);
-    let r = put(page, q, b"</title>");
-    let s = column(page, r, i, n, flag);
-    let t = pillar(page, s, i, n, value, flag, most);
-    put(page, t, b"</g>\n")
+    let p = put(page, at, b"<g>");
+    let q = title(page, p, i, n, value, flag, unit);
+    let r = shapes(page, q, i, n, value, flag, most);
+    put(page, r, b"</g>\n")
 }
 
 // Interval i from 0, of n in a day with this largest value. No day has more than 288.

@@ -3,16 +3,17 @@ use super::axis::height;
 use super::axis::step_for;
 use super::axis::steps_for;
 use super::parts::amount;
+use super::parts::number_in;
 use super::parts::share;
-use page::texts::number;
+use super::parts::text_in;
+use super::parts::value_in;
 use page::texts::put;
-use page::texts::value;
 use phrase::times::clock;
 use phrase::times::date;
 ghost use Prim.Native.Nat.{_<_, _≤_};
 ghost use Rattle.page.specs.Filled.{Filled};
 ghost use Rattle.chart.specs.Axis.{stepsFor};
-ghost use Rattle.chart.specs.Frame.{opening as Frame·opening, dayText, titleText, sumText, lengthsText, headText, hourText, hoursText, lineText, stepText, linesText, gridText, ending};
+ghost use Rattle.chart.specs.Frame.{opening as Frame·opening, dayText, titleText, sumText, lengthsText, headText, hourText, hoursText, lineText, stepText, linesText, timesText, valuesText, gridText, ending};
 
 // ---- above the plot
 
@@ -32,12 +33,10 @@ fn opening(page: &mut [u8], at: usize) -> usize
 fn day(page: &mut [u8], at: usize, nmi: &[u8], suffix: &[u8], on: u64) -> usize
     ensures { λ r. ⌜ Filled (now (page .entry)) at (dayText (now (nmi .entry)) (now (suffix .entry)) on) r (now (page .exit)) ⌝ }
 {
-    let p = put(page, at, b"NMI ");
-    let q = put(page, p, nmi);
-    let r = put(page, q, b" &#183; suffix ");
-    let s = put(page, r, suffix);
-    let t = put(page, s, b" &#183; ");
-    date(page, t, on)
+    let p = text_in(page, at, b"NMI ", nmi, b" &#183; suffix ");
+    let q = put(page, p, suffix);
+    let r = put(page, q, b" &#183; ");
+    date(page, r, on)
 }
 
 fn title(page: &mut [u8], at: usize, nmi: &[u8], suffix: &[u8], on: u64) -> usize
@@ -63,13 +62,18 @@ fn sum(page: &mut [u8], at: usize, total: u64, unit: &[u8]) -> usize
 fn lengths(page: &mut [u8], at: usize, n: usize) -> usize
     ensures { λ r. ⌜ Filled (now (page .entry)) at (lengthsText n) r (now (page .exit)) ⌝ }
 {
-    let p = put(page, at, b"<text x='76' y='56'>");
-    let q = number(page, p, n as u64);
-    let r = put(page, q, b" intervals of ");
-    let s = number(page, r, share(1440, n));
-    put(
+    let p = number_in(
         page,
-        s,
+        at,
+        b"<text x='76' y='56'>",
+        n as u64,
+        b" intervals of ",
+    );
+    number_in(
+        page,
+        p,
+        b"",
+        share(1440, n),
         b" minutes</text><text x='940' y='56' text-anchor='end'>sum of the day</text>\n",
     )
 }
@@ -99,15 +103,15 @@ fn hour(page: &mut [u8], at: usize, k: u64) -> usize
     requires { ⌜ k < 9 ⌝ }
     ensures { λ r. ⌜ Filled (now (page .entry)) at (hourText k) r (now (page .exit)) ⌝ }
 {
-    let p = put(page, at, b"<g transform='translate(");
-    let q = number(page, p, k * 108);
-    let r = put(
+    let p = number_in(
         page,
-        q,
+        at,
+        b"<g transform='translate(",
+        k * 108,
         b" 0)'><path d='M0 4v-304' stroke='#e4e4e4'/><text y='19'>",
     );
-    let s = clock(page, r, k * 3, 0);
-    put(page, s, b"</text></g>\n")
+    let q = clock(page, p, k * 3, 0);
+    put(page, q, b"</text></g>\n")
 }
 
 // From 00:00 to 24:00.
@@ -126,15 +130,14 @@ fn hours(page: &mut [u8], at: usize) -> usize
 fn line(page: &mut [u8], at: usize, most: u64, v: u64) -> usize
     ensures { λ r. ⌜ Filled (now (page .entry)) at (lineText most v) r (now (page .exit)) ⌝ }
 {
-    let p = put(page, at, b"<g transform='translate(0 -");
-    let q = value(page, p, height(most, v));
-    let r = put(
+    let p = value_in(
         page,
-        q,
+        at,
+        b"<g transform='translate(0 -",
+        height(most, v),
         b")'><path d='M-4 0h868' stroke='#d4d4d4'/><text x='-8' y='4'>",
     );
-    let s = value(page, r, v);
-    put(page, s, b"</text></g>\n")
+    value_in(page, p, b"", v, b"</text></g>\n")
 }
 
 fn step(page: &mut [u8], at: usize, most: u64, k: u64) -> usize
@@ -158,25 +161,37 @@ fn lines(page: &mut [u8], at: usize, most: u64) -> usize
     p
 }
 
-// The grid of a day with this largest value; the plot stays open for the bars.
-pub fn grid(page: &mut [u8], at: usize, most: u64, unit: &[u8]) -> usize
-    ensures { λ r. ⌜ Filled (now (page .entry)) at (gridText most (now (unit .entry))) r (now (page .exit)) ⌝ }
+fn times(page: &mut [u8], at: usize) -> usize
+    ensures { λ r. ⌜ Filled (now (page .entry)) at timesText r (now (page .exit)) ⌝ }
 {
     let p = put(
         page,
         at,
         b"<g transform='translate(76 400)' pointer-events='all'>\n<g font-size='11' text-anchor='middle'>\n",
     );
-    let q = hours(page, p);
-    let r = put(
+    hours(page, p)
+}
+
+fn values(page: &mut [u8], at: usize, most: u64, unit: &[u8]) -> usize
+    ensures { λ r. ⌜ Filled (now (page .entry)) at (valuesText most (now (unit .entry))) r (now (page .exit)) ⌝ }
+{
+    let p = text_in(
         page,
-        q,
+        at,
         b"</g>\n<g font-size='11' text-anchor='end'>\n<text x='-8' y='-318' font-weight='600'>",
+        unit,
+        b"</text>\n",
     );
-    let s = put(page, r, unit);
-    let t = put(page, s, b"</text>\n");
-    let u = lines(page, t, most);
-    put(page, u, b"</g>\n")
+    let q = lines(page, p, most);
+    put(page, q, b"</g>\n")
+}
+
+// The grid of a day with this largest value; the plot stays open for the bars.
+pub fn grid(page: &mut [u8], at: usize, most: u64, unit: &[u8]) -> usize
+    ensures { λ r. ⌜ Filled (now (page .entry)) at (gridText most (now (unit .entry))) r (now (page .exit)) ⌝ }
+{
+    let p = times(page, at);
+    values(page, p, most, unit)
 }
 
 // The picture's end, with the base line over the bars.

@@ -1,13 +1,13 @@
 // The legend: what each colour means, and how many intervals have it.
 use super::parts::band;
 use super::parts::colour;
-use page::texts::number;
+use super::parts::number_in;
 use page::texts::put;
 use words::qualities::name;
 ghost use mathlib.Core.Path.{_≡_};
 ghost use Prim.Native.Nat.{_<_};
 ghost use Rattle.page.specs.Filled.{Filled};
-ghost use Rattle.chart.specs.Legend.{counted as Legend·counted, countOf, squareText, namedText, entryText, legendText};
+ghost use Rattle.chart.specs.Legend.{counted as Legend·counted, countOf, squareText, namedText, entryText, entryOf, legendText};
 
 fn counted(flag: u8, k: usize, x: u8) -> usize
     requires { ⌜ k < 18446744073709551615 ⌝ }
@@ -49,28 +49,31 @@ fn named(page: &mut [u8], at: usize, flag: u8, count: usize) -> usize
 {
     let p = put(page, at, b"<text x='21' y='11.5'>");
     let q = name(page, p, flag);
-    let r = put(page, q, b": ");
-    let s = number(page, r, count as u64);
-    put(page, s, b"</text></g>\n")
+    number_in(page, q, b": ", count as u64, b"</text></g>\n")
 }
 
 fn entry(page: &mut [u8], at: usize, x: u64, flag: u8, count: usize) -> usize
     ensures { λ r. ⌜ Filled (now (page .entry)) at (entryText x flag count) r (now (page .exit)) ⌝ }
 {
-    let p = put(page, at, b"<g transform='translate(");
-    let q = number(page, p, x);
-    let r = put(page, q, b" 42)'>");
-    let s = square(page, r, flag);
-    named(page, s, flag, count)
+    let p = number_in(page, at, b"<g transform='translate(", x, b" 42)'>");
+    let q = square(page, p, flag);
+    named(page, q, flag, count)
+}
+
+fn entry_of(page: &mut [u8], at: usize, flags: &[u8], n: usize, x: u64, flag: u8) -> usize
+    ensures { λ r. ⌜ Filled (now (page .entry)) at (entryOf (now (flags .entry)) n x flag) r (now (page .exit)) ⌝ }
+{
+    let count = count_of(flags, n, flag);
+    entry(page, at, x, flag, count)
 }
 
 // Of the first n flags.
 pub fn legend(page: &mut [u8], at: usize, flags: &[u8], n: usize) -> usize
     ensures { λ r. ⌜ Filled (now (page .entry)) at (legendText (now (flags .entry)) n) r (now (page .exit)) ⌝ }
 {
-    let p = entry(page, at, 0, b'A', count_of(flags, n, b'A'));
-    let q = entry(page, p, 161, b'E', count_of(flags, n, b'E'));
-    let r = entry(page, q, 342, b'F', count_of(flags, n, b'F'));
-    let s = entry(page, r, 563, b'S', count_of(flags, n, b'S'));
-    entry(page, s, 754, b'N', count_of(flags, n, b'N'))
+    let p = entry_of(page, at, flags, n, 0, b'A');
+    let q = entry_of(page, p, flags, n, 161, b'E');
+    let r = entry_of(page, q, flags, n, 342, b'F');
+    let s = entry_of(page, r, flags, n, 563, b'S');
+    entry_of(page, s, flags, n, 754, b'N')
 }

@@ -1,9 +1,10 @@
 // What the parts of the picture are made of.
+use page::texts::number;
 use page::texts::put;
 use page::texts::value;
 ghost use mathlib.Core.Path.{_≡_};
 ghost use Rattle.page.specs.Filled.{Filled};
-ghost use Rattle.chart.specs.Parts.{shareOf, amountText, attributeText, colourText, bandText};
+ghost use Rattle.chart.specs.Parts.{shareOf, amountText, textIn, numberIn, valueIn, colourText, bandText};
 
 // One of n equal shares, nothing of none.
 pub fn share(whole: u64, n: usize) -> u64
@@ -24,13 +25,30 @@ pub fn amount(page: &mut [u8], at: usize, v: u64, unit: &[u8]) -> usize
     put(page, q, unit)
 }
 
-// A length in millionths as an attribute, behind its name.
-pub fn attribute(page: &mut [u8], at: usize, name: &[u8], v: u64) -> usize
-    ensures { λ r. ⌜ Filled (now (page .entry)) at (attributeText (now (name .entry)) v) r (now (page .exit)) ⌝ }
+// A text between two others.
+pub fn text_in(page: &mut [u8], at: usize, before: &[u8], text: &[u8], after: &[u8]) -> usize
+    ensures { λ r. ⌜ Filled (now (page .entry)) at (textIn (now (before .entry)) (now (text .entry)) (now (after .entry))) r (now (page .exit)) ⌝ }
 {
-    let p = put(page, at, name);
+    let p = put(page, at, before);
+    let q = put(page, p, text);
+    put(page, q, after)
+}
+
+pub fn number_in(page: &mut [u8], at: usize, before: &[u8], n: u64, after: &[u8]) -> usize
+    ensures { λ r. ⌜ Filled (now (page .entry)) at (numberIn (now (before .entry)) n (now (after .entry))) r (now (page .exit)) ⌝ }
+{
+    let p = put(page, at, before);
+    let q = number(page, p, n);
+    put(page, q, after)
+}
+
+// A value, or a length in the picture, which is in millionths too.
+pub fn value_in(page: &mut [u8], at: usize, before: &[u8], v: u64, after: &[u8]) -> usize
+    ensures { λ r. ⌜ Filled (now (page .entry)) at (valueIn (now (before .entry)) v (now (after .entry))) r (now (page .exit)) ⌝ }
+{
+    let p = put(page, at, before);
     let q = value(page, p, v);
-    put(page, q, b"'")
+    put(page, q, after)
 }
 
 // The colour of a quality, and the end of its rectangle.

@@ -4,32 +4,26 @@ use borrow.Author.Needs.{needs}
 use Rattle.chart.proofs.frame.lengths.Statement.{statement}
 use Rattle.chart.proofs.frame.lengths.Tie as tie
 
-slice-aggregate-put : tie.Need-slice-aggregate-put
-slice-aggregate-put c = search needs
+slice-aggregate-number-in : tie.Need-slice-aggregate-number-in
+slice-aggregate-number-in c = search needs
 
-put-requires : tie.Need-put-requires
-put-requires c κs = search needs
+slice-aggregate-number-in-2 : tie.Need-slice-aggregate-number-in-2
+slice-aggregate-number-in-2 c = search needs
 
-number-requires : tie.Need-number-requires
-number-requires c κs = search needs
+number-in-requires : tie.Need-number-in-requires
+number-in-requires c κs = search needs
 
-slice-aggregate-put-2 : tie.Need-slice-aggregate-put-2
-slice-aggregate-put-2 c = search needs
-
-put-requires-2 : tie.Need-put-requires-2
-put-requires-2 c κs = search needs
+slice-aggregate-number-in-3 : tie.Need-slice-aggregate-number-in-3
+slice-aggregate-number-in-3 c = search needs
 
 share-requires : tie.Need-share-requires
 share-requires c κs = search needs
 
-number-requires-2 : tie.Need-number-requires-2
-number-requires-2 c κs = search needs
+slice-aggregate-number-in-4 : tie.Need-slice-aggregate-number-in-4
+slice-aggregate-number-in-4 c = search needs
 
-slice-aggregate-put-3 : tie.Need-slice-aggregate-put-3
-slice-aggregate-put-3 c = search needs
-
-put-requires-3 : tie.Need-put-requires-3
-put-requires-3 c κs = search needs
+number-in-requires-2 : tie.Need-number-in-requires-2
+number-in-requires-2 c κs = search needs
 
 same-length : tie.Need-same-length
 same-length c = search needs
@@ -41,14 +35,12 @@ pub lengths-spec : {M : Type 1} → statement M
 lengths-spec =
     tie.close
     (tie.spec
-    slice-aggregate-put
-    put-requires
-    number-requires
-    slice-aggregate-put-2
-    put-requires-2
+    slice-aggregate-number-in
+    slice-aggregate-number-in-2
+    number-in-requires
+    slice-aggregate-number-in-3
     share-requires
-    number-requires-2
-    slice-aggregate-put-3
-    put-requires-3
+    slice-aggregate-number-in-4
+    number-in-requires-2
     same-length
     returns)

@@ -1,24 +1,18 @@
 -- `chart::legend::entry` meets its contract. Assumes nothing.
 use Rattle.chart.specs.Legend.{entryText}
-use Rattle.chart.proofs.Chaining.{filled-five}
+use Rattle.page.proofs.Filling.{filled-then}
 use borrow.Author.Needs.{needs}
 use Rattle.chart.proofs.legend.entry.Statement.{statement}
 use Rattle.chart.proofs.legend.entry.Tie as tie
 
-slice-aggregate-put : tie.Need-slice-aggregate-put
-slice-aggregate-put c = search needs
+slice-aggregate-number-in : tie.Need-slice-aggregate-number-in
+slice-aggregate-number-in c = search needs
 
-put-requires : tie.Need-put-requires
-put-requires c κs = search needs
+slice-aggregate-number-in-2 : tie.Need-slice-aggregate-number-in-2
+slice-aggregate-number-in-2 c = search needs
 
-number-requires : tie.Need-number-requires
-number-requires c κs = search needs
-
-slice-aggregate-put-2 : tie.Need-slice-aggregate-put-2
-slice-aggregate-put-2 c = search needs
-
-put-requires-2 : tie.Need-put-requires-2
-put-requires-2 c κs = search needs
+number-in-requires : tie.Need-number-in-requires
+number-in-requires c κs = search needs
 
 square-requires : tie.Need-square-requires
 square-requires c κs = search needs
@@ -31,17 +25,15 @@ same-length c = search needs
 
 returns : tie.Need-returns
 unfolding entryText
-returns c = search filled-five
+returns c = search filled-then
 
 pub entry-spec : {M : Type 1} → statement M
 entry-spec =
     tie.close
     (tie.spec
-    slice-aggregate-put
-    put-requires
-    number-requires
-    slice-aggregate-put-2
-    put-requires-2
+    slice-aggregate-number-in
+    slice-aggregate-number-in-2
+    number-in-requires
     square-requires
     named-requires
     same-length

@@ -1,6 +1,6 @@
 -- `chart::parts::colour` meets its contract. Assumes nothing.
 use Rattle.chart.specs.Parts.{colourText}
-use Rattle.words.proofs.Named.{known}
+use Rattle.chart.proofs.Drawing.{colour-known}
 use Rattle.ground.proofs.Tests.{tests}
 use borrow.Author.Needs.{needs}
 use Rattle.chart.proofs.parts.colour.Statement.{statement}
@@ -41,28 +41,28 @@ same-length c = search needs
 
 returns : tie.Need-returns
 unfolding colourText
-returns c = search (known colourText 65)
+returns c = search (colour-known 65)
 
 same-length-2 : tie.Need-same-length-2
 same-length-2 c = search needs
 
 returns-2 : tie.Need-returns-2
 unfolding colourText
-returns-2 c = search (known colourText 69)
+returns-2 c = search (colour-known 69)
 
 same-length-3 : tie.Need-same-length-3
 same-length-3 c = search needs
 
 returns-3 : tie.Need-returns-3
 unfolding colourText
-returns-3 c = search (known colourText 70)
+returns-3 c = search (colour-known 70)
 
 same-length-4 : tie.Need-same-length-4
 same-length-4 c = search needs
 
 returns-4 : tie.Need-returns-4
 unfolding colourText
-returns-4 c = search (known colourText 83)
+returns-4 c = search (colour-known 83)
 
 same-length-5 : tie.Need-same-length-5
 same-length-5 c = search needs

@@ -1,0 +1,46 @@
+-- `chart::frame::line` meets its contract. Assumes nothing.
+use Rattle.chart.proofs.Drawing.{line-put}
+use borrow.Author.Needs.{needs}
+use Rattle.chart.proofs.frame.line.Statement.{statement}
+use Rattle.chart.proofs.frame.line.Tie as tie
+
+slice-aggregate-value-in : tie.Need-slice-aggregate-value-in
+slice-aggregate-value-in c = search needs
+
+height-requires : tie.Need-height-requires
+height-requires c κs = search needs
+
+slice-aggregate-value-in-2 : tie.Need-slice-aggregate-value-in-2
+slice-aggregate-value-in-2 c = search needs
+
+value-in-requires : tie.Need-value-in-requires
+value-in-requires c κs = search needs
+
+slice-aggregate-value-in-3 : tie.Need-slice-aggregate-value-in-3
+slice-aggregate-value-in-3 c = search needs
+
+slice-aggregate-value-in-4 : tie.Need-slice-aggregate-value-in-4
+slice-aggregate-value-in-4 c = search needs
+
+value-in-requires-2 : tie.Need-value-in-requires-2
+value-in-requires-2 c κs = search needs
+
+same-length : tie.Need-same-length
+same-length c = search needs
+
+returns : tie.Need-returns
+returns c = search line-put
+
+pub line-spec : {M : Type 1} → statement M
+line-spec =
+    tie.close
+    (tie.spec
+    slice-aggregate-value-in
+    height-requires
+    slice-aggregate-value-in-2
+    value-in-requires
+    slice-aggregate-value-in-3
+    slice-aggregate-value-in-4
+    value-in-requires-2
+    same-length
+    returns)
