@@ -26,7 +26,7 @@ module _ (f : ℕ → ℕ → ℕ) (list : List ℕ) (n : ℕ) where
   gathering-more m r i h k g e =
       let w : i < length (take n list) = rw (length-take) (omega arith) in
       let d : drop i (take n list) ≡ getD list i 0 ∷ drop (i + 1) (take n list) =
-          drop-cons (take n list) i 0 w ∙ rw (add-one, getD-take n list i 0) in
+      drop-cons (take n list) i 0 w ∙ rw (add-one, getD-take n list i 0) in
       record { same = rw e (sym (ap (gathered f m) d) ∙ g .same) }
 
   gathering-done : (m i : ℕ) → length (take n list) ≤ i → Gathering f list n m i → m ≡ gathered f 0 (take n list)

@@ -33,7 +33,10 @@ entryText x flag count = numberIn (bytes "<g transform='translate(") x (bytes " 
 unfoldable pub entryOf : List ℕ → ℕ → ℕ → ℕ → List ℕ
 entryOf flags n x flag = entryText x flag (countOf flags n flag)
 
--- far enough apart for counts of three digits
+-- actual, estimated and final substituted, far enough apart for counts of three digits
+unfoldable pub firstText : List ℕ → ℕ → List ℕ
+firstText flags n = entryOf flags n 0 flagA ++ entryOf flags n 161 flagE ++ entryOf flags n 342 flagF
+
+-- and behind them substituted and null data
 unfoldable pub legendText : List ℕ → ℕ → List ℕ
-legendText flags n =
-    entryOf flags n 0 flagA ++ entryOf flags n 161 flagE ++ entryOf flags n 342 flagF ++ entryOf flags n 563 flagS ++ entryOf flags n 754 flagN
+legendText flags n = firstText flags n ++ entryOf flags n 563 flagS ++ entryOf flags n 754 flagN

@@ -40,15 +40,7 @@ fn span(page: &mut [u8], at: usize, i: u64, n: usize) -> usize
     put(page, r, b": ")
 }
 
-fn hint(
-    page: &mut [u8],
-    at: usize,
-    i: u64,
-    n: usize,
-    value: u64,
-    flag: u8,
-    unit: &[u8],
-) -> usize
+fn hint(page: &mut [u8], at: usize, i: u64, n: usize, value: u64, flag: u8, unit: &[u8]) -> usize
     requires { ⌜ i < 288 ⌝ }
     ensures { λ r. ⌜ Filled (now (page .entry)) at (hintText i n value flag (now (unit .entry))) r (now (page .exit)) ⌝ }
 {
@@ -58,15 +50,7 @@ fn hint(
     name(page, r, flag)
 }
 
-fn title(
-    page: &mut [u8],
-    at: usize,
-    i: u64,
-    n: usize,
-    value: u64,
-    flag: u8,
-    unit: &[u8],
-) -> usize
+fn title(page: &mut [u8], at: usize, i: u64, n: usize, value: u64, flag: u8, unit: &[u8]) -> usize
     requires { ⌜ i < 288 ⌝ }
     ensures { λ r. ⌜ Filled (now (page .entry)) at (titleText i n value flag (now (unit .entry))) r (now (page .exit)) ⌝ }
 {
@@ -108,15 +92,7 @@ fn column(page: &mut [u8], at: usize, i: u64, n: usize, flag: u8) -> usize
     band(page, p, flag)
 }
 
-fn pillar(
-    page: &mut [u8],
-    at: usize,
-    i: u64,
-    n: usize,
-    value: u64,
-    flag: u8,
-    most: u64,
-) -> usize
+fn pillar(page: &mut [u8], at: usize, i: u64, n: usize, value: u64, flag: u8, most: u64) -> usize
     requires { ⌜ i < 288 ⌝ }
     ensures { λ r. ⌜ Filled (now (page .entry)) at (pillarText i n value flag most) r (now (page .exit)) ⌝ }
 {
@@ -124,15 +100,7 @@ fn pillar(
     colour(page, p, flag)
 }
 
-fn shapes(
-    page: &mut [u8],
-    at: usize,
-    i: u64,
-    n: usize,
-    value: u64,
-    flag: u8,
-    most: u64,
-) -> usize
+fn shapes(page: &mut [u8], at: usize, i: u64, n: usize, value: u64, flag: u8, most: u64) -> usize
     requires { ⌜ i < 288 ⌝ }
     ensures { λ r. ⌜ Filled (now (page .entry)) at (shapesText i n value flag most) r (now (page .exit)) ⌝ }
 {

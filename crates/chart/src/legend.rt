@@ -7,7 +7,7 @@ use words::qualities::name;
 ghost use mathlib.Core.Path.{_≡_};
 ghost use Prim.Native.Nat.{_<_};
 ghost use Rattle.page.specs.Filled.{Filled};
-ghost use Rattle.chart.specs.Legend.{counted as Legend·counted, countOf, squareText, namedText, entryText, entryOf, legendText};
+ghost use Rattle.chart.specs.Legend.{counted as Legend·counted, countOf, squareText, namedText, entryText, entryOf, firstText, legendText};
 
 fn counted(flag: u8, k: usize, x: u8) -> usize
     requires { ⌜ k < 18446744073709551615 ⌝ }
@@ -67,13 +67,19 @@ fn entry_of(page: &mut [u8], at: usize, flags: &[u8], n: usize, x: u64, flag: u8
     entry(page, at, x, flag, count)
 }
 
+fn first(page: &mut [u8], at: usize, flags: &[u8], n: usize) -> usize
+    ensures { λ r. ⌜ Filled (now (page .entry)) at (firstText (now (flags .entry)) n) r (now (page .exit)) ⌝ }
+{
+    let p = entry_of(page, at, flags, n, 0, b'A');
+    let q = entry_of(page, p, flags, n, 161, b'E');
+    entry_of(page, q, flags, n, 342, b'F')
+}
+
 // Of the first n flags.
 pub fn legend(page: &mut [u8], at: usize, flags: &[u8], n: usize) -> usize
     ensures { λ r. ⌜ Filled (now (page .entry)) at (legendText (now (flags .entry)) n) r (now (page .exit)) ⌝ }
 {
-    let p = entry_of(page, at, flags, n, 0, b'A');
-    let q = entry_of(page, p, flags, n, 161, b'E');
-    let r = entry_of(page, q, flags, n, 342, b'F');
-    let s = entry_of(page, r, flags, n, 563, b'S');
-    entry_of(page, s, flags, n, 754, b'N')
+    let p = first(page, at, flags, n);
+    let q = entry_of(page, p, flags, n, 563, b'S');
+    entry_of(page, q, flags, n, 754, b'N')
 }

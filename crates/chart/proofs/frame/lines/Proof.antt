@@ -19,7 +19,7 @@ steps-for-requires : tie.Need-steps-for-requires Inv-loop μ-loop
 steps-for-requires c κs = search needs
 
 add-n : tie.Need-add-n Inv-loop μ-loop
-add-n c = omega (arith, steps-small (c .before .args .most))
+add-n c = omega (arith, steps-small (c .before .before .args .most))
 
 loop-holds : tie.Need-loop-holds Inv-loop μ-loop
 loop-holds c = search counted-none
@@ -28,7 +28,7 @@ step-requires : tie.Need-step-requires Inv-loop μ-loop
 step-requires c κs = search needs
 
 add-k : tie.Need-add-k Inv-loop μ-loop
-add-k c = search needs
+add-k c = omega (arith, steps-small (c .before .before .before .before .before .before .before .before .args .most))
 
 loop-less : tie.Need-loop-less Inv-loop μ-loop
 loop-less c = search needs

@@ -10,7 +10,7 @@ step-for-requires : tie.Need-step-for-requires
 step-for-requires c κs = search needs
 
 mul-line : tie.Need-mul-line
-mul-line c = omega (arith, multiple-small (c .before .args .most) (c .before .args .k) (c .step-for .result) (c .before .pre) (c .step-for .ensures))
+mul-line c = omega (arith, multiple-small (c .before .before .before .args .most) (c .before .before .before .args .k) (c .step-for .result) (c .before .before .before .pre) (c .step-for .ensures))
 
 line-requires : tie.Need-line-requires
 line-requires c κs = search needs
