@@ -26,13 +26,13 @@ valueIn before v after = before ++ valueText v ++ after
 unfoldable pub amountText : ℕ → List ℕ → List ℕ
 amountText v unit = valueText v ++ bytes " " ++ unit
 
--- the colour of a quality, and the end of its rectangle. From dark to light: final substituted stands beside actual, and estimated is lightest, so that they
--- are told apart without colour too.
+-- the colour of a quality, and the end of its rectangle: from dark to light actual, final substituted, substituted and estimated, so that they can be told apart
+-- without seeing colours, and in a grey print
 unfoldable pub colourText : ℕ → List ℕ
 colourText flag =
-    cond (eqb flag flagA) (bytes " fill='#0b4f8a'/>")
+    cond (eqb flag flagA) (bytes " fill='#0a4278'/>")
     (cond (eqb flag flagE) (bytes " fill='#f2b632'/>")
-    (cond (eqb flag flagF) (bytes " fill='#c4500c'/>")
+    (cond (eqb flag flagF) (bytes " fill='#d0590f'/>")
     (cond (eqb flag flagS) (bytes " fill='#35a79c'/>")
     (bytes " fill='#767676'/>"))))
 

@@ -56,9 +56,9 @@ pub fn colour(page: &mut [u8], at: usize, flag: u8) -> usize
     ensures { λ r. ⌜ Filled (now (page .entry)) at (colourText flag) r (now (page .exit)) ⌝ }
 {
     match flag {
-        65 => put(page, at, b" fill='#0b4f8a'/>"),
+        65 => put(page, at, b" fill='#0a4278'/>"),
         69 => put(page, at, b" fill='#f2b632'/>"),
-        70 => put(page, at, b" fill='#c4500c'/>"),
+        70 => put(page, at, b" fill='#d0590f'/>"),
         83 => put(page, at, b" fill='#35a79c'/>"),
         _ => put(page, at, b" fill='#767676'/>"),
     }
