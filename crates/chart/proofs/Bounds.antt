@@ -5,7 +5,7 @@ use mathlib.Core.Bool.{cond}
 use native.Mathlib.Nat.{div-mul-le-self, lt-div-mul-add, div-le-of-le-mul, div-le-self, mul-le-mul-right}
 use native.Mathlib.Omega.{arith}
 use borrow.Author.Tests.{le-leb, lt-leb, lt-ltb, le-ltb, eq-eqb, ne-eqb}
-use lib.Dec.{leb, ltb, eqb}
+use lib.Dec.{ltb}
 use Rattle.ground.proofs.Cases.{split, same-or}
 use Rattle.chart.specs.Axis.{reachOf, stepIn, stepFrom, stepFor, stepsFor, topFor, heightOn, heightOf}
 

@@ -1,4 +1,3 @@
 mod Bounds
-mod Chaining
 mod Drawing
 mod Gathering

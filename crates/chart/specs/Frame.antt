@@ -16,15 +16,13 @@ opening =
     ++ bytes "<rect width='960' height='480' fill='#fff'/>\n"
 
 -- which channel and day it is
-unfoldable pub dayText : List ℕ → List ℕ → ℕ → List ℕ
-dayText nmi suffix date = textIn (bytes "NMI ") nmi (bytes " &#183; suffix ") ++ suffix ++ bytes " &#183; " ++ dateText date
-
 unfoldable pub titleText : List ℕ → List ℕ → ℕ → List ℕ
-titleText nmi suffix date = bytes "<g font-size='18' font-weight='600' fill='#111'><text x='76' y='36'>" ++ dayText nmi suffix date ++ bytes "</text>"
+titleText nmi suffix date =
+    textIn (bytes "<g font-size='18' font-weight='600' fill='#111'><text x='76' y='36'>NMI ") nmi (bytes " &#183; suffix ") ++ suffix ++ bytes " &#183; " ++ dateText date
 
--- what the day adds up to, on the right of the title
+-- the end of that, and on its right what the day adds up to
 unfoldable pub sumText : ℕ → List ℕ → List ℕ
-sumText sum unit = bytes "<text x='940' y='36' text-anchor='end'>" ++ amountText sum unit ++ bytes "</text></g>\n"
+sumText sum unit = bytes "</text><text x='940' y='36' text-anchor='end'>" ++ amountText sum unit ++ bytes "</text></g>\n"
 
 -- the line below: how many intervals there are, and their length in minutes
 unfoldable pub lengthsText : ℕ → List ℕ
@@ -58,19 +56,16 @@ stepText most k = lineText most (k * stepFor most)
 unfoldable pub linesText : ℕ → List ℕ
 linesText most = texts (stepText most) (stepsFor most + 1)
 
--- the plot's origin, and the axis of times
-unfoldable pub timesText : List ℕ
-timesText = bytes "<g transform='translate(76 400)' pointer-events='all'>\n<g font-size='11' text-anchor='middle'>\n" ++ hoursText
-
 -- the axis of values, with the unit above it
 unfoldable pub valuesText : ℕ → List ℕ → List ℕ
 valuesText most unit =
     textIn (bytes "</g>\n<g font-size='11' text-anchor='end'>\n<text x='-8' y='-318' font-weight='600'>") unit (bytes "</text>\n") ++ linesText most
     ++ bytes "</g>\n"
 
--- both axes; the plot stays open for the bars
+-- the plot's origin, and both axes; the plot stays open for the bars
 unfoldable pub gridText : ℕ → List ℕ → List ℕ
-gridText most unit = timesText ++ valuesText most unit
+gridText most unit =
+    bytes "<g transform='translate(76 400)' pointer-events='all'>\n<g font-size='11' text-anchor='middle'>\n" ++ hoursText ++ valuesText most unit
 
 -- the base line, over the bars, and the ends of the plot and the picture
 abbrev pub ending : List ℕ

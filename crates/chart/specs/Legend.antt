@@ -25,18 +25,15 @@ squareText flag = bytes "<rect width='14' height='14'" ++ colourText flag ++ byt
 unfoldable pub namedText : ℕ → ℕ → List ℕ
 namedText flag count = bytes "<text x='21' y='11.5'>" ++ qualityName flag ++ numberIn (bytes ": ") count (bytes "</text></g>\n")
 
--- the entry of a quality that so many intervals have, at x
-unfoldable pub entryText : ℕ → ℕ → ℕ → List ℕ
-entryText x flag count = numberIn (bytes "<g transform='translate(") x (bytes " 42)'>") ++ squareText flag ++ namedText flag count
-
--- the entry of a quality, of the first n flags
-unfoldable pub entryOf : List ℕ → ℕ → ℕ → ℕ → List ℕ
-entryOf flags n x flag = entryText x flag (countOf flags n flag)
+-- the entry of a quality at x, of the first n flags
+unfoldable pub entryText : List ℕ → ℕ → ℕ → ℕ → List ℕ
+entryText flags n x flag =
+    numberIn (bytes "<g transform='translate(") x (bytes " 42)'>") ++ squareText flag ++ namedText flag (countOf flags n flag)
 
 -- actual, estimated and final substituted, far enough apart for counts of three digits
 unfoldable pub firstText : List ℕ → ℕ → List ℕ
-firstText flags n = entryOf flags n 0 flagA ++ entryOf flags n 161 flagE ++ entryOf flags n 342 flagF
+firstText flags n = entryText flags n 0 flagA ++ entryText flags n 161 flagE ++ entryText flags n 342 flagF
 
 -- and behind them substituted and null data
 unfoldable pub legendText : List ℕ → ℕ → List ℕ
-legendText flags n = firstText flags n ++ entryOf flags n 563 flagS ++ entryOf flags n 754 flagN
+legendText flags n = firstText flags n ++ entryText flags n 563 flagS ++ entryText flags n 754 flagN

@@ -8,10 +8,9 @@ use super::parts::value_in;
 use page::texts::put;
 use phrase::times::clock;
 use words::qualities::name;
-ghost use mathlib.Core.Path.{_≡_};
 ghost use Prim.Native.Nat.{_<_};
 ghost use Rattle.page.specs.Filled.{Filled};
-ghost use Rattle.chart.specs.Bars.{minutesText, spanText, hintText, titleText, attributeText, rectText, xOf, columnText, pillarText, shapesText, intervalText, barText};
+ghost use Rattle.chart.specs.Bars.{minutesText, spanText, hintText, titleText, attributeText, rectText, columnText, pillarText, shapesText, intervalText, barText};
 
 // The plot's width and height, and what all bars are wide together, in millionths.
 const WIDTH: u64 = 864000000;
@@ -77,18 +76,11 @@ fn rect(page: &mut [u8], at: usize, x: u64, width: u64, height: u64) -> usize
     attribute(page, r, b" height='", height)
 }
 
-fn x_of(i: u64, n: usize) -> u64
-    requires { ⌜ i < 288 ⌝ }
-    ensures { λ r. ⌜ r ≡ xOf i n ⌝ }
-{
-    share(i * WIDTH, n)
-}
-
 fn column(page: &mut [u8], at: usize, i: u64, n: usize, flag: u8) -> usize
     requires { ⌜ i < 288 ⌝ }
     ensures { λ r. ⌜ Filled (now (page .entry)) at (columnText i n flag) r (now (page .exit)) ⌝ }
 {
-    let p = rect(page, at, x_of(i, n), share(WIDTH, n), HEIGHT);
+    let p = rect(page, at, share(i * WIDTH, n), share(WIDTH, n), HEIGHT);
     band(page, p, flag)
 }
 
@@ -96,7 +88,13 @@ fn pillar(page: &mut [u8], at: usize, i: u64, n: usize, value: u64, flag: u8, mo
     requires { ⌜ i < 288 ⌝ }
     ensures { λ r. ⌜ Filled (now (page .entry)) at (pillarText i n value flag most) r (now (page .exit)) ⌝ }
 {
-    let p = rect(page, at, x_of(i, n), share(BARS, n), height(most, value));
+    let p = rect(
+        page,
+        at,
+        share(i * WIDTH, n),
+        share(BARS, n),
+        height(most, value),
+    );
     colour(page, p, flag)
 }
 

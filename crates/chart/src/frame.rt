@@ -13,7 +13,7 @@ use phrase::times::date;
 ghost use Prim.Native.Nat.{_<_, _≤_};
 ghost use Rattle.page.specs.Filled.{Filled};
 ghost use Rattle.chart.specs.Axis.{stepsFor};
-ghost use Rattle.chart.specs.Frame.{opening as Frame·opening, dayText, titleText, sumText, lengthsText, headText, hourText, hoursText, lineText, stepText, linesText, timesText, valuesText, gridText, ending};
+ghost use Rattle.chart.specs.Frame.{opening as Frame·opening, titleText, sumText, lengthsText, headText, hourText, hoursText, stepText, linesText, valuesText, gridText, ending};
 
 // ---- above the plot
 
@@ -30,31 +30,25 @@ fn opening(page: &mut [u8], at: usize) -> usize
     )
 }
 
-fn day(page: &mut [u8], at: usize, nmi: &[u8], suffix: &[u8], on: u64) -> usize
-    ensures { λ r. ⌜ Filled (now (page .entry)) at (dayText (now (nmi .entry)) (now (suffix .entry)) on) r (now (page .exit)) ⌝ }
+fn title(page: &mut [u8], at: usize, nmi: &[u8], suffix: &[u8], on: u64) -> usize
+    ensures { λ r. ⌜ Filled (now (page .entry)) at (titleText (now (nmi .entry)) (now (suffix .entry)) on) r (now (page .exit)) ⌝ }
 {
-    let p = text_in(page, at, b"NMI ", nmi, b" &#183; suffix ");
+    let p = text_in(
+        page,
+        at,
+        b"<g font-size='18' font-weight='600' fill='#111'><text x='76' y='36'>NMI ",
+        nmi,
+        b" &#183; suffix ",
+    );
     let q = put(page, p, suffix);
     let r = put(page, q, b" &#183; ");
     date(page, r, on)
 }
 
-fn title(page: &mut [u8], at: usize, nmi: &[u8], suffix: &[u8], on: u64) -> usize
-    ensures { λ r. ⌜ Filled (now (page .entry)) at (titleText (now (nmi .entry)) (now (suffix .entry)) on) r (now (page .exit)) ⌝ }
-{
-    let p = put(
-        page,
-        at,
-        b"<g font-size='18' font-weight='600' fill='#111'><text x='76' y='36'>",
-    );
-    let q = day(page, p, nmi, suffix, on);
-    put(page, q, b"</text>")
-}
-
 fn sum(page: &mut [u8], at: usize, total: u64, unit: &[u8]) -> usize
     ensures { λ r. ⌜ Filled (now (page .entry)) at (sumText total (now (unit .entry))) r (now (page .exit)) ⌝ }
 {
-    let p = put(page, at, b"<text x='940' y='36' text-anchor='end'>");
+    let p = put(page, at, b"</text><text x='940' y='36' text-anchor='end'>");
     let q = amount(page, p, total, unit);
     put(page, q, b"</text></g>\n")
 }
@@ -127,9 +121,11 @@ fn hours(page: &mut [u8], at: usize) -> usize
     p
 }
 
-fn line(page: &mut [u8], at: usize, most: u64, v: u64) -> usize
-    ensures { λ r. ⌜ Filled (now (page .entry)) at (lineText most v) r (now (page .exit)) ⌝ }
+fn step(page: &mut [u8], at: usize, most: u64, k: u64) -> usize
+    requires { ⌜ k ≤ stepsFor most ⌝ }
+    ensures { λ r. ⌜ Filled (now (page .entry)) at (stepText most k) r (now (page .exit)) ⌝ }
 {
+    let v = k * step_for(most);
     let p = value_in(
         page,
         at,
@@ -138,13 +134,6 @@ fn line(page: &mut [u8], at: usize, most: u64, v: u64) -> usize
         b")'><path d='M-4 0h868' stroke='#d4d4d4'/><text x='-8' y='4'>",
     );
     value_in(page, p, b"", v, b"</text></g>\n")
-}
-
-fn step(page: &mut [u8], at: usize, most: u64, k: u64) -> usize
-    requires { ⌜ k ≤ stepsFor most ⌝ }
-    ensures { λ r. ⌜ Filled (now (page .entry)) at (stepText most k) r (now (page .exit)) ⌝ }
-{
-    line(page, at, most, k * step_for(most))
 }
 
 // From 0 to the top.
@@ -159,17 +148,6 @@ fn lines(page: &mut [u8], at: usize, most: u64) -> usize
         k += 1;
     }
     p
-}
-
-fn times(page: &mut [u8], at: usize) -> usize
-    ensures { λ r. ⌜ Filled (now (page .entry)) at timesText r (now (page .exit)) ⌝ }
-{
-    let p = put(
-        page,
-        at,
-        b"<g transform='translate(76 400)' pointer-events='all'>\n<g font-size='11' text-anchor='middle'>\n",
-    );
-    hours(page, p)
 }
 
 fn values(page: &mut [u8], at: usize, most: u64, unit: &[u8]) -> usize
@@ -190,8 +168,13 @@ fn values(page: &mut [u8], at: usize, most: u64, unit: &[u8]) -> usize
 pub fn grid(page: &mut [u8], at: usize, most: u64, unit: &[u8]) -> usize
     ensures { λ r. ⌜ Filled (now (page .entry)) at (gridText most (now (unit .entry))) r (now (page .exit)) ⌝ }
 {
-    let p = times(page, at);
-    values(page, p, most, unit)
+    let p = put(
+        page,
+        at,
+        b"<g transform='translate(76 400)' pointer-events='all'>\n<g font-size='11' text-anchor='middle'>\n",
+    );
+    let q = hours(page, p);
+    values(page, q, most, unit)
 }
 
 // The picture's end, with the base line over the bars.

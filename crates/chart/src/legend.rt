@@ -7,7 +7,7 @@ use words::qualities::name;
 ghost use mathlib.Core.Path.{_≡_};
 ghost use Prim.Native.Nat.{_<_};
 ghost use Rattle.page.specs.Filled.{Filled};
-ghost use Rattle.chart.specs.Legend.{counted as Legend·counted, countOf, squareText, namedText, entryText, entryOf, firstText, legendText};
+ghost use Rattle.chart.specs.Legend.{counted as Legend·counted, countOf, squareText, namedText, entryText, firstText, legendText};
 
 fn counted(flag: u8, k: usize, x: u8) -> usize
     requires { ⌜ k < 18446744073709551615 ⌝ }
@@ -52,27 +52,21 @@ fn named(page: &mut [u8], at: usize, flag: u8, count: usize) -> usize
     number_in(page, q, b": ", count as u64, b"</text></g>\n")
 }
 
-fn entry(page: &mut [u8], at: usize, x: u64, flag: u8, count: usize) -> usize
-    ensures { λ r. ⌜ Filled (now (page .entry)) at (entryText x flag count) r (now (page .exit)) ⌝ }
+fn entry(page: &mut [u8], at: usize, flags: &[u8], n: usize, x: u64, flag: u8) -> usize
+    ensures { λ r. ⌜ Filled (now (page .entry)) at (entryText (now (flags .entry)) n x flag) r (now (page .exit)) ⌝ }
 {
+    let count = count_of(flags, n, flag);
     let p = number_in(page, at, b"<g transform='translate(", x, b" 42)'>");
     let q = square(page, p, flag);
     named(page, q, flag, count)
 }
 
-fn entry_of(page: &mut [u8], at: usize, flags: &[u8], n: usize, x: u64, flag: u8) -> usize
-    ensures { λ r. ⌜ Filled (now (page .entry)) at (entryOf (now (flags .entry)) n x flag) r (now (page .exit)) ⌝ }
-{
-    let count = count_of(flags, n, flag);
-    entry(page, at, x, flag, count)
-}
-
 fn first(page: &mut [u8], at: usize, flags: &[u8], n: usize) -> usize
     ensures { λ r. ⌜ Filled (now (page .entry)) at (firstText (now (flags .entry)) n) r (now (page .exit)) ⌝ }
 {
-    let p = entry_of(page, at, flags, n, 0, b'A');
-    let q = entry_of(page, p, flags, n, 161, b'E');
-    entry_of(page, q, flags, n, 342, b'F')
+    let p = entry(page, at, flags, n, 0, b'A');
+    let q = entry(page, p, flags, n, 161, b'E');
+    entry(page, q, flags, n, 342, b'F')
 }
 
 // Of the first n flags.
@@ -80,6 +74,6 @@ pub fn legend(page: &mut [u8], at: usize, flags: &[u8], n: usize) -> usize
     ensures { λ r. ⌜ Filled (now (page .entry)) at (legendText (now (flags .entry)) n) r (now (page .exit)) ⌝ }
 {
     let p = first(page, at, flags, n);
-    let q = entry_of(page, p, flags, n, 563, b'S');
-    entry_of(page, q, flags, n, 754, b'N')
+    let q = entry(page, p, flags, n, 563, b'S');
+    entry(page, q, flags, n, 754, b'N')
 }

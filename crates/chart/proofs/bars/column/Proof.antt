@@ -4,11 +4,14 @@ use borrow.Author.Needs.{needs}
 use Rattle.chart.proofs.bars.column.Statement.{statement}
 use Rattle.chart.proofs.bars.column.Tie as tie
 
-x-of-requires : tie.Need-x-of-requires
-x-of-requires c κs = search needs
+mul-share : tie.Need-mul-share
+mul-share c = search needs
 
 share-requires : tie.Need-share-requires
 share-requires c κs = search needs
+
+share-requires-2 : tie.Need-share-requires-2
+share-requires-2 c κs = search needs
 
 rect-requires : tie.Need-rect-requires
 rect-requires c κs = search needs
@@ -25,4 +28,11 @@ returns c = search column-put
 pub column-spec : {M : Type 1} → statement M
 column-spec =
     tie.close
-    (tie.spec x-of-requires share-requires rect-requires band-requires same-length returns)
+    (tie.spec
+    mul-share
+    share-requires
+    share-requires-2
+    rect-requires
+    band-requires
+    same-length
+    returns)

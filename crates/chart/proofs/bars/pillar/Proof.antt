@@ -4,11 +4,14 @@ use borrow.Author.Needs.{needs}
 use Rattle.chart.proofs.bars.pillar.Statement.{statement}
 use Rattle.chart.proofs.bars.pillar.Tie as tie
 
-x-of-requires : tie.Need-x-of-requires
-x-of-requires c κs = search needs
+mul-share : tie.Need-mul-share
+mul-share c = search needs
 
 share-requires : tie.Need-share-requires
 share-requires c κs = search needs
+
+share-requires-2 : tie.Need-share-requires-2
+share-requires-2 c κs = search needs
 
 height-requires : tie.Need-height-requires
 height-requires c κs = search needs
@@ -29,8 +32,9 @@ pub pillar-spec : {M : Type 1} → statement M
 pillar-spec =
     tie.close
     (tie.spec
-    x-of-requires
+    mul-share
     share-requires
+    share-requires-2
     height-requires
     rect-requires
     colour-requires

@@ -5,8 +5,14 @@ use borrow.Author.Needs.{needs}
 use Rattle.chart.proofs.frame.grid.Statement.{statement}
 use Rattle.chart.proofs.frame.grid.Tie as tie
 
-times-requires : tie.Need-times-requires
-times-requires c κs = search needs
+slice-aggregate-put : tie.Need-slice-aggregate-put
+slice-aggregate-put c = search needs
+
+put-requires : tie.Need-put-requires
+put-requires c κs = search needs
+
+hours-requires : tie.Need-hours-requires
+hours-requires c κs = search needs
 
 values-requires : tie.Need-values-requires
 values-requires c κs = search needs
@@ -19,4 +25,6 @@ unfolding gridText
 returns c = search filled-then
 
 pub grid-spec : {M : Type 1} → statement M
-grid-spec = tie.close (tie.spec times-requires values-requires same-length returns)
+grid-spec =
+    tie.close
+    (tie.spec slice-aggregate-put put-requires hours-requires values-requires same-length returns)

@@ -1,9 +1,11 @@
 -- `chart::legend::entry` meets its contract. Assumes nothing.
-use Rattle.chart.specs.Legend.{entryText}
-use Rattle.page.proofs.Filling.{filled-then}
+use Rattle.chart.proofs.Drawing.{entry-put}
 use borrow.Author.Needs.{needs}
 use Rattle.chart.proofs.legend.entry.Statement.{statement}
 use Rattle.chart.proofs.legend.entry.Tie as tie
+
+count-of-requires : tie.Need-count-of-requires
+count-of-requires c κs = search needs
 
 slice-aggregate-number-in : tie.Need-slice-aggregate-number-in
 slice-aggregate-number-in c = search needs
@@ -24,13 +26,13 @@ same-length : tie.Need-same-length
 same-length c = search needs
 
 returns : tie.Need-returns
-unfolding entryText
-returns c = search filled-then
+returns c = search entry-put
 
 pub entry-spec : {M : Type 1} → statement M
 entry-spec =
     tie.close
     (tie.spec
+    count-of-requires
     slice-aggregate-number-in
     slice-aggregate-number-in-2
     number-in-requires

@@ -5,14 +5,14 @@ use borrow.Author.Needs.{needs}
 use Rattle.chart.proofs.legend.first.Statement.{statement}
 use Rattle.chart.proofs.legend.first.Tie as tie
 
-entry-of-requires : tie.Need-entry-of-requires
-entry-of-requires c κs = search needs
+entry-requires : tie.Need-entry-requires
+entry-requires c κs = search needs
 
-entry-of-requires-2 : tie.Need-entry-of-requires-2
-entry-of-requires-2 c κs = search needs
+entry-requires-2 : tie.Need-entry-requires-2
+entry-requires-2 c κs = search needs
 
-entry-of-requires-3 : tie.Need-entry-of-requires-3
-entry-of-requires-3 c κs = search needs
+entry-requires-3 : tie.Need-entry-requires-3
+entry-requires-3 c κs = search needs
 
 same-length : tie.Need-same-length
 same-length c = search needs
@@ -24,4 +24,4 @@ returns c = search filled-then
 pub first-spec : {M : Type 1} → statement M
 first-spec =
     tie.close
-    (tie.spec entry-of-requires entry-of-requires-2 entry-of-requires-3 same-length returns)
+    (tie.spec entry-requires entry-requires-2 entry-requires-3 same-length returns)

@@ -8,11 +8,11 @@ use Rattle.chart.proofs.legend.legend.Tie as tie
 first-requires : tie.Need-first-requires
 first-requires c κs = search needs
 
-entry-of-requires : tie.Need-entry-of-requires
-entry-of-requires c κs = search needs
+entry-requires : tie.Need-entry-requires
+entry-requires c κs = search needs
 
-entry-of-requires-2 : tie.Need-entry-of-requires-2
-entry-of-requires-2 c κs = search needs
+entry-requires-2 : tie.Need-entry-requires-2
+entry-requires-2 c κs = search needs
 
 same-length : tie.Need-same-length
 same-length c = search needs
@@ -23,4 +23,4 @@ returns c = search filled-then
 
 pub legend-spec : {M : Type 1} → statement M
 legend-spec =
-    tie.close (tie.spec first-requires entry-of-requires entry-of-requires-2 same-length returns)
+    tie.close (tie.spec first-requires entry-requires entry-requires-2 same-length returns)
