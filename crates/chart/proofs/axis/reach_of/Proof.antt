@@ -1,0 +1,21 @@
+-- `chart::axis::reach_of` meets its contract. Assumes nothing.
+use Rattle.chart.specs.Axis.{reachOf}
+use Rattle.ground.proofs.Tests.{tests}
+use borrow.Author.Needs.{needs}
+use Rattle.chart.proofs.axis.reach_of.Statement.{statement}
+use Rattle.chart.proofs.axis.reach_of.Tie as tie
+
+returns : tie.Need-returns
+unfolding reachOf
+returns c = search tests
+
+returns-2 : tie.Need-returns-2
+unfolding reachOf
+returns-2 c = search tests
+
+returns-3 : tie.Need-returns-3
+unfolding reachOf
+returns-3 c = search tests
+
+pub reach-of-spec : {M : Type 1} → statement M
+reach-of-spec = tie.close (tie.spec returns returns-2 returns-3)
