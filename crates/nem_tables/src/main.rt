@@ -1,7 +1,7 @@
 // nem totals, nem days and nem day: a file's channels, its days, and one of its days, as tables. The words are its own name, the command's, the file's, and for
 // a day which one it is.
-mod day;
-mod days;
+mod all_days;
+mod one_day;
 mod totals;
 
 use disk::Loaded;
@@ -16,9 +16,9 @@ fn table(page: &mut [u8], file: &[u8], command: &[u8]) -> u8 {
         return totals::show(page, file);
     }
     if same_bytes(command, b"days") {
-        return days::show(page, file);
+        return all_days::show(page, file);
     }
-    day::show(page, file)
+    one_day::show(page, file)
 }
 
 fn show(page: &mut [u8], room: &mut [u8]) -> u8 {

@@ -1,0 +1,58 @@
+-- `nem_tables::totals::show` meets its contract. Assumes nothing.
+use Rattle.checking.proofs.Answered.{is-accepted}
+use borrow.Author.Needs.{needs}
+use Rattle.nem_tables.proofs.totals.show.Statement.{statement}
+use Rattle.nem_tables.proofs.totals.show.Tie as tie
+
+check-and-note-requires : tie.Need-check-and-note-requires
+check-and-note-requires c κs = search needs
+
+enum-known-answer : tie.Need-enum-known-answer
+enum-known-answer c = search needs
+
+headed-requires : tie.Need-headed-requires
+headed-requires c κs = search needs
+
+write-requires : tie.Need-write-requires
+write-requires c κs = search needs
+
+rows-requires : tie.Need-rows-requires
+rows-requires c κs = (search is-accepted, search needs)
+
+enum-known-answer-2 : tie.Need-enum-known-answer-2
+enum-known-answer-2 c = search needs
+
+explained-requires : tie.Need-explained-requires
+explained-requires c κs = search needs
+
+warn-requires : tie.Need-warn-requires
+warn-requires c κs = search needs
+
+same-length : tie.Need-same-length
+same-length c = search needs
+
+returns : tie.Need-returns
+returns c = search needs
+
+same-length-2 : tie.Need-same-length-2
+same-length-2 c = search needs
+
+returns-2 : tie.Need-returns-2
+returns-2 c = search needs
+
+pub show-spec : {M : Type 1} → statement M
+show-spec =
+    tie.close
+    (tie.spec
+    check-and-note-requires
+    enum-known-answer
+    headed-requires
+    write-requires
+    rows-requires
+    enum-known-answer-2
+    explained-requires
+    warn-requires
+    same-length
+    returns
+    same-length-2
+    returns-2)
