@@ -4,11 +4,6 @@ use lib.ListN.{length}
 use borrow.Author.Needs.{needs}
 use Rattle.examples.proofs.totals.Statement.{statement}
 use Rattle.examples.proofs.totals.Tie as tie
-use Rattle.examples.proofs.totals.Reads as reads
-use Rattle.examples.proofs.totals.Lts as lts
-use Rattle.examples.proofs.say.Reads as say-reads
-use Rattle.page.proofs.answers.totalled.Reads as totalled-reads
-use Rattle.reading.proofs.total.total.Reads as total-reads
 
 abbrev Inv-loop : tie.InvT-loop
 Inv-loop page₀ file n k₀ page k = length page ≡ length page₀
