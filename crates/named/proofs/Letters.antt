@@ -11,10 +11,6 @@ use Rattle.ground.proofs.Lists.{Agreed, unlike, agreed-none, agreed-more, agree
 use Rattle.format.specs.Bytes.{capital}
 use Rattle.format.specs.Units.{sameLetters}
 
-capital-at : (s : List ℕ) (i : ℕ) → getD (map capital s) i 0 ≡ capital (getD s i 0)
-unfolding capital
-capital-at s i = List·getD-map capital s i 0
-
 -- the first i letters agree
 pub record Alike (s t : List ℕ) (i : ℕ) : Type 0 where
   pub agreed : Agreed (map capital s) (map capital t) i
@@ -33,7 +29,8 @@ module _ (s t : List ℕ) where
     within = omega (arith, length-map s capital)
 
     letters : b ≡ eqb (getD (map capital s) i 0) (getD (map capital t) i 0)
-    letters = rw (capital-at s i, capital-at t i) q
+    unfolding capital
+    letters = rw (List·getD-map capital s i 0, List·getD-map capital t i 0) q
 
     pub letters-more : not b ≡ false → Alike s t (i + 1)
     letters-more h = record { agreed = agreed-more (map capital s) (map capital t) i within (eqb-true _ _ (sym letters ∙ not-false b h)) (r .agreed) }
