@@ -2,16 +2,18 @@
 use Prim.Native.Nat.{ℕ, _+_, _*_}
 use mathlib.Core.Path.{_≡_, sym, ap}
 use mathlib.Core.List.{List, []}
+use lib.ListN.{take}
 use Rattle.ground.specs.Text.{bytes}
 use Rattle.page.specs.Filled.{Filled}
 use Rattle.page.specs.Texts.{texts}
 use Rattle.page.proofs.Filling.{filled-then, filled-as}
 use Rattle.phrase.proofs.Chained.{filled-four}
-use Rattle.chart.specs.Axis.{stepFor, stepsFor, heightOf}
+use Rattle.measures.specs.Axis.{stepFor, stepsFor, heightOf}
+use Rattle.measures.specs.Counts.{countOf}
 use Rattle.chart.specs.Parts.{shareOf, numberIn, valueIn, bandText, colourText}
 use Rattle.chart.specs.Bars.{minutesText, spanText, rectText, xOf, columnText, pillarText}
 use Rattle.chart.specs.Frame.{lengthsText, lineText, stepText, linesText}
-use Rattle.chart.specs.Legend.{countOf, squareText, namedText, entryText}
+use Rattle.chart.specs.Legend.{squareText, namedText, entryText}
 
 module _ {p₀ p₁ p₂ : List ℕ} {at a b : ℕ} where
   pub column-put : (i n flag x w : ℕ) → x ≡ shareOf (i * 864000000) n → w ≡ shareOf 864000000 n → Filled p₀ at (rectText x w 300000000) a p₁ → Filled p₁ a (bandText flag) b p₂
@@ -45,7 +47,7 @@ pub span-put : (i n s t : ℕ) {p₀ p₁ p₂ p₃ p₄ : List ℕ} {at a b c d
 unfolding spanText
 span-put i n s t e f p q r u = rw (← e, ← f) (filled-four p q r u)
 
-pub entry-put : (flags : List ℕ) (n x flag k : ℕ) {p₀ p₁ p₂ p₃ : List ℕ} {at a b c : ℕ} → k ≡ countOf flags n flag
+pub entry-put : (flags : List ℕ) (n x flag k : ℕ) {p₀ p₁ p₂ p₃ : List ℕ} {at a b c : ℕ} → k ≡ countOf flag (take n flags)
     → Filled p₀ at (numberIn (bytes "<g transform='translate(") x (bytes " 42)'>")) a p₁ → Filled p₁ a (squareText flag) b p₂ → Filled p₂ b (namedText flag k) c p₃
     → Filled p₀ at (entryText flags n x flag) c p₃
 unfolding entryText

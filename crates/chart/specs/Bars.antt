@@ -4,7 +4,7 @@ use mathlib.Core.List.{List, _++_}
 use Rattle.ground.specs.Text.{bytes}
 use Rattle.words.specs.Qualities.{qualityName}
 use Rattle.phrase.specs.Phrases.{clockText}
-use Rattle.chart.specs.Axis.{heightOf}
+use Rattle.measures.specs.Axis.{heightOf}
 use Rattle.chart.specs.Parts.{shareOf, amountText, valueIn, colourText, bandText}
 
 -- so many minutes as a time

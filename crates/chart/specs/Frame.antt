@@ -4,7 +4,7 @@ use mathlib.Core.List.{List, [], _++_}
 use Rattle.ground.specs.Text.{bytes}
 use Rattle.page.specs.Texts.{texts}
 use Rattle.phrase.specs.Phrases.{dateText, clockText}
-use Rattle.chart.specs.Axis.{stepFor, stepsFor, heightOf}
+use Rattle.measures.specs.Axis.{stepFor, stepsFor, heightOf}
 use Rattle.chart.specs.Parts.{shareOf, textIn, numberIn, valueIn, amountText}
 
 -- the picture's size, its letters, the hatch of null data, and white behind it all

@@ -1,22 +1,12 @@
 -- The legend below the plot: what each colour means, and how many intervals have it.
-use Prim.Native.Nat.{ℕ, _+_}
-use mathlib.Core.Bool.{cond}
+use Prim.Native.Nat.{ℕ}
 use mathlib.Core.List.{List, _++_}
 use lib.ListN.{take}
-use lib.Dec.{eqb}
 use Rattle.ground.specs.Text.{bytes}
 use Rattle.format.specs.Quality.{flagA, flagE, flagF, flagN, flagS}
 use Rattle.words.specs.Qualities.{qualityName}
-use Rattle.chart.specs.Gathered.{gathered}
+use Rattle.measures.specs.Counts.{countOf}
 use Rattle.chart.specs.Parts.{numberIn, colourText, bandText}
-
--- one more than k where x is the flag
-unfoldable pub counted : ℕ → ℕ → ℕ → ℕ
-counted flag k x = cond (eqb x flag) (k + 1) k
-
--- how many of the first n are the flag
-unfoldable pub countOf : List ℕ → ℕ → ℕ → ℕ
-countOf flags n flag = gathered (counted flag) 0 (take n flags)
 
 -- a square as the bars of the quality are, and hatched as its columns are
 unfoldable pub squareText : ℕ → List ℕ
@@ -28,7 +18,7 @@ namedText flag count = bytes "<text x='21' y='11.5'>" ++ qualityName flag ++ num
 -- the entry of a quality at x, of the first n flags
 unfoldable pub entryText : List ℕ → ℕ → ℕ → ℕ → List ℕ
 entryText flags n x flag =
-    numberIn (bytes "<g transform='translate(") x (bytes " 42)'>") ++ squareText flag ++ namedText flag (countOf flags n flag)
+    numberIn (bytes "<g transform='translate(") x (bytes " 42)'>") ++ squareText flag ++ namedText flag (countOf flag (take n flags))
 
 -- actual, estimated and final substituted, far enough apart for counts of three digits
 unfoldable pub firstText : List ℕ → ℕ → List ℕ

@@ -1,10 +1,10 @@
 // The bar of an interval.
-use super::axis::height;
 use super::parts::amount;
 use super::parts::band;
 use super::parts::colour;
 use super::parts::share;
 use super::parts::value_in;
+use measures::axis::height;
 use page::texts::put;
 use phrase::times::clock;
 use words::qualities::name;

@@ -1,18 +1,18 @@
 // What stands around the bars: titles, axes and grid.
-use super::axis::height;
-use super::axis::step_for;
-use super::axis::steps_for;
 use super::parts::amount;
 use super::parts::number_in;
 use super::parts::share;
 use super::parts::text_in;
 use super::parts::value_in;
+use measures::axis::height;
+use measures::axis::step_for;
+use measures::axis::steps_for;
 use page::texts::put;
 use phrase::times::clock;
 use phrase::times::date;
 ghost use Prim.Native.Nat.{_<_, _≤_};
 ghost use Rattle.page.specs.Filled.{Filled};
-ghost use Rattle.chart.specs.Axis.{stepsFor};
+ghost use Rattle.measures.specs.Axis.{stepsFor};
 ghost use Rattle.chart.specs.Frame.{opening as Frame·opening, titleText, sumText, lengthsText, headText, hourText, hoursText, stepText, linesText, valuesText, gridText, ending};
 
 // ---- above the plot

@@ -2,38 +2,11 @@
 use super::parts::band;
 use super::parts::colour;
 use super::parts::number_in;
+use measures::counts::count_of;
 use page::texts::put;
 use words::qualities::name;
-ghost use mathlib.Core.Path.{_≡_};
-ghost use Prim.Native.Nat.{_<_};
 ghost use Rattle.page.specs.Filled.{Filled};
-ghost use Rattle.chart.specs.Legend.{counted as Legend·counted, countOf, squareText, namedText, entryText, firstText, legendText};
-
-fn counted(flag: u8, k: usize, x: u8) -> usize
-    requires { ⌜ k < 18446744073709551615 ⌝ }
-    ensures { λ r. ⌜ r ≡ Legend·counted flag k x ⌝ }
-{
-    if x == flag {
-        return k + 1;
-    }
-    k
-}
-
-// How many of the first n are the flag.
-pub fn count_of(flags: &[u8], n: usize, flag: u8) -> usize
-    ensures { λ r. ⌜ r ≡ countOf (now (flags .entry)) n flag ⌝ }
-{
-    let mut count: usize = 0;
-    let mut i: usize = 0;
-    while i < n {
-        if flags.len() <= i {
-            return count;
-        }
-        count = counted(flag, count, flags[i]);
-        i += 1;
-    }
-    count
-}
+ghost use Rattle.chart.specs.Legend.{squareText, namedText, entryText, firstText, legendText};
 
 fn square(page: &mut [u8], at: usize, flag: u8) -> usize
     ensures { λ r. ⌜ Filled (now (page .entry)) at (squareText flag) r (now (page .exit)) ⌝ }
