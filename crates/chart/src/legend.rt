@@ -6,15 +6,14 @@ use measures::counts::count_of;
 use page::texts::put;
 use words::qualities::name;
 ghost use Rattle.page.specs.Filled.{Filled};
-ghost use Rattle.chart.specs.Legend.{squareText, namedText, entryText, firstText, legendText};
+ghost use Rattle.chart.specs.Legend.{hatchText, namedText, entryText, firstText, legendText};
 
-fn square(page: &mut [u8], at: usize, flag: u8) -> usize
-    ensures { λ r. ⌜ Filled (now (page .entry)) at (squareText flag) r (now (page .exit)) ⌝ }
+// A square over the coloured one, as the quality's columns are.
+fn hatch(page: &mut [u8], at: usize, flag: u8) -> usize
+    ensures { λ r. ⌜ Filled (now (page .entry)) at (hatchText flag) r (now (page .exit)) ⌝ }
 {
     let p = put(page, at, b"<rect width='14' height='14'");
-    let q = colour(page, p, flag);
-    let r = put(page, q, b"<rect width='14' height='14'");
-    band(page, r, flag)
+    band(page, p, flag)
 }
 
 fn named(page: &mut [u8], at: usize, flag: u8, count: usize) -> usize
@@ -29,9 +28,16 @@ fn entry(page: &mut [u8], at: usize, flags: &[u8], n: usize, x: u64, flag: u8) -
     ensures { λ r. ⌜ Filled (now (page .entry)) at (entryText (now (flags .entry)) n x flag) r (now (page .exit)) ⌝ }
 {
     let count = count_of(flags, n, flag);
-    let p = number_in(page, at, b"<g transform='translate(", x, b" 42)'>");
-    let q = square(page, p, flag);
-    named(page, q, flag, count)
+    let p = number_in(
+        page,
+        at,
+        b"<g transform='translate(",
+        x,
+        b" 42)'><rect width='14' height='14'",
+    );
+    let q = colour(page, p, flag);
+    let r = hatch(page, q, flag);
+    named(page, r, flag, count)
 }
 
 fn first(page: &mut [u8], at: usize, flags: &[u8], n: usize) -> usize
