@@ -1,3 +1,1 @@
-mod Bounds
 mod Drawing
-mod Gathering

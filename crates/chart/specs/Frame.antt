@@ -4,30 +4,30 @@ use mathlib.Core.List.{List, [], _++_}
 use Rattle.ground.specs.Text.{bytes}
 use Rattle.page.specs.Texts.{texts}
 use Rattle.phrase.specs.Phrases.{dateText, clockText}
-use Rattle.chart.specs.Axis.{stepFor, stepsFor, heightOf}
+use Rattle.measures.specs.Axis.{stepFor, stepsFor, heightOf}
 use Rattle.chart.specs.Parts.{shareOf, textIn, numberIn, valueIn, amountText}
 
--- the picture's size, its letters, the hatch of null data, and white behind it all
+-- the picture's size, its letters, the hatch of null data, white behind it all, and the start of the title
 abbrev pub opening : List ℕ
 opening =
     bytes "<svg xmlns='http://www.w3.org/2000/svg' viewBox='0 0 960 480' width='960' height='480' font-family='system-ui,sans-serif' font-size='12' fill='#444'>\n"
     ++ bytes "<defs><pattern id='null' width='5' height='5' patternUnits='userSpaceOnUse' patternTransform='rotate(45)'>"
     ++ bytes "<rect width='5' height='5' fill='#f4f4f4'/><path d='M0 0v5' stroke='#999' stroke-width='2'/></pattern></defs>\n"
     ++ bytes "<rect width='960' height='480' fill='#fff'/>\n"
+    ++ bytes "<g font-size='18' font-weight='600' fill='#111'><text x='76' y='36'>NMI "
 
 -- which channel and day it is
 unfoldable pub titleText : List ℕ → List ℕ → ℕ → List ℕ
-titleText nmi suffix date =
-    textIn (bytes "<g font-size='18' font-weight='600' fill='#111'><text x='76' y='36'>NMI ") nmi (bytes " &#183; suffix ") ++ suffix ++ bytes " &#183; " ++ dateText date
+titleText nmi suffix date = textIn nmi (bytes " &#183; suffix ") suffix ++ bytes " &#183; " ++ dateText date
 
--- the end of that, and on its right what the day adds up to
+-- on its right what the day adds up to
 unfoldable pub sumText : ℕ → List ℕ → List ℕ
-sumText sum unit = bytes "</text><text x='940' y='36' text-anchor='end'>" ++ amountText sum unit ++ bytes "</text></g>\n"
+sumText sum unit = bytes "</text><text x='940' y='36' text-anchor='end'>" ++ amountText sum unit
 
 -- the line below: how many intervals there are, and their length in minutes
 unfoldable pub lengthsText : ℕ → List ℕ
 lengthsText n =
-    numberIn (bytes "<text x='76' y='56'>") n (bytes " intervals of ")
+    numberIn (bytes "</text></g>\n<text x='76' y='56'>") n (bytes " intervals of ")
     ++ numberIn [] (shareOf 1440 n) (bytes " minutes</text><text x='940' y='56' text-anchor='end'>sum of the day</text>\n")
 
 unfoldable pub headText : List ℕ → List ℕ → List ℕ → ℕ → ℕ → ℕ → List ℕ

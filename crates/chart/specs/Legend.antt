@@ -1,34 +1,26 @@
 -- The legend below the plot: what each colour means, and how many intervals have it.
-use Prim.Native.Nat.{ℕ, _+_}
-use mathlib.Core.Bool.{cond}
+use Prim.Native.Nat.{ℕ}
 use mathlib.Core.List.{List, _++_}
 use lib.ListN.{take}
-use lib.Dec.{eqb}
 use Rattle.ground.specs.Text.{bytes}
 use Rattle.format.specs.Quality.{flagA, flagE, flagF, flagN, flagS}
 use Rattle.words.specs.Qualities.{qualityName}
-use Rattle.chart.specs.Gathered.{gathered}
+use Rattle.measures.specs.Counts.{countOf}
 use Rattle.chart.specs.Parts.{numberIn, colourText, bandText}
 
--- one more than k where x is the flag
-unfoldable pub counted : ℕ → ℕ → ℕ → ℕ
-counted flag k x = cond (eqb x flag) (k + 1) k
+-- a square as the quality's columns are
+unfoldable pub hatchText : ℕ → List ℕ
+hatchText flag = bytes "<rect width='14' height='14'" ++ bandText flag
 
--- how many of the first n are the flag
-unfoldable pub countOf : List ℕ → ℕ → ℕ → ℕ
-countOf flags n flag = gathered (counted flag) 0 (take n flags)
-
--- a square as the bars of the quality are, and hatched as its columns are
-unfoldable pub squareText : ℕ → List ℕ
-squareText flag = bytes "<rect width='14' height='14'" ++ colourText flag ++ bytes "<rect width='14' height='14'" ++ bandText flag
-
+-- what the quality is called, and how many intervals have it
 unfoldable pub namedText : ℕ → ℕ → List ℕ
 namedText flag count = bytes "<text x='21' y='11.5'>" ++ qualityName flag ++ numberIn (bytes ": ") count (bytes "</text></g>\n")
 
--- the entry of a quality at x, of the first n flags
+-- the entry of a quality at x, of the first n flags: a square as its bars are, that of its columns over it, its name and its count
 unfoldable pub entryText : List ℕ → ℕ → ℕ → ℕ → List ℕ
 entryText flags n x flag =
-    numberIn (bytes "<g transform='translate(") x (bytes " 42)'>") ++ squareText flag ++ namedText flag (countOf flags n flag)
+    numberIn (bytes "<g transform='translate(") x (bytes " 42)'><rect width='14' height='14'") ++ colourText flag ++ hatchText flag
+    ++ namedText flag (countOf flag (take n flags))
 
 -- actual, estimated and final substituted, far enough apart for counts of three digits
 unfoldable pub firstText : List ℕ → ℕ → List ℕ

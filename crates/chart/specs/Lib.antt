@@ -1,5 +1,3 @@
-pub mod Gathered
-pub mod Axis
 pub mod Parts
 pub mod Bars
 pub mod Frame

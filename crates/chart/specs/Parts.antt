@@ -7,6 +7,7 @@ use Rattle.ground.specs.Digits.{dec}
 use Rattle.ground.specs.Text.{bytes}
 use Rattle.format.specs.Block.{valueText}
 use Rattle.format.specs.Quality.{flagA, flagE, flagF, flagN, flagS}
+use Rattle.words.specs.Lists.{numbered}
 
 -- one of n equal shares, nothing of none
 unfoldable pub shareOf : ℕ → ℕ → ℕ
@@ -26,15 +27,17 @@ valueIn before v after = before ++ valueText v ++ after
 unfoldable pub amountText : ℕ → List ℕ → List ℕ
 amountText v unit = valueText v ++ bytes " " ++ unit
 
--- the colour of a quality, and the end of its rectangle: from dark to light actual, final substituted, substituted and estimated, so that they can be told apart
+-- the number of a quality's colour: actual, estimated, final substituted, substituted, any other
+unfoldable pub shadeOf : ℕ → ℕ
+shadeOf flag = cond (eqb flag flagA) 1 (cond (eqb flag flagE) 2 (cond (eqb flag flagF) 3 (cond (eqb flag flagS) 4 5)))
+
+-- the colours, each with the end of its rectangle: from dark to light actual, final substituted, substituted and estimated, so that they can be told apart
 -- without seeing colours, and in a grey print
+abbrev pub colours : List ℕ
+colours = bytes " fill='#0a4278'/>; fill='#f2b632'/>; fill='#d0590f'/>; fill='#35a79c'/>; fill='#767676'/>"
+
 unfoldable pub colourText : ℕ → List ℕ
-colourText flag =
-    cond (eqb flag flagA) (bytes " fill='#0a4278'/>")
-    (cond (eqb flag flagE) (bytes " fill='#f2b632'/>")
-    (cond (eqb flag flagF) (bytes " fill='#d0590f'/>")
-    (cond (eqb flag flagS) (bytes " fill='#35a79c'/>")
-    (bytes " fill='#767676'/>"))))
+colourText flag = numbered (shadeOf flag) colours
 
 -- what fills the whole height at an interval: a hatch where there is no data, else nothing
 unfoldable pub bandText : ℕ → List ℕ

@@ -1,18 +1,18 @@
 // What stands around the bars: titles, axes and grid.
-use super::axis::height;
-use super::axis::step_for;
-use super::axis::steps_for;
 use super::parts::amount;
 use super::parts::number_in;
 use super::parts::share;
 use super::parts::text_in;
 use super::parts::value_in;
+use measures::axis::height;
+use measures::axis::step_for;
+use measures::axis::steps_for;
 use page::texts::put;
 use phrase::times::clock;
 use phrase::times::date;
 ghost use Prim.Native.Nat.{_<_, _≤_};
 ghost use Rattle.page.specs.Filled.{Filled};
-ghost use Rattle.chart.specs.Axis.{stepsFor};
+ghost use Rattle.measures.specs.Axis.{stepsFor};
 ghost use Rattle.chart.specs.Frame.{opening as Frame·opening, titleText, sumText, lengthsText, headText, hourText, hoursText, stepText, linesText, valuesText, gridText, ending};
 
 // ---- above the plot
@@ -26,31 +26,24 @@ fn opening(page: &mut [u8], at: usize) -> usize
         b"<svg xmlns='http://www.w3.org/2000/svg' viewBox='0 0 960 480' width='960' height='480' font-family='system-ui,sans-serif' font-size='12' fill='#444'>\n\
         <defs><pattern id='null' width='5' height='5' patternUnits='userSpaceOnUse' patternTransform='rotate(45)'>\
         <rect width='5' height='5' fill='#f4f4f4'/><path d='M0 0v5' stroke='#999' stroke-width='2'/></pattern></defs>\n\
-        <rect width='960' height='480' fill='#fff'/>\n",
+        <rect width='960' height='480' fill='#fff'/>\n\
+        <g font-size='18' font-weight='600' fill='#111'><text x='76' y='36'>NMI ",
     )
 }
 
 fn title(page: &mut [u8], at: usize, nmi: &[u8], suffix: &[u8], on: u64) -> usize
     ensures { λ r. ⌜ Filled (now (page .entry)) at (titleText (now (nmi .entry)) (now (suffix .entry)) on) r (now (page .exit)) ⌝ }
 {
-    let p = text_in(
-        page,
-        at,
-        b"<g font-size='18' font-weight='600' fill='#111'><text x='76' y='36'>NMI ",
-        nmi,
-        b" &#183; suffix ",
-    );
-    let q = put(page, p, suffix);
-    let r = put(page, q, b" &#183; ");
-    date(page, r, on)
+    let p = text_in(page, at, nmi, b" &#183; suffix ", suffix);
+    let q = put(page, p, b" &#183; ");
+    date(page, q, on)
 }
 
 fn sum(page: &mut [u8], at: usize, total: u64, unit: &[u8]) -> usize
     ensures { λ r. ⌜ Filled (now (page .entry)) at (sumText total (now (unit .entry))) r (now (page .exit)) ⌝ }
 {
     let p = put(page, at, b"</text><text x='940' y='36' text-anchor='end'>");
-    let q = amount(page, p, total, unit);
-    put(page, q, b"</text></g>\n")
+    amount(page, p, total, unit)
 }
 
 fn lengths(page: &mut [u8], at: usize, n: usize) -> usize
@@ -59,7 +52,7 @@ fn lengths(page: &mut [u8], at: usize, n: usize) -> usize
     let p = number_in(
         page,
         at,
-        b"<text x='76' y='56'>",
+        b"</text></g>\n<text x='76' y='56'>",
         n as u64,
         b" intervals of ",
     );

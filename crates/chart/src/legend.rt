@@ -2,46 +2,18 @@
 use super::parts::band;
 use super::parts::colour;
 use super::parts::number_in;
+use measures::counts::count_of;
 use page::texts::put;
 use words::qualities::name;
-ghost use mathlib.Core.Path.{_≡_};
-ghost use Prim.Native.Nat.{_<_};
 ghost use Rattle.page.specs.Filled.{Filled};
-ghost use Rattle.chart.specs.Legend.{counted as Legend·counted, countOf, squareText, namedText, entryText, firstText, legendText};
+ghost use Rattle.chart.specs.Legend.{hatchText, namedText, entryText, firstText, legendText};
 
-fn counted(flag: u8, k: usize, x: u8) -> usize
-    requires { ⌜ k < 18446744073709551615 ⌝ }
-    ensures { λ r. ⌜ r ≡ Legend·counted flag k x ⌝ }
-{
-    if x == flag {
-        return k + 1;
-    }
-    k
-}
-
-// How many of the first n are the flag.
-pub fn count_of(flags: &[u8], n: usize, flag: u8) -> usize
-    ensures { λ r. ⌜ r ≡ countOf (now (flags .entry)) n flag ⌝ }
-{
-    let mut count: usize = 0;
-    let mut i: usize = 0;
-    while i < n {
-        if flags.len() <= i {
-            return count;
-        }
-        count = counted(flag, count, flags[i]);
-        i += 1;
-    }
-    count
-}
-
-fn square(page: &mut [u8], at: usize, flag: u8) -> usize
-    ensures { λ r. ⌜ Filled (now (page .entry)) at (squareText flag) r (now (page .exit)) ⌝ }
+// A square over the coloured one, as the quality's columns are.
+fn hatch(page: &mut [u8], at: usize, flag: u8) -> usize
+    ensures { λ r. ⌜ Filled (now (page .entry)) at (hatchText flag) r (now (page .exit)) ⌝ }
 {
     let p = put(page, at, b"<rect width='14' height='14'");
-    let q = colour(page, p, flag);
-    let r = put(page, q, b"<rect width='14' height='14'");
-    band(page, r, flag)
+    band(page, p, flag)
 }
 
 fn named(page: &mut [u8], at: usize, flag: u8, count: usize) -> usize
@@ -56,9 +28,16 @@ fn entry(page: &mut [u8], at: usize, flags: &[u8], n: usize, x: u64, flag: u8) -
     ensures { λ r. ⌜ Filled (now (page .entry)) at (entryText (now (flags .entry)) n x flag) r (now (page .exit)) ⌝ }
 {
     let count = count_of(flags, n, flag);
-    let p = number_in(page, at, b"<g transform='translate(", x, b" 42)'>");
-    let q = square(page, p, flag);
-    named(page, q, flag, count)
+    let p = number_in(
+        page,
+        at,
+        b"<g transform='translate(",
+        x,
+        b" 42)'><rect width='14' height='14'",
+    );
+    let q = colour(page, p, flag);
+    let r = hatch(page, q, flag);
+    named(page, r, flag, count)
 }
 
 fn first(page: &mut [u8], at: usize, flags: &[u8], n: usize) -> usize

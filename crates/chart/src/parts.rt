@@ -2,9 +2,10 @@
 use page::texts::number;
 use page::texts::put;
 use page::texts::value;
+use words::lists::text_at;
 ghost use mathlib.Core.Path.{_≡_};
 ghost use Rattle.page.specs.Filled.{Filled};
-ghost use Rattle.chart.specs.Parts.{shareOf, amountText, textIn, numberIn, valueIn, colourText, bandText};
+ghost use Rattle.chart.specs.Parts.{shareOf, amountText, textIn, numberIn, valueIn, shadeOf, colourText, bandText};
 
 // One of n equal shares, nothing of none.
 pub fn share(whole: u64, n: usize) -> u64
@@ -51,17 +52,26 @@ pub fn value_in(page: &mut [u8], at: usize, before: &[u8], v: u64, after: &[u8])
     put(page, q, after)
 }
 
+// The number of a quality's colour.
+fn shade(flag: u8) -> usize
+    ensures { λ r. ⌜ r ≡ shadeOf flag ⌝ }
+{
+    match flag {
+        65 => 1,
+        69 => 2,
+        70 => 3,
+        83 => 4,
+        _ => 5,
+    }
+}
+
 // The colour of a quality, and the end of its rectangle.
 pub fn colour(page: &mut [u8], at: usize, flag: u8) -> usize
     ensures { λ r. ⌜ Filled (now (page .entry)) at (colourText flag) r (now (page .exit)) ⌝ }
 {
-    match flag {
-        65 => put(page, at, b" fill='#0a4278'/>"),
-        69 => put(page, at, b" fill='#f2b632'/>"),
-        70 => put(page, at, b" fill='#d0590f'/>"),
-        83 => put(page, at, b" fill='#35a79c'/>"),
-        _ => put(page, at, b" fill='#767676'/>"),
-    }
+    let colours =
+        b" fill='#0a4278'/>; fill='#f2b632'/>; fill='#d0590f'/>; fill='#35a79c'/>; fill='#767676'/>";
+    put(page, at, text_at(colours, shade(flag)))
 }
 
 // What fills the whole height at an interval, and the end of its rectangle.

@@ -9,7 +9,7 @@ use Rattle.page.proofs.Filling.{filled-then, filled-as}
 use Rattle.phrase.specs.Phrases.{beside, cellText, dateText, rightText, pointText, blank}
 use Rattle.phrase.proofs.Chained.{filled-beside}
 use Rattle.listing.specs.Lines.{columns, countColumns, rowText}
-use Rattle.listing.specs.declared.counts.Counts.{Counts}
+use Rattle.measures.specs.declared.counts.Counts.{Counts}
 
 -- the last column
 one : (f : ℕ → List ℕ) {p₀ p₁ : List ℕ} {at i : ℕ} → Filled p₀ at (f at) i p₁ → Filled p₀ at (columns (f ∷ []) at) i p₁

@@ -3,7 +3,7 @@ use Prim.Native.Nat.{ℕ}
 use mathlib.Core.List.{List, [], _∷_, _++_}
 use Rattle.ground.specs.Text.{bytes}
 use Rattle.phrase.specs.Phrases.{dateText, cellText, rightText, pointText, beside}
-use Rattle.listing.specs.declared.counts.Counts.{Counts}
+use Rattle.measures.specs.declared.counts.Counts.{Counts}
 
 -- the columns of a line, each by the place that the line has come to, from place `at` on
 unfoldable pub columns : List (ℕ → List ℕ) → ℕ → List ℕ

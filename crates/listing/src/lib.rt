@@ -1,3 +1,2 @@
 // The days of a file as a table, a line for each day.
-pub mod counts;
 pub mod lines;

@@ -1,5 +1,5 @@
 // The table of days: its headings, and the line of a day.
-use super::counts::Counts;
+use measures::counts::Counts;
 use page::texts::put;
 use phrase::columns::cell;
 use phrase::columns::point;

@@ -1,5 +1,4 @@
 // nem chart: a day as a picture. The words are its own name, the command's, the file's, and which day it is.
-use chart::axis::most_of;
 use chart::bars::bar;
 use chart::frame::end;
 use chart::frame::grid;
@@ -15,6 +14,7 @@ use explain::refused::explained;
 use filling::read_noted;
 use format::Checked;
 use format::DayRead;
+use measures::axis::most_of;
 use outward::DONE;
 use outward::FAILED;
 use outward::REFUSED;

@@ -4,6 +4,9 @@ use borrow.Author.Needs.{needs}
 use Rattle.chart.proofs.bars.column.Statement.{statement}
 use Rattle.chart.proofs.bars.column.Tie as tie
 
+slice-aggregate-rect : tie.Need-slice-aggregate-rect
+slice-aggregate-rect c = search needs
+
 mul-share : tie.Need-mul-share
 mul-share c = search needs
 
@@ -29,6 +32,7 @@ pub column-spec : {M : Type 1} → statement M
 column-spec =
     tie.close
     (tie.spec
+    slice-aggregate-rect
     mul-share
     share-requires
     share-requires-2

@@ -3,7 +3,7 @@ use Prim.Native.Nat.{_-_}
 use native.Mathlib.Omega.{arith}
 use Rattle.chart.specs.Frame.{stepText}
 use Rattle.page.proofs.Listed.{Counted, counted-none, counted-more, counted-all, counted-kept}
-use Rattle.chart.proofs.Bounds.{steps-small}
+use Rattle.measures.proofs.Bounds.{steps-small}
 use Rattle.chart.proofs.Drawing.{lines-put}
 use borrow.Author.Needs.{needs}
 use Rattle.chart.proofs.frame.lines.Statement.{statement}

@@ -1,6 +1,6 @@
 -- `chart::frame::step` meets its contract. Assumes nothing.
 use native.Mathlib.Omega.{arith}
-use Rattle.chart.proofs.Bounds.{multiple-small}
+use Rattle.measures.proofs.Bounds.{multiple-small}
 use Rattle.chart.proofs.Drawing.{step-put}
 use borrow.Author.Needs.{needs}
 use Rattle.chart.proofs.frame.step.Statement.{statement}

@@ -14,12 +14,6 @@ put-requires c κs = search needs
 amount-requires : tie.Need-amount-requires
 amount-requires c κs = search needs
 
-slice-aggregate-put-2 : tie.Need-slice-aggregate-put-2
-slice-aggregate-put-2 c = search needs
-
-put-requires-2 : tie.Need-put-requires-2
-put-requires-2 c κs = search needs
-
 same-length : tie.Need-same-length
 same-length c = search needs
 
@@ -29,12 +23,4 @@ returns c = search filled-then
 
 pub sum-spec : {M : Type 1} → statement M
 sum-spec =
-    tie.close
-    (tie.spec
-    slice-aggregate-put
-    put-requires
-    amount-requires
-    slice-aggregate-put-2
-    put-requires-2
-    same-length
-    returns)
+    tie.close (tie.spec slice-aggregate-put put-requires amount-requires same-length returns)

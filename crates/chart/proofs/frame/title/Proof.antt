@@ -1,6 +1,6 @@
 -- `chart::frame::title` meets its contract. Assumes nothing.
 use Rattle.chart.specs.Frame.{titleText}
-use Rattle.phrase.proofs.Chained.{filled-four}
+use Rattle.page.proofs.Filling.{filled-then}
 use borrow.Author.Needs.{needs}
 use Rattle.chart.proofs.frame.title.Statement.{statement}
 use Rattle.chart.proofs.frame.title.Tie as tie
@@ -8,20 +8,14 @@ use Rattle.chart.proofs.frame.title.Tie as tie
 slice-aggregate-text-in : tie.Need-slice-aggregate-text-in
 slice-aggregate-text-in c = search needs
 
-slice-aggregate-text-in-2 : tie.Need-slice-aggregate-text-in-2
-slice-aggregate-text-in-2 c = search needs
-
 text-in-requires : tie.Need-text-in-requires
 text-in-requires c κs = search needs
-
-put-requires : tie.Need-put-requires
-put-requires c κs = search needs
 
 slice-aggregate-put : tie.Need-slice-aggregate-put
 slice-aggregate-put c = search needs
 
-put-requires-2 : tie.Need-put-requires-2
-put-requires-2 c κs = search needs
+put-requires : tie.Need-put-requires
+put-requires c κs = search needs
 
 date-requires : tie.Need-date-requires
 date-requires c κs = search needs
@@ -31,18 +25,16 @@ same-length c = search needs
 
 returns : tie.Need-returns
 unfolding titleText
-returns c = search filled-four
+returns c = search filled-then
 
 pub title-spec : {M : Type 1} → statement M
 title-spec =
     tie.close
     (tie.spec
     slice-aggregate-text-in
-    slice-aggregate-text-in-2
     text-in-requires
-    put-requires
     slice-aggregate-put
-    put-requires-2
+    put-requires
     date-requires
     same-length
     returns)

@@ -16,8 +16,11 @@ slice-aggregate-number-in-2 c = search needs
 number-in-requires : tie.Need-number-in-requires
 number-in-requires c κs = search needs
 
-square-requires : tie.Need-square-requires
-square-requires c κs = search needs
+colour-requires : tie.Need-colour-requires
+colour-requires c κs = search needs
+
+hatch-requires : tie.Need-hatch-requires
+hatch-requires c κs = search needs
 
 named-requires : tie.Need-named-requires
 named-requires c κs = search needs
@@ -36,7 +39,8 @@ entry-spec =
     slice-aggregate-number-in
     slice-aggregate-number-in-2
     number-in-requires
-    square-requires
+    colour-requires
+    hatch-requires
     named-requires
     same-length
     returns)
