@@ -1,6 +1,6 @@
 -- A date and a clock as the digits that they have. Assumes nothing.
-use Prim.Native.Nat.{ℕ, suc, _+_, _/_, _%_, _^_, _≤_, _<_}
-use mathlib.Core.Path.{_≡_, refl, ap, _∙_}
+use Prim.Native.Nat.{ℕ, suc, _+_, _/_, _%_, _≤_, _<_}
+use mathlib.Core.Path.{_≡_, ap, _∙_}
 use mathlib.Core.List.{List, [], _∷_, _++_, append-assoc}
 use native.Mathlib.Omega.{arith}
 use Rattle.ground.specs.Digits.{padded, width, dec}
@@ -38,9 +38,11 @@ module _ {p₀ p₁ : List ℕ} {at i : ℕ} where
       → Filled p₀ at (dayText d) i p₁
   unfolding dayText dateText twoBehind
   day-put d l h w =
-      rw (year-digits d l h,
-      two-of (d / 100 % 100) (d / 1000 % 10) (d / 100 % 10) (omega arith) (omega arith) (omega arith),
-      two-of (d % 100) (d / 10 % 10) (d % 10) (omega arith) (omega arith) (omega arith))
+      rw (
+        year-digits d l h,
+        two-of (d / 100 % 100) (d / 1000 % 10) (d / 100 % 10) (omega arith) (omega arith) (omega arith),
+        two-of (d % 100) (d / 10 % 10) (d % 10) (omega arith) (omega arith) (omega arith),
+      )
       w
 
   pub clock-put : (t : ℕ)
@@ -48,9 +50,11 @@ module _ {p₀ p₁ : List ℕ} {at i : ℕ} where
       → Filled p₀ at (clockText (t / 10000 % 100) (t / 100 % 100) ++ twoBehind 58 (t % 100)) i p₁
   unfolding clockText twoBehind
   clock-put t w =
-      rw (two-of (t / 10000 % 100) (t / 100000 % 10) (t / 10000 % 10) (omega arith) (omega arith) (omega arith),
-      two-of (t / 100 % 100) (t / 1000 % 10) (t / 100 % 10) (omega arith) (omega arith) (omega arith),
-      two-of (t % 100) (t / 10 % 10) (t % 10) (omega arith) (omega arith) (omega arith))
+      rw (
+        two-of (t / 10000 % 100) (t / 100000 % 10) (t / 10000 % 10) (omega arith) (omega arith) (omega arith),
+        two-of (t / 100 % 100) (t / 1000 % 10) (t / 100 % 10) (omega arith) (omega arith) (omega arith),
+        two-of (t % 100) (t / 10 % 10) (t % 10) (omega arith) (omega arith) (omega arith),
+      )
       w
 
 grouped : (a b c : List ℕ) → a ++ (b ++ 58 ∷ c) ≡ a ++ b ++ 58 ∷ [] ++ c

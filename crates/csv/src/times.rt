@@ -15,7 +15,7 @@ fn any_day(page: &mut [u8], at: usize, d: u64) -> usize
     put(page, p, b"T")
 }
 
-// 20031219 as 2003-12-19T, for a clock behind it. A year of four digits, which all are but in theory, is made as one text.
+// 20031219 as 2003-12-19T, for a clock behind it: as one text where the year has four digits, which is nearly always.
 pub fn day(page: &mut [u8], at: usize, d: u64) -> usize
     ensures { λ r. ⌜ Filled (now (page .entry)) at (dayText d) r (now (page .exit)) ⌝ }
 {

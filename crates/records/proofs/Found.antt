@@ -1,6 +1,6 @@
 -- The fields of a 250, each found behind the one before it. Assumes nothing.
 use Prim.Native.Nat.{ℕ, _+_, _≤_}
-use mathlib.Core.Path.{_≡_, refl, sym, ap, _∙_}
+use mathlib.Core.Path.{_≡_, sym, ap, _∙_}
 use mathlib.Core.List.{List}
 use native.Mathlib.Omega.{arith}
 use lib.ListN.{length}
@@ -11,7 +11,6 @@ use Rattle.lines.specs.Places.{Cut, Rest}
 use Rattle.lines.proofs.Cuts.{rest-here, rest-next, rest-on}
 use Rattle.records.specs.Reads.{Found, Stands, IsRead}
 use Rattle.records.specs.declared.reads.Place.{Place}
-use Rattle.records.specs.declared.reads.Read.{Read}
 
 module _ {s : List ℕ} where
   pub found-here : {a n from to next : ℕ} → Rest s (fields (part s a (length s))) a n from (length s) → Cut s from (length s) to next
