@@ -25,7 +25,7 @@ all-two : all isTwo (from (λ i. i) 0 100) ≡ true
 unfolding from twoText zeroText dec padded width widthFrom same
 all-two = refl
 
-two-digits : (n : ℕ) → n < 100 → twoText n ≡ digits n
+pub two-digits : (n : ℕ) → n < 100 → twoText n ≡ digits n
 two-digits n h = same-sound (twoText n) (digits n) (rw zero-add at (all-from isTwo (λ i. i) 0 100 n all-two h))
 
 module _ (m : ℕ) {p₀ p₁ : List ℕ} {at i : ℕ} where

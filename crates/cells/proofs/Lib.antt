@@ -1,2 +1,2 @@
 mod Doubling
-mod Clocks
+pub mod Clocks

@@ -1,1 +1,2 @@
 mod Rowed
+mod Timed

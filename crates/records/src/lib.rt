@@ -1,4 +1,6 @@
 // The records of a file and their fields, looked up for what is said of them.
+pub mod reads;
+
 use day::fields::skip;
 use day::walk::intervals_of;
 use lines::line_end;

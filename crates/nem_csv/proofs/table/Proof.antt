@@ -26,7 +26,7 @@ returns : tie.Need-returns
 returns c = search needs
 
 show-requires-2 : tie.Need-show-requires-2
-show-requires-2 c κs = (search is-accepted, search needs)
+show-requires-2 c κs = search needs
 
 same-length-2 : tie.Need-same-length-2
 same-length-2 c = search needs

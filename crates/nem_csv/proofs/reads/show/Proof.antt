@@ -3,15 +3,14 @@ use Prim.Native.Nat.{_-_}
 use mathlib.Core.Path.{_≡_}
 use lib.ListN.{length}
 use native.Mathlib.Omega.{arith}
-use Rattle.format.specs.File.{IsAccepted}
 use Rattle.channel.specs.Places.{ChannelAhead}
+use Rattle.channel.proofs.Find.{next-noted}
 use borrow.Author.Needs.{needs}
 use Rattle.nem_csv.proofs.reads.show.Statement.{statement}
 use Rattle.nem_csv.proofs.reads.show.Tie as tie
-use Rattle.nem_csv.proofs.reads.show.Reads as reads
 
 abbrev Inv-loop : tie.InvT-loop
-Inv-loop page₀ file channels at₀ from₀ k₀ page at from k = (length page ≡ length page₀) × IsAccepted file × ChannelAhead file k from
+Inv-loop page₀ file channels at₀ from₀ k₀ page at from k = (length page ≡ length page₀) × ChannelAhead file k from
 
 abbrev μ-loop : tie.MeasureT-loop
 μ-loop page₀ file channels at₀ from₀ k₀ page at from k = channels - k
@@ -22,8 +21,8 @@ heading-requires c κs = search needs
 loop-holds : tie.Need-loop-holds Inv-loop μ-loop
 loop-holds c = search needs
 
-total-noted-requires : tie.Need-total-noted-requires Inv-loop μ-loop
-total-noted-requires c κs = search needs
+find-channel-requires : tie.Need-find-channel-requires Inv-loop μ-loop
+find-channel-requires c κs = search needs
 
 placed-requires : tie.Need-placed-requires Inv-loop μ-loop
 placed-requires c κs = search needs
@@ -34,6 +33,9 @@ same-length c = search needs
 returns : tie.Need-returns Inv-loop μ-loop
 returns c = search needs
 
+behind-requires : tie.Need-behind-requires Inv-loop μ-loop
+behind-requires c κs = search needs
+
 add-k : tie.Need-add-k Inv-loop μ-loop
 add-k c = search needs
 
@@ -41,7 +43,7 @@ loop-less : tie.Need-loop-less Inv-loop μ-loop
 loop-less c = omega arith
 
 loop-again : tie.Need-loop-again Inv-loop μ-loop
-loop-again c = search needs
+loop-again c = (search needs, next-noted _ _ _ (c .before .before .before .before .before .before .before .find-channel .ensures .0) _ (c .behind .ensures))
 
 write-requires : tie.Need-write-requires Inv-loop μ-loop
 write-requires c κs = search needs
@@ -60,10 +62,11 @@ show-spec =
     μ-loop
     heading-requires
     loop-holds
-    total-noted-requires
+    find-channel-requires
     placed-requires
     same-length
     returns
+    behind-requires
     add-k
     loop-less
     loop-again
