@@ -39,7 +39,7 @@ pub fn write(page: &[u8], at: usize) -> u8 {
     FAILED
 }
 
-// The same to standard error, for what is no answer about a file.
+// The same to standard error, for what is not what was asked for: a refusal, say, where a table was.
 pub fn warn(page: &[u8], at: usize) {
     io::write_all(libc::STDERR_FILENO, part(page, 0, at));
 }
