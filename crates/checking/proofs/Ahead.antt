@@ -1,10 +1,11 @@
 -- From where a day and a channel are found, as the walk over the file notes it: what a record does to the counts of the state, it does to the days and
 -- the totals that are left. Assumes nothing.
-use Prim.Native.Nat.{ℕ, _+_, _-_, _≤_}
+use Prim.Native.Nat.{ℕ, suc, _+_, _-_, _≤_, _<_}
 use mathlib.Core.Path.{_≡_, refl, sym, _∙_, ap}
-use mathlib.Core.List.{List}
+use mathlib.Core.List.{List, _∷_}
 use mathlib.Core.Bool.{Bool, true, false, cond}
 use native.Mathlib.Omega.{arith}
+use native.Mathlib.Decide.{decLt}
 use lib.ListN.{length, drop}
 use lib.Dec.{eqb, leb}
 use borrow.Author.Tests.{eqb-true, eqb-false, leb-true}
@@ -14,11 +15,13 @@ use Rattle.format.specs.Records.{kindIn}
 use Rattle.format.specs.Order.{Due}
 use Rattle.format.specs.Faults.{faultOf}
 use Rattle.format.specs.File.{after}
-use Rattle.format.specs.Day.{daysOf}
+use Rattle.format.specs.Day.{DayRows, daysOf}
+use Rattle.format.specs.Total.{totalsFrom}
 use Rattle.format.specs.declared.Fault.the-variants.{Fine}
 use Rattle.passing.proofs.Fit.{fine-fit, head}
 use Rattle.passing.proofs.Counts.{isFirst, Counted, counted}
 use Rattle.lines.specs.Places.{LineEnd}
+use Rattle.lines.proofs.Ends.{line-more}
 use Rattle.lines.specs.declared.Found.{Found}
 use Rattle.record.proofs.Turns.{by-test}
 use Rattle.walker.specs.Handed.{recordAt}
@@ -31,13 +34,13 @@ use Rattle.order.specs.declared.Step.the-variants as step
 use Rattle.order.specs.State.{seen, goes, nextOf, stepAs}
 use Rattle.order.proofs.Next.{gone}
 use Rattle.follows.proofs.Expected.{is-first}
-use Rattle.day.specs.Places.{Heads, daysAt, DayAhead}
+use Rattle.day.specs.Places.{Heads, dayAt, daysAt, DayAhead}
 use Rattle.day.specs.declared.Under.{Under}
 use Rattle.day.proofs.Find.{no-heads}
 use Rattle.day.specs.declared.DayStart.{DayStart}
 use Rattle.day.proofs.Find as days
 use Rattle.channel.specs.Places.{totalsIn, totalsAt, ChannelAhead}
-use Rattle.checking.specs.Tour.{noUnder, firstDay, firstChannel, Ahead}
+use Rattle.checking.specs.Tour.{noUnder, firstDay, firstChannel, Ahead, ChannelsBefore}
 use Rattle.channel.specs.declared.ChannelStart.{ChannelStart}
 use Rattle.channel.proofs.Find as totals
 
@@ -114,13 +117,47 @@ module _ (file : List ℕ) (day channel at e : ℕ) (u v : Under) (st s : Due) (
           let w : s .channels ≡ st .channels = rw (i, j) at channels-now in
           rw w (totals.find-other file at e (channel - st .channels) l _ (a .totals (omega arith)) go refl (eqb-false k 200 i) (eqb-false k 250 j))
 
+  channels-on : length (totalsIn file) ≡ s .channels + length (totalsAt file (e + 2))
+  unfolding totalsFrom
+  channels-on = by (eqb k 200) refl (eqb k 250) refl
+    where
+      by : (b : Bool) → eqb k 200 ≡ b → (d : Bool) → eqb k 250 ≡ d → length (totalsIn file) ≡ s .channels + length (totalsAt file (e + 2))
+      by true i d j =
+          let w : s .channels ≡ st .channels + 1 = rw i at channels-now in
+          let z : length (totalsAt file at) ≡ suc (length (totalsAt file (e + 2))) = rw (line-more file at e l go, i) in
+          omega (arith, a .channels, w, z)
+      by false i true j =
+          let w : s .channels ≡ st .channels + 1 = rw (i, j) at channels-now in
+          let z : length (totalsAt file at) ≡ suc (length (totalsAt file (e + 2))) = rw (line-more file at e l go, i, j) in
+          omega (arith, a .channels, w, z)
+      by false i false j =
+          let w : s .channels ≡ st .channels = rw (i, j) at channels-now in
+          let z : length (totalsAt file at) ≡ length (totalsAt file (e + 2)) = rw (line-more file at e l go, i, j) in
+          omega (arith, a .channels, w, z)
+
   pub ahead-on : Ahead file day channel (e + 2) v s
   ahead-on =
       record {
         counts = rw (both .1) (counts-now .counts);
         days = days-on;
         totals = totals-on;
+        channels = channels-on;
       }
+
+  -- the channels before the day, once it is passed: where this record is its 300, those that the state has counted
+  pub before-on : (b : ℕ) → (st .days ≤ day → b ≡ st .channels) → (day < st .days → ChannelsBefore file day b) → day < s .days → ChannelsBefore file day b
+  before-on b here passed h = by (decLt day (st .days)) (eqb k 300) refl
+    where
+      by : Dec (day < st .days) → (t : Bool) → eqb k 300 ≡ t → ChannelsBefore file day b
+      by (yes p) t i = passed p
+      by (no p) false i = absurd (let w : s .days ≡ st .days = rw i at days-now in let o : ⊥ = omega arith in o)
+      by (no p) true i = λ x d ds q.
+          (let w : s .days ≡ st .days + 1 = rw i at days-now in
+          let z : b ≡ st .channels = here (omega arith) in
+          let f : dayAt file at e u ∷ daysAt file (e + 2) u ≡ d ∷ ds =
+          days.find-here file at e (day - st .days) u l (drop day (daysOf file)) (a .days (omega arith)) go refl (eqb-true k 300 i) (omega arith) ∙ q in
+          let m : at ≡ d .block .top .place = (let y : dayAt file at e u ≡ d = cc in ap (λ (x : DayRows). x .block .top .place) y) in
+          rw (z, ← m) (a .channels))
 
 -- ---- what is noted
 
@@ -131,6 +168,7 @@ ahead-first file day channel st d c =
       counts = record { none = λ h. (d, c) };
       days = λ h. (let q : day - st .days ≡ day = omega arith in rw q);
       totals = λ h. (let q : channel - st .channels ≡ channel = omega arith in rw q);
+      channels = omega arith;
     }
 
 module _ (file : List ℕ) (day channel at : ℕ) (u : Under) (st : Due) (within : at ≤ length file) (heads : Heads file u) (a : Ahead file day channel at u st) where
@@ -165,3 +203,8 @@ module _ (file : List ℕ) (day channel at : ℕ) (u v : Under) (st : State) (r 
   pub ahead-turn : v ≡ cond (eqb (s .expect) 2) (record { at = at; end = f .end }) u → Ahead file day channel (f .end + 2) v (seen file s)
   ahead-turn ev =
       ahead-on file day channel at (f .end) u v (seen file st) (seen file s) (handed-looked file at r is p f h .ends) (handed-inside file at r is p f h) a next-is (first-is ev)
+
+  pub before-turn : v ≡ cond (eqb (s .expect) 2) (record { at = at; end = f .end }) u → (b : ℕ) → (st .days ≤ day → b ≡ st .channels)
+      → (day < st .days → ChannelsBefore file day b) → day < s .days → ChannelsBefore file day b
+  before-turn ev =
+      before-on file day channel at (f .end) u v (seen file st) (seen file s) (handed-looked file at r is p f h .ends) (handed-inside file at r is p f h) a next-is (first-is ev)

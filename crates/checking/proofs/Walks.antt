@@ -1,16 +1,19 @@
 -- The walk over the file: what each way out of a turn answers, and the turn itself. Assumes nothing.
 use Prim.Native.Nat.{ℕ, _+_, _-_, _≤_, _<_}
 use mathlib.Core.Path.{_≡_, refl, sym, ap, _∙_}
+use mathlib.Core.Bool.{true, false, true≢false}
 use mathlib.Core.List.{List, [], _∷_}
 use native.Mathlib.Omega.{arith}
 use native.Mathlib.Decide.{decLt}
 use lib.ListN.{length, drop, length-drop}
-use lib.Seq.{drop-length}
-use borrow.Author.Tests.{ne-eqb, lt-ltb, le-ltb}
+use lib.Seq.{drop-nil, drop-length}
+use borrow.Author.Tests.{ne-eqb, le-leb, lt-leb, lt-ltb, le-ltb}
 use Rattle.ground.specs.Lists.{part}
-use Rattle.format.specs.Cut.{lines}
+use Rattle.format.specs.Cut.{Lines, line, rest, lines, fields}
+use Rattle.format.specs.Records.{kindIn}
 use Rattle.format.specs.Order.{Due}
 use Rattle.format.specs.Faults.{faultOf}
+use Rattle.format.specs.Day.{DayRows, daysFrom}
 use Rattle.format.specs.Answers.{Answer, accepted, refused, refusedAs, checkedAs}
 use Rattle.format.specs.declared.Refusal.{Refusal}
 use Rattle.format.specs.declared.Checked.the-variants.{Refused}
@@ -31,13 +34,15 @@ use Rattle.follows.specs.Tests.{expectedAs}
 use Rattle.order.specs.State.{seen, closed, Kept, Next, goes, stops, orStop, nextOf, stepAs, Holds}
 use Rattle.order.proofs.Next.{kept-on}
 use Rattle.follows.proofs.Expected.{is-end, not-end}
-use Rattle.day.specs.Places.{DayAhead}
+use Rattle.passing.proofs.Walk.{not-accepted, goes as goes-on}
+use Rattle.format.proofs.States.{not-ended}
+use Rattle.day.specs.Places.{channelAt, DayAhead}
 use Rattle.day.proofs.Find.{no-heads}
-use Rattle.channel.specs.Places.{ChannelAhead}
+use Rattle.channel.specs.Places.{totalsIn, totalsAt, ChannelAhead}
 use Rattle.checking.specs.declared.tour.Tour.{Tour}
 use Rattle.checking.specs.declared.tour.Noted.{Noted}
-use Rattle.checking.specs.Tour.{noUnder, firstDay, firstChannel, firstTour, Touring, underTo, turnedTo}
-use Rattle.checking.proofs.Ahead.{ahead-first, day-first, channel-first, under-turn, ahead-turn, day-noted, channel-noted}
+use Rattle.checking.specs.Tour.{noUnder, firstDay, firstChannel, firstTour, ChannelsBefore, Touring, underTo, turnedTo}
+use Rattle.checking.proofs.Ahead.{ahead-first, day-first, channel-first, under-turn, ahead-turn, before-turn, day-noted, channel-noted}
 
 -- ---- a file of at most 1,048,576 bytes
 
@@ -131,6 +136,8 @@ touring-first file day channel st t es et h =
       heads = no-heads file noUnder refl refl;
       ahead = ahead-first file day channel (seen file (closed 0 0 0 0 0 0 0)) refl refl;
       to-day = day-first file day;
+      here = λ z. refl;
+      passed = λ z. absurd (let o : ⊥ = omega arith in o);
       to-channel = channel-first file channel;
     })
 
@@ -162,6 +169,10 @@ module _ (file : List ℕ) (day channel : ℕ) (st : State) (t : Tour) (g : Tour
           heads = b;
           ahead = a;
           to-day = day-noted file day channel (f .end + 2) v (seen file s) room b a (t .day) _ (g .to-day) refl;
+          here = λ z. rw (le-leb (s .days) day z);
+          passed = λ z.
+              rw (lt-leb (s .days) day z)
+              (before-turn file day channel (t .at) (t .under) v st r is p f h w ew s q (g .ahead) refl (t .before) (g .here) (g .passed) z);
           to-channel = channel-noted file day channel (f .end + 2) v (seen file s) room b a (t .channel) _ (g .to-channel) refl;
         })
 
@@ -186,16 +197,35 @@ module _ (file : List ℕ) (day channel : ℕ) (st : State) (t : Tour) (g : Tour
   pub ended-all : t .at ≡ length file → accepted (st .version ∷ st .channels ∷ st .days ∷ []) ≡ checkOf file
   ended-all h = walk-end file (t .at) (t .records) st done (g .walked) _ _ _ h refl refl refl
 
+  -- where the file is accepted, no record is left, so a day that isn't passed is none
+  pub ended-before : (b : ℕ) → b ≡ t .before → ChannelsBefore file day b
+  unfolding daysFrom
+  ended-before b eb = by (decLt day (st .days))
+    where
+      by : Dec (day < st .days) → ChannelsBefore file day b
+      by (yes p) = rw eb (g .passed p)
+      by (no p) = λ a d ds q. go (lines (drop (t .at) file)) (sym (g .walked) ∙ a .1) (sym (g .ahead .days (omega arith)) ∙ q)
+        where
+          go : {xs : List ℕ} {d : DayRows} {ds : List DayRows} → (ls : Lines) → walkOf (seen file st) (t .at) (t .records) ls ≡ accepted xs
+              → drop (day - st .days) (daysFrom (t .at) (channelAt file (t .under)) ls) ≡ d ∷ ds → length (totalsIn file) ≡ b + length (totalsAt file (d .block .top .place))
+          go (rest z) k q = absurd (let w : _≡_ {A = List DayRows} [] (_ ∷ _) = (rw drop-nil at q) in let x : true ≡ false = cc in true≢false x)
+          go (line z ls) k q =
+              let w = goes-on (seen file st) (t .at) (t .records) z ls _ k in
+              absurd (true≢false (sym (is-end (st .expect) done) ∙ not-ended (seen file st .expect) (kindIn (fields z)) (w .fit .may)))
+
   pub ended-13 : (t .at ≡ length file → ⊥) → refused 13 (t .at) (t .records) 0 ≡ checkOf file
   ended-13 h = walk-13 file (t .at) (t .records) st done (g .walked) (g .within) h refl
 
 -- a refusal, and what is noted beside it
-module _ (file : List ℕ) (day channel : ℕ) (x : Refusal) (r : Noted) (er : r ≡ record { answer = Refused x; day = firstDay day; channel = firstChannel channel }) where
+module _ (file : List ℕ) (day channel : ℕ) (x : Refusal) (r : Noted) (er : r ≡ record { answer = Refused x; day = firstDay day; before = 0; channel = firstChannel channel }) where
   pub refused-answer : checkOf file ≡ refusedAs x → checkedAs (r .answer) ≡ checkOf file
   refused-answer h = ap (λ (z : Noted). checkedAs (z .answer)) er ∙ sym h
 
   pub refused-day : DayAhead file day (r .day)
   refused-day = rw er (day-first file day)
+
+  pub refused-before : checkOf file ≡ refusedAs x → ChannelsBefore file day (r .before)
+  refused-before h = λ a d ds q. not-accepted (x .number) (x .place) (x .«record») (x .field) (a .0) (sym h ∙ a .1)
 
   pub refused-channel : ChannelAhead file channel (r .channel)
   refused-channel = rw er (channel-first file channel)

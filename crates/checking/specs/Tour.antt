@@ -1,14 +1,14 @@
 -- The walk over the file as it stands before a record: what it has found so far, and from where the day and the channel that were asked for are found.
-use Prim.Native.Nat.{ℕ, _+_, _-_, _≤_}
+use Prim.Native.Nat.{ℕ, _+_, _-_, _≤_, _<_}
 use mathlib.Core.Path.{_≡_}
-use mathlib.Core.List.{List}
+use mathlib.Core.List.{List, _∷_}
 use mathlib.Core.Bool.{cond}
 use lib.ListN.{length, drop}
 use lib.Dec.{leb, eqb}
 use Rattle.format.specs.Cut.{lines}
 use Rattle.format.specs.Order.{Due}
-use Rattle.format.specs.File.{walkOf, most, checkOf}
-use Rattle.format.specs.Day.{daysOf}
+use Rattle.format.specs.File.{walkOf, most, checkOf, IsAccepted}
+use Rattle.format.specs.Day.{DayRows, daysOf}
 use Rattle.passing.specs.Passes.{Counts}
 use Rattle.order.specs.declared.State.{State}
 use Rattle.order.specs.State.{seen, Kept}
@@ -31,7 +31,7 @@ abbrev pub firstChannel : ℕ → ChannelStart
 firstChannel channel = record { at = 0; left = channel }
 
 abbrev pub firstTour : ℕ → ℕ → Tour
-firstTour day channel = record { at = 0; records = 0; under = noUnder; day = firstDay day; channel = firstChannel channel }
+firstTour day channel = record { at = 0; records = 0; under = noUnder; day = firstDay day; before = 0; channel = firstChannel channel }
 
 -- ---- before any record
 
@@ -40,6 +40,13 @@ pub record Ahead (file : List ℕ) (day channel at : ℕ) (u : Under) (st : Due)
   pub counts : Counts st
   pub days : st .days ≤ day → drop day (daysOf file) ≡ drop (day - st .days) (daysAt file at u)
   pub totals : st .channels ≤ channel → drop channel (totalsIn file) ≡ drop (channel - st .channels) (totalsAt file at)
+  pub channels : length (totalsIn file) ≡ st .channels + length (totalsAt file at)
+
+-- where the file is accepted and has a day of this number, so many channels stand before it
+abbrev pub ChannelsBefore : List ℕ → ℕ → ℕ → Type 0
+ChannelsBefore file day before =
+    IsAccepted file → (d : DayRows) (ds : List DayRows) → drop day (daysOf file) ≡ d ∷ ds
+    → length (totalsIn file) ≡ before + length (totalsAt file (d .block .top .place))
 
 -- the walk is on its way: what is left of the check is a walk from here, and what was noted is right
 pub record Touring (file : List ℕ) (day channel : ℕ) (st : State) (t : Tour) : Type 0 where
@@ -51,6 +58,8 @@ pub record Touring (file : List ℕ) (day channel : ℕ) (st : State) (t : Tour)
   pub heads : Heads file (t .under)
   pub ahead : Ahead file day channel (t .at) (t .under) (seen file st)
   pub to-day : DayAhead file day (t .day)
+  pub here : st .days ≤ day → t .before ≡ st .channels
+  pub passed : day < st .days → ChannelsBefore file day (t .before)
   pub to-channel : ChannelAhead file channel (t .channel)
 
 -- behind the record that went from the walk's place to e and left the state s: the last 200, and the walk at p
@@ -64,5 +73,6 @@ turnedTo t e p s day channel =
       records = t .records + 1;
       under = underTo t e s;
       day = cond (leb (s .days) day) (record { at = p; left = day - s .days; under = underTo t e s }) (t .day);
+      before = cond (leb (s .days) day) (s .channels) (t .before);
       channel = cond (leb (s .channels) channel) (record { at = p; left = channel - s .channels }) (t .channel);
     }

@@ -18,23 +18,25 @@ ghost use Rattle.format.specs.Answers.{refusedAs, checkedAs};
 ghost use Rattle.format.specs.File.{checkOf};
 ghost use Rattle.day.specs.Places.{DayAhead};
 ghost use Rattle.channel.specs.Places.{ChannelAhead};
-ghost use Rattle.checking.specs.Tour.{noUnder, firstDay, firstChannel, firstTour, Touring, turnedTo};
+ghost use Rattle.checking.specs.Tour.{noUnder, firstDay, firstChannel, firstTour, ChannelsBefore, Touring, turnedTo};
 ghost use Rattle.format.specs.declared.Checked.the-variants.{Refused};
 
 // The walk before a record, beside its state: where the record starts, how many are behind, the last 200, and from where the day and the channel that were
-// asked for are found.
+// asked for are found, with the channels before that day.
 pub struct Tour {
     pub at: usize,
     pub records: usize,
     pub under: Under,
     pub day: DayStart,
+    pub before: usize,
     pub channel: ChannelStart,
 }
 
-// What the check answers, and from where the day and the channel that were asked for are found.
+// What the check answers, from where the day and the channel that were asked for are found, and how many channels stand before the day.
 pub struct Noted {
     pub answer: Checked,
     pub day: DayStart,
+    pub before: usize,
     pub channel: ChannelStart,
 }
 
@@ -77,6 +79,16 @@ fn day_from(before: DayStart, day: usize, days: usize, at: usize, under: Under) 
     before
 }
 
+// The channels that stand before it.
+fn before_from(before: usize, day: usize, days: usize, channels: usize) -> usize
+    ensures { λ r. ⌜ r ≡ cond (leb days day) channels before ⌝ }
+{
+    if days <= day {
+        return channels;
+    }
+    before
+}
+
 fn channel_from(before: ChannelStart, channel: usize, channels: usize, at: usize) -> ChannelStart
     ensures { λ r. ⌜ r ≡ cond (leb channels channel) (record { at = at; left = channel - channels }) before ⌝ }
 {
@@ -109,6 +121,7 @@ impl Tour {
             records: 0,
             under: no_channel(),
             day: first_day(day),
+            before: 0,
             channel: first_channel(channel),
         }
     }
@@ -124,6 +137,7 @@ impl Tour {
             records: self.records + 1,
             under,
             day: day_from(self.day, day, s.days, behind, under),
+            before: before_from(self.before, day, s.days, s.channels),
             channel: channel_from(self.channel, channel, s.channels, behind),
         }
     }
@@ -162,11 +176,12 @@ fn place_of(number: u64, place: usize, record: usize, field: usize) -> Refusal
 
 // A refusal, with the day and the channel to be looked for from the start.
 fn refused(x: Refusal, day: usize, channel: usize) -> Noted
-    ensures { λ r. ⌜ r ≡ (record { answer = Refused x; day = firstDay day; channel = firstChannel channel }) ⌝ }
+    ensures { λ r. ⌜ r ≡ (record { answer = Refused x; day = firstDay day; before = 0; channel = firstChannel channel }) ⌝ }
 {
     Noted {
         answer: Checked::Refused(x),
         day: first_day(day),
+        before: 0,
         channel: first_channel(channel),
     }
 }
@@ -175,6 +190,7 @@ fn refused(x: Refusal, day: usize, channel: usize) -> Noted
 pub fn check_and_note(file: &[u8], day: usize, channel: usize) -> Noted
     ensures is { λ r. ⌜ checkedAs (r .answer) ≡ checkOf (now (file .entry)) ⌝ }
     ensures day { λ r. ⌜ DayAhead (now (file .entry)) day (r .day) ⌝ }
+    ensures before { λ r. ⌜ ChannelsBefore (now (file .entry)) day (r .before) ⌝ }
     ensures channel { λ r. ⌜ ChannelAhead (now (file .entry)) channel (r .channel) ⌝ }
 {
     if 1048576 < file.len() {
@@ -201,10 +217,12 @@ pub fn check_and_note(file: &[u8], day: usize, channel: usize) -> Noted
         }
     }
     let to_day = t.day;
+    let before = t.before;
     let to_channel = t.channel;
     Noted {
         answer: t.end(file, st, day, channel),
         day: to_day,
+        before,
         channel: to_channel,
     }
 }

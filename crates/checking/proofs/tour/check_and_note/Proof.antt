@@ -6,7 +6,7 @@ use borrow.Author.Needs.{needs}
 use Rattle.walker.proofs.Handed.{handed-looked, handed-room}
 use Rattle.order.proofs.Next.{stop-within}
 use Rattle.checking.specs.Tour.{Touring}
-use Rattle.checking.proofs.Walks.{too-long, touring-first, turned-2, turned-stop, turn-few, turn-less, turn-touring, refused-answer, refused-day, refused-channel}
+use Rattle.checking.proofs.Walks.{too-long, touring-first, turned-2, turned-stop, turn-few, turn-less, turn-touring, ended-before, refused-answer, refused-day, refused-before, refused-channel}
 use Rattle.checking.proofs.tour.check_and_note.Statement.{statement}
 use Rattle.checking.proofs.tour.check_and_note.Tie as tie
 
@@ -23,7 +23,7 @@ refused-requires : tie.Need-refused-requires Inv-loop μ-loop
 refused-requires c κs = search needs
 
 returns : tie.Need-returns Inv-loop μ-loop
-returns c = (search (refused-answer, too-long), (search refused-day, search refused-channel))
+returns c = (search (refused-answer, too-long), (search refused-day, (search (refused-before, too-long), search refused-channel)))
 
 new-requires : tie.Need-new-requires Inv-loop μ-loop
 new-requires c κs = search needs
@@ -50,7 +50,7 @@ refused-requires-2 : tie.Need-refused-requires-2 Inv-loop μ-loop
 refused-requires-2 c κs = search needs
 
 returns-2 : tie.Need-returns-2 Inv-loop μ-loop
-returns-2 c = (search (refused-answer, turned-2), (search refused-day, search refused-channel))
+returns-2 c = (search (refused-answer, turned-2), (search refused-day, (search (refused-before, turned-2), search refused-channel)))
 
 step-requires : tie.Need-step-requires Inv-loop μ-loop
 step-requires c κs = (search needs, search handed-looked)
@@ -72,7 +72,11 @@ returns-3 c = (
   refused-answer _ _ _ _ _ (c .refused3 .ensures)
       (turned-stop _ _ _ (c .before .before .before .before .before .before .before .before .before .before .before .before .loop .st) (c .before .before .before .before .before .before .before .before .before .before .before .before .loop .t) (c .before .before .before .before .before .before .before .before .before .before .before .before .loop .inv) (c .before .before .before .before .before .before .before .before .before .before .if2 .taken) _ (c .before .before .before .before .before .before .before .before .before .record-at .ensures) _ _ (c .before .before .before .before .before .before .before .handed .given .1) _ (c .before .before .before .before .before .step .ensures .0) _ _ _ (c .before .before .before .step2 .given .1) _
       (c .before .place-of2 .ensures)),
-  (search refused-day, search refused-channel),
+  (search refused-day,
+  (refused-before _ _ _ _ _ (c .refused3 .ensures)
+      (turned-stop _ _ _ (c .before .before .before .before .before .before .before .before .before .before .before .before .loop .st) (c .before .before .before .before .before .before .before .before .before .before .before .before .loop .t) (c .before .before .before .before .before .before .before .before .before .before .before .before .loop .inv) (c .before .before .before .before .before .before .before .before .before .before .if2 .taken) _ (c .before .before .before .before .before .before .before .before .before .record-at .ensures) _ _ (c .before .before .before .before .before .before .before .handed .given .1) _ (c .before .before .before .before .before .step .ensures .0) _ _ _ (c .before .before .before .step2 .given .1) _
+      (c .before .place-of2 .ensures)),
+  search refused-channel)),
 )
 
 enum-known-step-2 : tie.Need-enum-known-step-2 Inv-loop μ-loop
@@ -96,7 +100,7 @@ end-requires : tie.Need-end-requires Inv-loop μ-loop
 end-requires c κs = search needs
 
 returns-4 : tie.Need-returns-4 Inv-loop μ-loop
-returns-4 c = search needs
+returns-4 c = (search needs, (search needs, (search ended-before, search needs)))
 
 pub check-and-note-spec : {M : Type 1} → statement M
 check-and-note-spec =

@@ -12,12 +12,15 @@ add-t8 c = search needs
 day-from-requires : tie.Need-day-from-requires
 day-from-requires c κs = search needs
 
+before-from-requires : tie.Need-before-from-requires
+before-from-requires c κs = search needs
+
 channel-from-requires : tie.Need-channel-from-requires
 channel-from-requires c κs = search needs
 
 returns : tie.Need-returns
-returns c = rw (c .channel-from .ensures, c .before .day-from .ensures, c .before .before .before .under-from .ensures)
+returns c = rw (c .channel-from .ensures, c .before .before-from .ensures, c .before .before .day-from .ensures, c .before .before .before .before .under-from .ensures)
 
 pub turn-spec : {M : Type 1} → statement M
 turn-spec =
-    tie.close (tie.spec under-from-requires add-t8 day-from-requires channel-from-requires returns)
+    tie.close (tie.spec under-from-requires add-t8 day-from-requires before-from-requires channel-from-requires returns)
