@@ -84,12 +84,12 @@ pub heads-here : (file : List ℕ) (at e : ℕ) → LineEnd file at e → (u : U
 heads-here file at e l u ua ue = record { order = omega (arith, l .order); within = omega (arith, l .within) }
 
 pub room-behind : (file : List ℕ) (p : Place) (a e : ℕ) (u : Under) → p ≡ At a e u → inside file p → e + 2 ≤ length file
-room-behind file p a e u h i = let w : (a ≤ e) × (e + 2 ≤ length file) × Heads file u = rw h at i in w .1
+room-behind file p a e u h i = let w : (a ≤ e) × (e + 2 ≤ length file) × Heads file u × LineEnd file a e = rw h at i in w .1
 
 pub behind-day : (file : List ℕ) (p : Place) (a e : ℕ) (u : Under) → p ≡ At a e u → inside file p → (r : DayStart) → r .at ≡ e + 2 → r .left ≡ 0 → r .under ≡ u
     → Behind file p r
 behind-day file p a e u h i r ra rl ru =
-    let w : (a ≤ e) × (e + 2 ≤ length file) × Heads file u = rw h at i in
+    let w : (a ≤ e) × (e + 2 ≤ length file) × Heads file u × LineEnd file a e = rw h at i in
     record { within = rw ra (w .1); heads = rw ru (w .2); is = rw (h, ra, rl, ru) }
 
 pub behind-none : (file : List ℕ) (p : Place) → p ≡ Missing → (r : DayStart) → r .at ≡ length file → r .left ≡ 0 → Heads file (r .under) → Behind file p r
@@ -98,7 +98,7 @@ behind-none file p h r ra rl u = record { within = omega arith; heads = u; is = 
 
 -- the 300 of a day that was found, and its 200
 module _ (file : List ℕ) (p : Place) (a e : ℕ) (u : Under) (h : p ≡ At a e u) (i : inside file p) where
-  found : (a ≤ e) × (e + 2 ≤ length file) × Heads file u
+  found : (a ≤ e) × (e + 2 ≤ length file) × Heads file u × LineEnd file a e
   found = rw h at i
 
   pub day-order : a ≤ e
@@ -109,6 +109,9 @@ module _ (file : List ℕ) (p : Place) (a e : ℕ) (u : Under) (h : p ≡ At a e
 
   pub heads-found : Heads file u
   heads-found = found .2
+
+  pub line-found : LineEnd file a e
+  line-found = found .3
 
   pub under-order : u .at ≤ u .end
   under-order = heads-found .order

@@ -6,6 +6,7 @@ use lib.ListN.{length, drop}
 use Rattle.ground.specs.Lists.{part}
 use Rattle.format.specs.Cut.{lines, field}
 use Rattle.format.specs.Records.{intervalsIn, unitIn, millionths}
+use Rattle.lines.specs.Places.{LineEnd}
 use Rattle.format.specs.Day.{Row, rowAt, BlockRows, DayRows, runsFrom, daysFrom, daysOf}
 use Rattle.day.specs.declared.DayStart.{DayStart}
 use Rattle.day.specs.declared.Under.{Under}
@@ -55,7 +56,7 @@ located file (At a e u) = dayAt file a e u ∷ daysAt file (e + 2) u
 located file Missing = []
 
 abbrev pub inside : List ℕ → Place → Type 0
-inside file (At a e u) = (a ≤ e) × (e + 2 ≤ length file) × Heads file u
+inside file (At a e u) = (a ≤ e) × (e + 2 ≤ length file) × Heads file u × LineEnd file a e
 inside file Missing = Unit
 
 -- and the day behind it is found from there

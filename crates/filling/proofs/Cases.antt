@@ -14,12 +14,13 @@ use Rattle.format.specs.Answers.{Answer, refusal}
 use Rattle.format.specs.Day.{DayRows, daysOf, Five, outcome, enoughFor, roomFor, readInto, readFirst, readOf}
 use Rattle.passing.specs.Sound.{isSound, areSound}
 use Rattle.passing.proofs.Days.{checked-days}
-use Rattle.day.specs.Places.{blockAt, Heads, dayAt, DayAhead, located, inside, Behind}
+use Rattle.day.specs.Places.{blockAt, dayAt, DayAhead, located, inside, Behind}
 use Rattle.format.specs.File.{IsAccepted}
 use Rattle.day.specs.declared.Under.{Under}
 use Rattle.day.specs.declared.DayStart.{DayStart}
 use Rattle.day.specs.declared.Place.{Place}
 use Rattle.day.specs.declared.Place.the-variants.{At, Missing}
+use Rattle.day.proofs.Find.{room-behind, day-order}
 use Rattle.filling.specs.Fillable.{Here, Fillable, dayInto}
 
 module _ (file : List ℕ) (a e n unit : ℕ) (vs : List ℕ) (ms : Five) {b : Bool} (eb : b ≡ roomFor n vs ms) where
@@ -57,9 +58,8 @@ module _ (file : List ℕ) (p : Place) where
   pub day-here : (a e n unit : ℕ) (u : Under) → p ≡ At a e u → n ≡ intervalsIn (fields (part file (u .at) (u .end))) → unit ≡ unitIn (fields (part file (u .at) (u .end)))
       → inside file p → areSound (located file p) ≡ true → Here file a e n unit
   day-here a e n unit u h en eu i s =
-      let w : (a ≤ e) × (e + 2 ≤ length file) × Heads file u = rw h at i in
       let t : areSound (located file (At a e u)) ≡ true = rw h at s in
-      record { order = w .0; within = w .1; sound = rw (en, eu) (and-true (isSound (dayAt file a e u .block)) _ t .0) }
+      record { order = day-order file p a e u h i; within = room-behind file p a e u h i; sound = rw (en, eu) (and-true (isSound (dayAt file a e u .block)) _ t .0) }
 
   module _ (vs : List ℕ) (ms : Five) where
     pub day-missing : (r : Answer) → p ≡ Missing → r ≡ refusal 14 → outcome r vs ms ≡ readFirst (located file p) vs ms

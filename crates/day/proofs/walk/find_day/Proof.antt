@@ -33,7 +33,7 @@ kind-at-requires : tie.Need-kind-at-requires Inv-loop μ-loop
 kind-at-requires c κs = search needs
 
 returns-2 : tie.Need-returns-2 Inv-loop μ-loop
-returns-2 c = (search finds, (search needs, search line-room, search needs))
+returns-2 c = (search finds, (search needs, search line-room, search needs, search needs))
 
 sub-left : tie.Need-sub-left Inv-loop μ-loop
 sub-left c = omega arith
