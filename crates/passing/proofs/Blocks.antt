@@ -81,7 +81,7 @@ under-kept st end (line r ls) b h =
 -- ---- what a reading finds
 
 -- no other day under the 300
-under-none : (p : ℕ) (c : Row) (ls : Lines) → areUnder (kindsOf ls) ≡ true → daysFrom p c ls ≡ []
+pub under-none : (p : ℕ) (c : Row) (ls : Lines) → areUnder (kindsOf ls) ≡ true → daysFrom p c ls ≡ []
 unfolding daysFrom
 under-none p c (rest t) b = refl
 under-none p c (line r ls) b =

@@ -1,15 +1,18 @@
 -- Bytes one behind the other: where the first are passed without a fault, the check of the whole, and the reading of its days, go on with what is
 -- behind them. Assumes nothing.
-use Prim.Native.Nat.{ℕ, suc, _+_}
+use Prim.Native.Nat.{ℕ, suc, _+_, _≤_}
 use mathlib.Core.Path.{_≡_, refl, sym, ap, ap₂, _∙_, subst}
-use mathlib.Core.Bool.{true, false, cond}
-use mathlib.Core.List.{List, [], _∷_, _++_}
+use mathlib.Core.Bool.{true, false, cond, _&&_}
+use mathlib.Core.List.{List, [], _∷_, _++_, append-assoc}
 use native.Mathlib.Omega.{arith}
 use lib.ListN.{length, drop, length-append}
 use lib.Seq.{drop-at}
-use lib.Dec.{eqb}
-use borrow.Author.Tests.{eqb-true, eqb-false}
+use lib.Dec.{eqb, leb}
+use borrow.Author.Tests.{eqb-true, eqb-false, ne-eqb, leb-true}
+use Rattle.ground.specs.Lists.{all}
+use Rattle.ground.proofs.Tests.{and-true}
 use Rattle.ground.proofs.Cases.{by}
+use Rattle.format.specs.Bytes.{plain}
 use Rattle.format.specs.Cut.{isCrlf, Lines, line, rest, onFirst, lines, fields}
 use Rattle.format.specs.Records.{kindIn, intervalsIn}
 use Rattle.format.specs.Order.{mayCome, isEnd, Due, begun}
@@ -65,6 +68,34 @@ passes-append a e f x y h k = subst (λ (ls : Lines). Passes a ls f) (sym (lines
     go : (a : Due) (ls : Lines) → Passes a ls e → Passes a (onto ls (lines y)) f
     go a (rest t) h = subst (λ (s : Due). Passes s (lines y) f) (sym (h .1)) k
     go a (line r ls) h = (h .0, go (after a r) ls (h .1))
+
+-- ---- records
+
+cr-free : (b d : ℕ) → plain b ≡ true → isCrlf b d ≡ false
+cr-free b d h =
+    let k : 32 ≤ b = leb-true 32 b (and-true (leb 32 b) (leb b 126) h .0) in
+    rw (ne-eqb b 13 (λ e. omega arith))
+
+-- a record of plain bytes, and CR LF
+pub lines-row : (r t : List ℕ) → all plain r ≡ true → lines (r ++ 13 ∷ 10 ∷ t) ≡ line r (lines t)
+unfolding lines
+lines-row [] t h = refl
+lines-row (b ∷ []) t h = rw (cr-free b 13 (and-true (plain b) true h .0))
+lines-row (b ∷ d ∷ r) t h =
+    let w = and-true (plain b) (plain d && all plain r) h in
+    rw (cr-free b d (w .0), lines-row (d ∷ r) t (w .1))
+
+-- what is passed, put together, is cut again
+pub lines-passed : (a e : Due) (ls : Lines) → Passes a ls e → lines (bytesOf ls) ≡ ls
+unfolding lines
+lines-passed a e (rest t) h = rw (h .0)
+lines-passed a e (line r ls) h = lines-row r (bytesOf ls) (fine-fit a r (h .0) .bytes) ∙ ap (line r) (lines-passed (after a r) e ls (h .1))
+
+-- the bytes of what is passed, and of what is behind it
+pub bytes-onto : (a e : Due) (ls m : Lines) → Passes a ls e → bytesOf (onto ls m) ≡ bytesOf ls ++ bytesOf m
+bytes-onto a e (rest t) m h = rw (h .0)
+bytes-onto a e (line r ls) m h =
+    ap (λ (l : List ℕ). r ++ 13 ∷ 10 ∷ l) (bytes-onto (after a r) e ls m (h .1)) ∙ sym (append-assoc r (13 ∷ 10 ∷ bytesOf ls) (bytesOf m))
 
 -- ---- the check
 

@@ -8,3 +8,4 @@ pub mod Files
 pub mod Blocks
 pub mod Alone
 pub mod Refused
+pub mod Parts

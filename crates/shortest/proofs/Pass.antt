@@ -20,9 +20,9 @@ use Rattle.format.proofs.States.{implied}
 use Rattle.passing.specs.Passes.{Passes, kindsOf, areUnder, isBlock, Free, Accepted}
 use Rattle.passing.proofs.Fit.{Ok, fit-fine, free-if, free-400}
 use Rattle.passing.proofs.Steps.{blockFound, days-more}
+use Rattle.passing.proofs.Files.{lines-row}
 use Rattle.theorems.specs.Grammar.{Each, Record, join, text, IsRecord, Block, Covers, Extra, IsBlock}
 use Rattle.theorems.specs.Days.{recordAt, rowsAt, rowsOf, blockAt, dayIn, meant}
-use Rattle.theorems.proofs.Bytes.{lines-row}
 use Rattle.theorems.proofs.Rows.{Fields, record-fields, record-ok}
 use Rattle.theorems.proofs.Says.{date-some, day-on}
 use Rattle.theorems.proofs.Meaning.{day-anywhere}

@@ -24,9 +24,9 @@ use Rattle.format.specs.File.{checkOf}
 use Rattle.format.specs.Day.{daysOf, Day}
 use Rattle.format.proofs.Cut.{bytesOf, bytes-lines}
 use Rattle.passing.proofs.Walk.{file-passes}
+use Rattle.passing.proofs.Files.{lines-row}
 use Rattle.theorems.specs.Grammar.{Each, Record, join, text, IsRecord, Block, IsBlock, Channel, IsChannel, Content, nem12, nem13, IsContent, contentThen, channelsIn, daysIn, InFormat}
 use Rattle.theorems.specs.Days.{rowsOf, dayIn, meant, meanings, ReadsAs, around}
-use Rattle.theorems.proofs.Bytes.{lines-row}
 use Rattle.theorems.proofs.Rows.{Fields, record-fields}
 use Rattle.theorems.proofs.Takes.{fields-of}
 use Rattle.theorems.proofs.Format.{format}

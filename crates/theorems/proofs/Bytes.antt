@@ -1,18 +1,18 @@
--- Records and fields, written out and cut again, are the same; and fields that were cut, written out, are the same. Assumes nothing.
-use Prim.Native.Nat.{ℕ, _≤_}
+-- Fields, written out and cut again, are the same; and fields that were cut, written out, are the same. Assumes nothing.
+use Prim.Native.Nat.{ℕ}
 use mathlib.Core.Path.{_≡_, refl, ap, _∙_}
-use mathlib.Core.Bool.{true, false, true≢false, _&&_}
+use mathlib.Core.Bool.{true, false, true≢false}
 use mathlib.Core.List.{List, [], _∷_, _++_}
 use native.Mathlib.Omega.{arith}
-use lib.Dec.{eqb, leb}
-use borrow.Author.Tests.{eqb-true, ne-eqb, le-leb, leb-true}
+use lib.Dec.{eqb}
+use borrow.Author.Tests.{eqb-true, ne-eqb, le-leb}
 use Rattle.ground.specs.Lists.{all, other}
 use Rattle.ground.specs.Digits.{isDigit}
 use Rattle.ground.proofs.Tests.{and-true}
 use Rattle.ground.proofs.Cases.{by, both}
 use Rattle.ground.proofs.Digits.{all-append, all-map, digit-range}
 use Rattle.format.specs.Bytes.{plain, fieldByte}
-use Rattle.format.specs.Cut.{isCrlf, line, lines, fields}
+use Rattle.format.specs.Cut.{fields}
 use Rattle.theorems.specs.Grammar.{Each, join}
 
 -- ---- fields
@@ -108,19 +108,3 @@ fields-bytes (b ∷ bs) h =
         by (other 44 b)
         (λ e. rw (e, w .2) (both (fieldByte b) (all fieldByte (w .0)) (both (plain b) (other 44 b) p e) (i .0), i .1))
         (λ e. rw e (refl, ih))
-
--- ---- records
-
-cr-free : (b d : ℕ) → plain b ≡ true → isCrlf b d ≡ false
-cr-free b d h =
-    let k : 32 ≤ b = leb-true 32 b (and-true (leb 32 b) (leb b 126) h .0) in
-    rw (ne-eqb b 13 (λ e. omega arith))
-
--- a record of plain bytes, and CR LF
-pub lines-row : (r t : List ℕ) → all plain r ≡ true → lines (r ++ 13 ∷ 10 ∷ t) ≡ line r (lines t)
-unfolding lines
-lines-row [] t h = refl
-lines-row (b ∷ []) t h = rw (cr-free b 13 (and-true (plain b) true h .0))
-lines-row (b ∷ d ∷ r) t h =
-    let w = and-true (plain b) (plain d && all plain r) h in
-    rw (cr-free b d (w .0), lines-row (d ∷ r) t (w .1))

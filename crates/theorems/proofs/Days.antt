@@ -12,9 +12,9 @@ use Rattle.format.specs.Cut.{line, lines, fields}
 use Rattle.format.specs.Records.{unitIn, decimalsIn, intervalsIn, dateIn, valuesIn, quantityIn}
 use Rattle.format.specs.Day.{Row, DayRows, runsFrom, daysFrom, noChannel, daysOf}
 use Rattle.format.specs.Total.{sumFrom, totalsFrom}
+use Rattle.passing.proofs.Files.{lines-row}
 use Rattle.theorems.specs.Grammar.{Each, Record, join, text, IsRecord, Block, Extra, IsBlock, Channel, IsChannel, Reading, IsReading, Content, nem12, nem13, IsContent, blocksThen, channelsThen, readingsThen, contentThen, InFormat}
 use Rattle.theorems.specs.Days.{behind, recordAt, rowsAt, blockDays, behindBlocks, channelDays, contentDays, blockValues, channelValues, readingValues, totals}
-use Rattle.theorems.proofs.Bytes.{lines-row}
 use Rattle.theorems.proofs.Rows.{record-fields}
 use Rattle.theorems.proofs.Takes.{fields-of}
 

@@ -20,12 +20,12 @@ use Rattle.format.specs.declared.Fault.the-variants.{Stop}
 use Rattle.format.proofs.States.{implied}
 use Rattle.passing.proofs.Fit.{Fit, fit-cover, free-of, Head, h100, h200, h300, h400, h500, h250, h550, h900, head}
 use Rattle.passing.proofs.Walk.{goes}
+use Rattle.passing.proofs.Files.{lines-row}
 use Rattle.theorems.specs.Grammar.{join, text, InFormatUpTo}
 use Rattle.theorems.specs.Places.{placeOf, past, stateIn, stateAt}
 use Rattle.theorems.specs.First.{Entry, entry3, entry10, entry4, entry5, entry6, entry7, entry8, entry9, entry11, entry12, inOrder, Never, First}
 use Rattle.theorems.specs.Beginnings.{MayFollow, KindMayFollow, bytesBefore, HasRecord, LastDate, CoverDone, NoneLeft}
 use Rattle.theorems.proofs.Cuts.{AllUncut, all-uncut, lines-again, lines-cut}
-use Rattle.theorems.proofs.Bytes.{lines-row}
 use Rattle.theorems.proofs.Says.{date-most}
 use Rattle.theorems.proofs.Takes.{fields-of, takes-file}
 use Rattle.theorems.proofs.Told.{fit-300}

@@ -9,10 +9,10 @@ use Rattle.format.specs.Cut.{Lines, line, rest, lines, fields}
 use Rattle.format.specs.Records.{Scale, scale, kindIn, versionIn, unitIn, decimalsIn, intervalsIn, dateIn, rowOf, countOf}
 use Rattle.format.specs.Day.{eachOf, valuesOf, Day, marksOf, dayOf}
 use Rattle.passing.proofs.Days.{count-300}
+use Rattle.passing.proofs.Files.{lines-row}
 use Rattle.theorems.specs.Grammar.{Each, Record, join, text, IsRecord, Block, IsBlock, Channel, IsChannel, Reading, IsReading, Content, nem12, nem13, IsContent, blocksThen, channelsThen, readingsThen, contentThen, InFormat}
 use Rattle.theorems.specs.Days.{dayIn, inUnit, ReadsAs}
 use Rattle.theorems.proofs.Lists.{each-append}
-use Rattle.theorems.proofs.Bytes.{lines-row}
 use Rattle.theorems.proofs.Rows.{Fields, record-fields, meets-length}
 use Rattle.theorems.proofs.Takes.{fields-of}
 use Rattle.theorems.proofs.Days.{extras-500}

@@ -18,8 +18,9 @@ use Rattle.format.specs.Answers.{accepted}
 use Rattle.format.specs.File.{walkOf}
 use Rattle.format.proofs.States.{implied, excluded, not-ended}
 use Rattle.passing.proofs.Fit.{Ok, Fit, fit-fine, free-if, free-400}
+use Rattle.passing.proofs.Files.{lines-row}
 use Rattle.theorems.specs.Grammar.{Each, Rising, Record, join, text, IsRecord, Block, Covers, Extra, IsBlock, datesOf, Channel, IsChannel, Reading, IsReading, Content, nem12, nem13, IsContent, blocksThen, channelsThen, readingsThen, contentThen, channelsIn, blocksIn, daysIn, InFormatUpTo}
-use Rattle.theorems.proofs.Bytes.{fields-join, plain-join, lines-row}
+use Rattle.theorems.proofs.Bytes.{fields-join, plain-join}
 use Rattle.theorems.proofs.Rows.{Fields, scale-other, record-fields, record-ok}
 use Rattle.theorems.proofs.Says.{date-some, day-on}
 use Rattle.theorems.proofs.Apart.{Apart, apart-on, end-apart, marked-end}
