@@ -1,8 +1,8 @@
 -- A record has no fault exactly when each test passes; and the kinds of records by what may come. Assumes nothing.
-use Prim.Native.Nat.{ℕ, _≤_, _<_}
+use Prim.Native.Nat.{ℕ, zero, suc, _+_, _≤_, _<_}
 use mathlib.Core.Path.{_≡_, sym, _∙_, subst}
 use mathlib.Core.Bool.{true, false, true≢false, not, _&&_}
-use mathlib.Core.List.{List}
+use mathlib.Core.List.{List, [], _∷_}
 use native.Mathlib.Omega.{arith}
 use lib.ListN.{length}
 use lib.Dec.{eqb, leb}
@@ -12,18 +12,33 @@ use Rattle.ground.proofs.Tests.{and-true}
 use Rattle.ground.proofs.Cases.{by}
 use Rattle.ground.proofs.Spans.{span-le, all-span, spanned-all}
 use Rattle.format.specs.Bytes.{plain}
-use Rattle.format.specs.Cut.{fields}
-use Rattle.format.specs.Records.{Scale, kindIn, countOf, dateIn, firstIn, lastIn}
+use Rattle.format.specs.Cut.{fields, field}
+use Rattle.format.specs.Records.{Scale, kindIn, countOf, ruleOf, obeys, dateIn, firstIn, lastIn}
 use Rattle.format.specs.Order.{Expected, mayCome, inVaried, Due}
 use Rattle.format.specs.Faults.{_▹_, f3, isOpen, f10, f4, scaleOf, f5, faultIn, f6, f7, isNotLater, f8, covers, isOff, f9, isAlike, f11, isElsewhere, f12, faultAt, faultOf}
 use Rattle.format.specs.declared.Fault.{Fault}
-use Rattle.format.specs.declared.Fault.the-variants.{Fine}
+use Rattle.format.specs.declared.Fault.the-variants.{Fine, Stop}
 use Rattle.format.proofs.States.{no-kind}
 use Rattle.format.proofs.Faults.{both-fine, stop-fine}
 
 -- what 5, 6 and 7 ask of the fields of a record of the kind k, whose rules are made from z
 abbrev pub Ok : ℕ → Scale → List (List ℕ) → Type 0
 Ok k z fs = (length fs ≡ countOf k z) × (faultIn k z 0 0 fs ≡ Fine) × (f7 k (z .n) fs ≡ Fine)
+
+-- each field meets its rule
+module _ (k : ℕ) (z : Scale) where
+  fine-first : (o a : ℕ) (f : List ℕ) (fs : List (List ℕ)) → faultIn k z o a (f ∷ fs) ≡ Fine
+      → (obeys k (ruleOf k z a) f ≡ true) × (faultIn k z (o + length f + 1) (a + 1) fs ≡ Fine)
+  unfolding faultIn
+  fine-first o a f fs e =
+      by (obeys k (ruleOf k z a) f) (λ t. (t, rw t at e)) (λ t. absurd (let y : Stop 6 o (a + 1) ≡ Fine = (rw t at e) in let z : true ≡ false = cc in true≢false z))
+
+  pub fine-unbroken : (o a : ℕ) (fs : List (List ℕ)) → faultIn k z o a fs ≡ Fine → (j : ℕ) → j < length fs → obeys k (ruleOf k z (a + j)) (field j fs) ≡ true
+  fine-unbroken o a [] e j h = absurd (let z : ⊥ = omega arith in z)
+  fine-unbroken o a (f ∷ fs) e zero h = let z : a + 0 ≡ a = omega arith in rw z (fine-first o a f fs e .0)
+  fine-unbroken o a (f ∷ fs) e (suc j) h =
+      let z : a + suc j ≡ a + 1 + j = omega arith in
+      rw z (fine-unbroken (o + length f + 1) (a + 1) fs (fine-first o a f fs e .1) j (omega arith))
 
 -- ---- a record without a fault
 

@@ -20,6 +20,7 @@ use Rattle.format.specs.Order.{mayCome, inVaried, Due, alikeWith}
 use Rattle.format.specs.Faults.{_▹_, stop, f3, isOpen, f10, f4, scaleOf, f5, faultIn, f6, brokenIn, f7, isNotLater, f8, covers, isOff, f9, isAlike, f11, onDay, isElsewhere, f12, faultAt, faultOf}
 use Rattle.format.specs.declared.Fault.{Fault}
 use Rattle.format.specs.declared.Fault.the-variants.{Fine, Stop}
+use Rattle.passing.proofs.Fit.{fine-unbroken}
 use Rattle.theorems.specs.Grammar.{Record, Together}
 use Rattle.theorems.specs.First.{Entry, Leftmost, entry3, entry10, entry4, entry5, entry6, entry7, entry8, entry9, entry11, entry12, inOrder, Never, None, First}
 use Rattle.theorems.proofs.Ends.{all-at}
@@ -175,18 +176,6 @@ module _ (k : ℕ) (z : Scale) where
       let ei : i ≡ a + 1 = cc in
       (ex, 0, record { inside = omega arith; broken = rw z t; before = λ l h. absurd (let u : ⊥ = omega arith in u) }, omega arith, omega arith))
 
-  fine-first : (o a : ℕ) (f : List ℕ) (fs : Record) → faultIn k z o a (f ∷ fs) ≡ Fine → (obeys k (ruleOf k z a) f ≡ true) × (faultIn k z (o + length f + 1) (a + 1) fs ≡ Fine)
-  unfolding faultIn
-  fine-first o a f fs e =
-      by (obeys k (ruleOf k z a) f) (λ t. (t, rw t at e)) (λ t. absurd (let y : Stop 6 o (a + 1) ≡ Fine = (rw t at e) in let z : true ≡ false = cc in true≢false z))
-
-  fine-unbroken : (o a : ℕ) (fs : Record) → faultIn k z o a fs ≡ Fine → (j : ℕ) → j < length fs → obeys k (ruleOf k z (a + j)) (field j fs) ≡ true
-  fine-unbroken o a [] e j h = absurd (let z : ⊥ = omega arith in z)
-  fine-unbroken o a (f ∷ fs) e zero h = let z : a + 0 ≡ a = omega arith in rw z (fine-first o a f fs e .0)
-  fine-unbroken o a (f ∷ fs) e (suc j) h =
-      let z : a + suc j ≡ a + 1 + j = omega arith in
-      rw z (fine-unbroken (o + length f + 1) (a + 1) fs (fine-first o a f fs e .1) j (omega arith))
-
   link-6 : (st : Due) (fs : Record) → Link (f6 k z fs) (entry6 st k z fs)
   link-6 st fs =
       record {
@@ -197,7 +186,7 @@ module _ (k : ℕ) (z : Scale) where
             (w .0, (w .1, b .inside, rw (y (w .1)) at (b .broken), λ l h. rw (y l) at (b .before l h), omega (arith, w .3), omega (arith, w .4))));
         fine = λ e o i g.
             (let y : 0 + g .0 ≡ g .0 = omega arith in
-            let t : obeys k (ruleOf k z (g .0)) (field (g .0) fs) ≡ true = rw y at (fine-unbroken 0 0 fs e (g .0) (g .1)) in
+            let t : obeys k (ruleOf k z (g .0)) (field (g .0) fs) ≡ true = rw y at (fine-unbroken k z 0 0 fs e (g .0) (g .1)) in
             true≢false (sym t ∙ g .2));
       }
 
