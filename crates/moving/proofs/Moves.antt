@@ -2,12 +2,14 @@
 -- what is left gives what moving all gives. Assumes nothing.
 use Prim.Native.Nat.{ℕ, zero, suc, _+_, _-_, _≤_, _<_}
 use mathlib.Core.Path.{_≡_, refl, sym, ap, ap₂, _∙_}
-use mathlib.Core.List.{List, [], _∷_, _++_, append-assoc}
+use mathlib.Core.List.{List, _++_}
 use native.Mathlib.Nat.{add-zero, sub-zero}
 use native.Mathlib.Omega.{arith}
-use lib.ListN.{length, set, take, drop, getD, length-set, length-drop, take-append-drop}
-use lib.Seq.{sets, sets-eq, drop-cons, drop-drop, take-add, length-take-le, length-sets}
-use Rattle.ground.proofs.Room.{sets-append}
+use lib.ListN.{length, take, drop, length-drop, take-append-drop}
+use lib.Seq.{sets, sets-eq, drop-drop, take-add, take-at, length-take-le, length-sets}
+use Rattle.ground.specs.Room.{Put}
+use Rattle.ground.proofs.Room.{sets-append, sets-front, put-kept}
+use Rattle.ground.proofs.Lists.{part-long}
 use Rattle.ground.proofs.Spans.{drop-take, part-cut}
 use Rattle.moving.specs.Moving.{moved, Within}
 use Rattle.moving.proofs.Stores.{take-sets, drop-sets, sets-later}
@@ -37,15 +39,27 @@ moved-sets l a b n w =
 pub length-moved : (l : List ℕ) (a b n : ℕ) → Within l a b n → length (moved l a b n) ≡ length l
 length-moved l a b n w = ap length (moved-sets l a b n w) ∙ length-sets l b (take n (drop a l))
 
--- no byte
-pub moved-none : (l : List ℕ) (a b : ℕ) → moved l a b 0 ≡ l
-moved-none l a b = append-assoc (take b l) [] (drop (b + 0) l) ∙ rw (add-zero b) (take-append-drop b l)
+-- to where they are
+pub moved-same : (l : List ℕ) (a b n : ℕ) → b ≤ a → a ≤ b → l ≡ moved l a b n
+moved-same l a b n h g =
+    let e : b ≡ a = omega arith in
+    rw e (sym (ap (λ (s : List ℕ). s ++ drop (a + n) l) (sym (take-add a n l)) ∙ take-append-drop (a + n) l))
 
--- one byte
-pub moved-one : (l : List ℕ) (a b : ℕ) → Within l a b 1 → set l b (getD l a 0) ≡ moved l a b 1
-moved-one l a b w =
-    let e : take 1 (drop a l) ≡ getD l a 0 ∷ [] = rw (drop-cons l a 0 (omega (arith, w .from))) in
-    ap (sets l b) (sym e) ∙ sym (moved-sets l a b 1 w)
+-- through a list of their own: its part that holds them, and the whole move
+pub piece-long : (zs piece xs : List ℕ) (at n r : ℕ) → n ≤ length zs → Put zs at xs r piece → n ≡ length (take n piece)
+piece-long zs piece xs at n r h p = part-long n piece (omega (arith, put-kept p))
+
+pub piece-fits : (zs piece xs l : List ℕ) (at a b n r : ℕ) → n ≤ length zs → Put zs at xs r piece → Within l a b n → b + length (take n piece) ≤ length l
+piece-fits zs piece xs l at a b n r h p w = omega (arith, piece-long zs piece xs at n r h p, w .to)
+
+pub moved-through : (l m : List ℕ) (zs piece : List ℕ) (a b n r s : ℕ) → Within l a b n → n ≤ length zs → Put zs 0 (take (a + n - a) (drop a l)) r piece → Put l b (take n piece) s m
+    → m ≡ moved l a b n
+moved-through l m zs piece a b n r s w h p q =
+    let e = length-stretch l a n (w .from) in
+    let f : piece ≡ take n (drop a l) ++ drop (length (take n (drop a l))) zs = p .room ∙ ap (sets zs 0) (part-cut a n (drop a l)) ∙ sets-front zs (take n (drop a l)) (omega arith) in
+    q .room
+    ∙ ap (sets l b) (ap (take n) f ∙ take-at (take n (drop a l)) (drop (length (take n (drop a l))) zs) n e)
+    ∙ sym (moved-sets l a b n w)
 
 module _ (l : List ℕ) (a b k n : ℕ) (w : Within l a b (k + n)) where
   -- the stores of both parts
@@ -94,33 +108,26 @@ module _ (l₀ : List ℕ) (a b n : ℕ) where
   pub down-none : Down l₀ a b n l₀ 0
   down-none = record { within = omega arith; kept = refl; left = rw (add-zero b, add-zero a, sub-zero n) }
 
-  -- k more
-  down-by : (l : List ℕ) (i k : ℕ) → Within l₀ a b n → b ≤ a → i + k ≤ n → Down l₀ a b n l i → Down l₀ a b n (moved l (a + i) (b + i) k) (i + k)
-  down-by l i k w o h r =
+  pub down-more : (l m : List ℕ) (i k : ℕ) → Within l₀ a b n → b ≤ a → k ≤ n - i → Down l₀ a b n l i → m ≡ moved l (a + i) (b + i) k → Down l₀ a b n m (i + k)
+  down-more l m i k w o h r q =
       let e : a + (i + k) ≡ a + i + k = omega arith in
       let f : b + (i + k) ≡ b + i + k = omega arith in
       let g : k + (n - (i + k)) ≡ n - i = omega arith in
-      let v : Within l (a + i) (b + i) (k + (n - (i + k))) = record { from = omega (arith, r .kept, w .from); to = omega (arith, r .kept, w .to) } in
+      let v : Within l (a + i) (b + i) (k + (n - (i + k))) = record { from = omega (arith, r .within, r .kept, w .from); to = omega (arith, r .within, r .kept, w .to) } in
       let u : Within l (a + i) (b + i) k = record { from = omega (arith, v .from); to = omega (arith, v .to) } in
       record {
-        within = h;
-        kept = length-moved l (a + i) (b + i) k u ∙ r .kept;
+        within = omega (arith, r .within);
+        kept = ap length q ∙ length-moved l (a + i) (b + i) k u ∙ r .kept;
         left =
-            ap₂ (λ (x : ℕ) (y : ℕ). moved (moved l (a + i) (b + i) k) x y (n - (i + k))) e f
+            ap (λ (z : List ℕ). moved z (a + (i + k)) (b + (i + k)) (n - (i + k))) q
+            ∙ ap₂ (λ (x : ℕ) (y : ℕ). moved (moved l (a + i) (b + i) k) x y (n - (i + k))) e f
             ∙ moved-down l (a + i) (b + i) k (n - (i + k)) v (omega arith)
             ∙ ap (moved l (a + i) (b + i)) g
             ∙ r .left;
       }
 
-  pub down-more : (l : List ℕ) (i : ℕ) → Within l₀ a b n → b ≤ a → i < n → Down l₀ a b n l i → Down l₀ a b n (set l (b + i) (getD l (a + i) 0)) (i + 1)
-  down-more l i w o h r =
-      rw (moved-one l (a + i) (b + i) (record { from = omega (arith, r .kept, w .from); to = omega (arith, r .kept, w .to) }))
-      (down-by l i 1 w o (omega arith) r)
-
-  pub down-all : (l : List ℕ) (i : ℕ) → n ≤ i → Down l₀ a b n l i → l ≡ moved l₀ a b n
-  down-all l i h r =
-      let e : n - i ≡ 0 = omega arith in
-      sym (moved-none l (a + i) (b + i)) ∙ rw e at (r .left)
+  pub down-all : (l m : List ℕ) (i : ℕ) → Down l₀ a b n l i → m ≡ moved l (a + i) (b + i) (n - i) → m ≡ moved l₀ a b n
+  down-all l m i r q = q ∙ r .left
 
 -- ---- from the last byte on: i bytes are still to be moved
 
@@ -133,25 +140,16 @@ module _ (l₀ : List ℕ) (a b n : ℕ) where
   pub up-none : Up l₀ a b n l₀ n
   up-none = record { within = omega arith; kept = refl; left = refl }
 
-  -- k less
-  up-by : (l : List ℕ) (i k : ℕ) → Within l₀ a b n → a ≤ b → k ≤ i → Up l₀ a b n l i → Up l₀ a b n (moved l (a + (i - k)) (b + (i - k)) k) (i - k)
-  up-by l i k w o h r =
+  pub up-more : (l m : List ℕ) (i k : ℕ) → Within l₀ a b n → a ≤ b → k ≤ i → Up l₀ a b n l i → m ≡ moved l (a + (i - k)) (b + (i - k)) k → Up l₀ a b n m (i - k)
+  up-more l m i k w o h r q =
       let e : i - k + k ≡ i = omega arith in
       let v : Within l a b (i - k + k) = record { from = omega (arith, r .within, r .kept, w .from); to = omega (arith, r .within, r .kept, w .to) } in
       let u : Within l (a + (i - k)) (b + (i - k)) k = record { from = omega (arith, v .from); to = omega (arith, v .to) } in
       record {
         within = omega (arith, r .within);
-        kept = length-moved l (a + (i - k)) (b + (i - k)) k u ∙ r .kept;
-        left = moved-up l a b (i - k) k v o ∙ ap (moved l a b) e ∙ r .left;
+        kept = ap length q ∙ length-moved l (a + (i - k)) (b + (i - k)) k u ∙ r .kept;
+        left = ap (λ (z : List ℕ). moved z a b (i - k)) q ∙ moved-up l a b (i - k) k v o ∙ ap (moved l a b) e ∙ r .left;
       }
 
-  pub up-more : (l : List ℕ) (i : ℕ) → Within l₀ a b n → a ≤ b → 0 < i → Up l₀ a b n l i → Up l₀ a b n (set l (b + (i - 1)) (getD l (a + (i - 1)) 0)) (i - 1)
-  up-more l i w o h r =
-      rw
-      (moved-one l (a + (i - 1)) (b + (i - 1)) (record { from = omega (arith, r .within, r .kept, w .from); to = omega (arith, r .within, r .kept, w .to) }))
-      (up-by l i 1 w o (omega arith) r)
-
-  pub up-all : (l : List ℕ) (i : ℕ) → i ≤ 0 → Up l₀ a b n l i → l ≡ moved l₀ a b n
-  up-all l i h r =
-      let e : i ≡ 0 = omega arith in
-      sym (moved-none l a b) ∙ rw e at (r .left)
+  pub up-all : (l m : List ℕ) (i : ℕ) → Up l₀ a b n l i → m ≡ moved l a b i → m ≡ moved l₀ a b n
+  up-all l m i r q = q ∙ r .left

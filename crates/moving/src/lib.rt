@@ -4,16 +4,31 @@ ghost use mathlib.Core.Path.{_≡_};
 ghost use Prim.Native.Nat.{_≤_};
 ghost use Rattle.moving.specs.Moving.{moved, Within, Fitting, Spliced};
 
+// How many bytes are moved at once.
+const PIECE: usize = 64;
+
+// All the bytes are read before the first is stored, so it is right whatever the overlap. A whole piece the compiler loads and stores in a few instructions.
+fn move_piece(room: &mut [u8], a: usize, b: usize, n: usize)
+    requires { ⌜ Within (now room) a b n × (n ≤ 64) ⌝ }
+    ensures { λ r. ⌜ now (room .exit) ≡ moved (now (room .entry)) a b n ⌝ }
+{
+    let mut piece = [0u8; PIECE];
+    let e = a + n;
+    put_bytes(&mut piece, 0, &room[a..e]);
+    put_bytes(room, b, &piece[..n]);
+}
+
 // From the first byte on: right where the bytes go down.
 fn move_down(room: &mut [u8], a: usize, b: usize, n: usize)
     requires { ⌜ Within (now room) a b n × (b ≤ a) ⌝ }
     ensures { λ r. ⌜ now (room .exit) ≡ moved (now (room .entry)) a b n ⌝ }
 {
     let mut i: usize = 0;
-    while i < n {
-        room[b + i] = room[a + i];
-        i += 1;
+    while PIECE <= n - i {
+        move_piece(room, a + i, b + i, PIECE);
+        i += PIECE;
     }
+    move_piece(room, a + i, b + i, n - i);
 }
 
 // From the last byte on: right where they go up.
@@ -22,20 +37,21 @@ fn move_up(room: &mut [u8], a: usize, b: usize, n: usize)
     ensures { λ r. ⌜ now (room .exit) ≡ moved (now (room .entry)) a b n ⌝ }
 {
     let mut i = n;
-    while 0 < i {
-        i -= 1;
-        room[b + i] = room[a + i];
+    while PIECE <= i {
+        i -= PIECE;
+        move_piece(room, a + i, b + i, PIECE);
     }
+    move_piece(room, a, b, i);
 }
 
-// The n bytes from place a on are stored from place b on.
+// The n bytes from place a on are stored from place b on. Bytes that stay where they are cost nothing.
 pub fn move_bytes(room: &mut [u8], a: usize, b: usize, n: usize)
     requires { ⌜ Within (now room) a b n ⌝ }
     ensures { λ r. ⌜ now (room .exit) ≡ moved (now (room .entry)) a b n ⌝ }
 {
-    if b <= a {
+    if b < a {
         move_down(room, a, b, n);
-    } else {
+    } else if a < b {
         move_up(room, a, b, n);
     }
 }

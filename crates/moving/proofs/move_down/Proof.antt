@@ -1,8 +1,9 @@
 -- `moving::move_down` meets its contract: i bytes are moved, and moving what is left gives what moving all gives (`Down`). Each sum is inside by the contract and
 -- the loop's test. Assumes nothing.
-use Rattle.moving.proofs.Moves.{Down, down-none, down-more, down-all}
 use Prim.Native.Nat.{_-_}
+use Rattle.moving.proofs.Moves.{Down, down-none, down-more, down-all}
 use native.Mathlib.Omega.{arith}
+use borrow.Author.Needs.{needs}
 use Rattle.moving.proofs.move_down.Statement.{statement}
 use Rattle.moving.proofs.move_down.Tie as tie
 
@@ -15,17 +16,17 @@ abbrev μ-loop : tie.MeasureT-loop
 loop-holds : tie.Need-loop-holds Inv-loop μ-loop
 loop-holds c = search down-none
 
-add-room : tie.Need-add-room Inv-loop μ-loop
-add-room c = omega arith
+sub-loop : tie.Need-sub-loop Inv-loop μ-loop
+sub-loop c = omega arith
 
-slice-read-room : tie.Need-slice-read-room Inv-loop μ-loop
-slice-read-room c = omega arith
+add-move-piece : tie.Need-add-move-piece Inv-loop μ-loop
+add-move-piece c = omega arith
 
-add-room-2 : tie.Need-add-room-2 Inv-loop μ-loop
-add-room-2 c = omega arith
+add-move-piece-2 : tie.Need-add-move-piece-2 Inv-loop μ-loop
+add-move-piece-2 c = omega arith
 
-slice-write-room : tie.Need-slice-write-room Inv-loop μ-loop
-slice-write-room c = omega arith
+move-piece-requires : tie.Need-move-piece-requires Inv-loop μ-loop
+move-piece-requires c κs = search needs
 
 add-i : tie.Need-add-i Inv-loop μ-loop
 add-i c = omega arith
@@ -35,6 +36,18 @@ loop-less c = omega arith
 
 loop-again : tie.Need-loop-again Inv-loop μ-loop
 loop-again c = search down-more
+
+add-move-piece-3 : tie.Need-add-move-piece-3 Inv-loop μ-loop
+add-move-piece-3 c = omega arith
+
+add-move-piece-4 : tie.Need-add-move-piece-4 Inv-loop μ-loop
+add-move-piece-4 c = omega arith
+
+sub-move-piece : tie.Need-sub-move-piece Inv-loop μ-loop
+sub-move-piece c = omega arith
+
+move-piece-requires-2 : tie.Need-move-piece-requires-2 Inv-loop μ-loop
+move-piece-requires-2 c κs = search needs
 
 same-length : tie.Need-same-length Inv-loop μ-loop
 same-length c = omega arith
@@ -49,12 +62,16 @@ move-down-spec =
     Inv-loop
     μ-loop
     loop-holds
-    add-room
-    slice-read-room
-    add-room-2
-    slice-write-room
+    sub-loop
+    add-move-piece
+    add-move-piece-2
+    move-piece-requires
     add-i
     loop-less
     loop-again
+    add-move-piece-3
+    add-move-piece-4
+    sub-move-piece
+    move-piece-requires-2
     same-length
     returns)

@@ -2,6 +2,7 @@
 -- the loop's test. Assumes nothing.
 use Rattle.moving.proofs.Moves.{Up, up-none, up-more, up-all}
 use native.Mathlib.Omega.{arith}
+use borrow.Author.Needs.{needs}
 use Rattle.moving.proofs.move_up.Statement.{statement}
 use Rattle.moving.proofs.move_up.Tie as tie
 
@@ -14,26 +15,23 @@ abbrev μ-loop : tie.MeasureT-loop
 loop-holds : tie.Need-loop-holds Inv-loop μ-loop
 loop-holds c = search up-none
 
-sub-i : tie.Need-sub-i Inv-loop μ-loop
-sub-i c = omega arith
+add-move-piece : tie.Need-add-move-piece Inv-loop μ-loop
+add-move-piece c = omega arith
 
-add-room : tie.Need-add-room Inv-loop μ-loop
-add-room c = omega arith
+add-move-piece-2 : tie.Need-add-move-piece-2 Inv-loop μ-loop
+add-move-piece-2 c = omega arith
 
-slice-read-room : tie.Need-slice-read-room Inv-loop μ-loop
-slice-read-room c = omega arith
-
-add-room-2 : tie.Need-add-room-2 Inv-loop μ-loop
-add-room-2 c = omega arith
-
-slice-write-room : tie.Need-slice-write-room Inv-loop μ-loop
-slice-write-room c = omega arith
+move-piece-requires : tie.Need-move-piece-requires Inv-loop μ-loop
+move-piece-requires c κs = search needs
 
 loop-less : tie.Need-loop-less Inv-loop μ-loop
 loop-less c = omega arith
 
 loop-again : tie.Need-loop-again Inv-loop μ-loop
 loop-again c = search up-more
+
+move-piece-requires-2 : tie.Need-move-piece-requires-2 Inv-loop μ-loop
+move-piece-requires-2 c κs = search needs
 
 same-length : tie.Need-same-length Inv-loop μ-loop
 same-length c = omega arith
@@ -48,12 +46,11 @@ move-up-spec =
     Inv-loop
     μ-loop
     loop-holds
-    sub-i
-    add-room
-    slice-read-room
-    add-room-2
-    slice-write-room
+    add-move-piece
+    add-move-piece-2
+    move-piece-requires
     loop-less
     loop-again
+    move-piece-requires-2
     same-length
     returns)
