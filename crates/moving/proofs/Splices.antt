@@ -36,14 +36,14 @@ module _ (room : List ℕ) (n a e : ℕ) (block : List ℕ) (f : Fitting room n 
       (sym (take-take a n room (omega (arith, f .order, f .inside)))) tail
 
   -- the tail first, the block then
-  pub spliced-so : (b k r : ℕ) (l m : List ℕ) → b ≡ a + length block → k ≡ n - e → l ≡ moved room e b k → Put l a block r m → Spliced room n a e block (b + k) m
-  spliced-so b k r l m eb ek el p =
-      let w : Within room e b k = record { from = omega (arith, f .inside, f .file); to = omega (arith, f .order, f .inside, f .fits) } in
+  pub spliced-so : (b r : ℕ) (l m : List ℕ) → b ≡ a + length block → l ≡ moved room e b (n - e) → Put l a block r m → Spliced room n a e block (b + (n - e)) m
+  spliced-so b r l m eb el p =
+      let w : Within room e b (n - e) = record { from = omega (arith, f .inside, f .file); to = omega (arith, f .order, f .inside, f .fits) } in
       record {
         bytes = omega (arith, length-spliced);
         room =
             p .room
-            ∙ ap (λ (z : List ℕ). sets z a block) (el ∙ moved-sets room e b k w ∙ ap₂ (λ (i : ℕ) (j : ℕ). sets room i (take j (drop e room))) eb ek)
+            ∙ ap (λ (z : List ℕ). sets z a block) (el ∙ moved-sets room e b (n - e) w ∙ ap (λ (i : ℕ). sets room i (take (n - e) (drop e room))) eb)
             ∙ sets-later room a (a + length block) block (take (n - e) (drop e room)) (omega arith)
             ∙ sym (sets-append room a block (take (n - e) (drop e room)))
             ∙ spliced-sets;

@@ -1,7 +1,7 @@
 // Bytes moved inside one lent list, up or down, also where the two stretches overlap; and a stretch of a file at its start replaced.
 use text::bytes::put_bytes;
 ghost use mathlib.Core.Path.{_≡_};
-ghost use Prim.Native.Nat.{_≤_};
+ghost use Prim.Native.Nat.{_-_, _≤_};
 ghost use Rattle.moving.specs.Moving.{moved, Within, Fitting, Spliced};
 
 // How many bytes are moved at once.
@@ -56,15 +56,22 @@ pub fn move_bytes(room: &mut [u8], a: usize, b: usize, n: usize)
     }
 }
 
+// The tail of a file of n bytes, its bytes from place e on, goes to place b.
+fn move_tail(room: &mut [u8], n: usize, e: usize, b: usize)
+    requires { ⌜ (e ≤ n) × Within (now room) e b (n - e) ⌝ }
+    ensures { λ r. ⌜ now (room .exit) ≡ moved (now (room .entry)) e b (n - e) ⌝ }
+{
+    move_bytes(room, e, b, n - e);
+}
+
 // The file is the first n bytes of the room; the block takes the place of its bytes a up to e. Answers the file's new length. The tail goes to its new place
-// before the block is written over its old one, and nothing behind the new end is touched.
+// before the block is written, which may lie over its old one. Nothing behind the new end is touched.
 pub fn splice(room: &mut [u8], n: usize, a: usize, e: usize, block: &[u8]) -> usize
     requires { ⌜ Fitting (now room) n a e (now block) ⌝ }
     ensures { λ r. ⌜ Spliced (now (room .entry)) n a e (now (block .entry)) r (now (room .exit)) ⌝ }
 {
     let b = a + block.len();
-    let k = n - e;
-    move_bytes(room, e, b, k);
+    move_tail(room, n, e, b);
     put_bytes(room, a, block);
-    b + k
+    b + (n - e)
 }
