@@ -1,0 +1,3 @@
+pub mod Stores
+pub mod Moves
+pub mod Splices
