@@ -9,10 +9,12 @@ mod cases;
 mod check;
 mod day;
 mod fields;
+mod find;
 mod notes;
 mod probe;
 mod records;
 mod refusal;
+mod replace;
 #[cfg(test)]
 mod settled;
 mod table;
