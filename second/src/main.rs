@@ -79,7 +79,9 @@ fn answer_probe(with_tally: bool) -> io::Result<()> {
 fn make_cases(seed: u64, count: u64) -> io::Result<()> {
     let mut output = BufWriter::new(io::stdout().lock());
     for index in 0..count {
-        output.write_all(&cases::case(seed, index))?;
+        for case in cases::of_number(seed, index) {
+            output.write_all(&case)?;
+        }
     }
     output.flush()
 }
