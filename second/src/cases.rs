@@ -1,10 +1,13 @@
 //! Fresh cases for the probe, and fresh files, made from a seed. A case or a file depends on the seed and its own number
-//! alone.
+//! alone, and so do the edits that stand behind some cases.
 
 mod aimed;
 mod blocks;
 mod chance;
 mod damage;
+#[cfg(test)]
+mod edited;
+mod edits;
 mod files;
 mod length_sweep;
 #[cfg(test)]
@@ -61,8 +64,20 @@ const LENGTHS_PER_ROUND: u64 = 3;
 /// So many files sweep the units. One block and one day to be written do so too, and one of each sweeps null data.
 const UNITS_PER_ROUND: u64 = 5;
 
+/// Behind every case whose number is a multiple of this one stands an edit.
+const EDIT_EVERY: u64 = 5;
+
+/// The cases of one number: one of its own, and behind it an edit where it has one, with cases on the file that is left.
+pub fn of_number(seed: u64, index: u64) -> Vec<Vec<u8>> {
+    let mut cases = vec![case(seed, index)];
+    if index % EDIT_EVERY == 0 {
+        cases.extend(edits::cases(seed, index / EDIT_EVERY));
+    }
+    cases
+}
+
 /// One case, its line and its bytes.
-pub fn case(seed: u64, index: u64) -> Vec<u8> {
+fn case(seed: u64, index: u64) -> Vec<u8> {
     let chance = &mut Chance::for_case(seed, index);
     if let Some(which) = LARGE_CASES.iter().position(|large| *large == index) {
         return requests::for_file(&files::large(chance, which), chance);
@@ -129,11 +144,11 @@ fn in_turn(aims: &[u64], turn: u64) -> u64 {
 mod tests {
     use super::*;
     use crate::probe;
-    use crate::refusal::LAST;
+    use crate::refusal::{DAY_UNFIT, LAST, NO_SUCH_NUMBER};
 
     #[test]
     fn a_run_gives_every_refusal_that_can_be_reached_and_no_bad_case() {
-        let input: Vec<u8> = (0..2000).flat_map(|index| case(1, index)).collect();
+        let input: Vec<u8> = (0..2000).flat_map(|index| of_number(1, index).concat()).collect();
         let tally = probe::run(&input, &mut std::io::sink()).unwrap();
         let lines = tally.lines();
         assert!(!lines.contains("bad case"), "{lines}");
@@ -144,6 +159,13 @@ mod tests {
         for number in 1..=LAST {
             let can_come = BLOCK_AIMS.contains(&number);
             assert_eq!(tally.blocks.refusals(number) > 0, can_come, "refusal {number} of a block\n{lines}");
+        }
+        assert!(tally.finds.accepted > 0 && tally.finds.refusals(NO_SUCH_NUMBER) > 0);
+        assert!(tally.replacements.accepted > 0);
+        for number in 1..=LAST {
+            // The day's own 200 has an interval length and a unit.
+            let can_come = number != DAY_UNFIT;
+            assert_eq!(tally.replacements.refusals(number) > 0, can_come, "refusal {number} of a replacement\n{lines}");
         }
     }
 
@@ -158,5 +180,10 @@ mod tests {
     fn a_case_depends_on_seed_and_number_alone() {
         assert_eq!(case(7, 33), case(7, 33));
         assert_ne!(case(7, 33), case(8, 33));
+        assert_eq!(of_number(7, 35), of_number(7, 35));
+        assert_ne!(of_number(7, 35)[1..], of_number(8, 35)[1..]);
+        for index in 1..EDIT_EVERY {
+            assert_eq!(of_number(7, index), [case(7, index)]);
+        }
     }
 }

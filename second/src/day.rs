@@ -1,7 +1,7 @@
 //! Reading one day of a NEM12 file into lent lists.
 
 use crate::check::read_file;
-use crate::refusal::{Refusal, LENT_TOO_SHORT, NO_SUCH_NUMBER};
+use crate::refusal::{Refusal, LENT_TOO_SHORT};
 use crate::walk::Day;
 
 /// The six lists that a reader lends. Each has a place for each interval.
@@ -58,7 +58,7 @@ impl DayRead {
 
 pub fn read_day(file: &[u8], number: usize, mut lists: LentLists) -> Result<DayRead, Refusal> {
     let content = read_file(file)?;
-    let day = content.days.get(number).ok_or(Refusal::without_place(NO_SUCH_NUMBER))?;
+    let day = content.day(number)?;
     if lists.shortest() < day.values.len() {
         return Err(Refusal::without_place(LENT_TOO_SHORT));
     }

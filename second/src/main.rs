@@ -9,10 +9,12 @@ mod cases;
 mod check;
 mod day;
 mod fields;
+mod find;
 mod notes;
 mod probe;
 mod records;
 mod refusal;
+mod replace;
 #[cfg(test)]
 mod settled;
 mod table;
@@ -77,7 +79,9 @@ fn answer_probe(with_tally: bool) -> io::Result<()> {
 fn make_cases(seed: u64, count: u64) -> io::Result<()> {
     let mut output = BufWriter::new(io::stdout().lock());
     for index in 0..count {
-        output.write_all(&cases::case(seed, index))?;
+        for case in cases::of_number(seed, index) {
+            output.write_all(&case)?;
+        }
     }
     output.flush()
 }

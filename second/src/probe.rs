@@ -3,12 +3,14 @@
 use crate::block::check_block;
 use crate::check::check;
 use crate::day::{read_day, DayRead, LentLists};
+use crate::find::{find_day, DayFound};
 use crate::refusal::{self, Refusal};
+use crate::replace::replace_day;
 use crate::total::total;
 use crate::write::{write_day, DayHead, DayLists};
 use std::io::{self, Write};
 
-/// Of a file or a block.
+/// Of a file, of a block, and of the room that a file is edited in.
 const LONGEST_LENT: u64 = 1_100_000;
 const LONGEST_LIST: u64 = 300;
 const LONGEST_TEXT: u64 = 4_096;
@@ -51,6 +53,13 @@ pub struct Tally {
     pub all: Counts,
     /// Those to `block` cases, which are among all too.
     pub blocks: Counts,
+    /// Likewise those to `find` and to `replace` cases.
+    pub finds: Counts,
+    pub replacements: Counts,
+    /// The accepted replacements behind which the edited file was checked at once, and accepted.
+    pub checked_replacements: u64,
+    /// The edited file, if the last case was an accepted replacement.
+    just_edited: Option<Vec<u8>>,
     bad_case: bool,
 }
 
@@ -64,8 +73,22 @@ impl Tally {
         self.blocks.count(answer);
     }
 
+    fn count_find<T>(&mut self, answer: &Result<T, Refusal>) {
+        self.all.count(answer);
+        self.finds.count(answer);
+    }
+
+    fn count_replacement<T>(&mut self, answer: &Result<T, Refusal>) {
+        self.all.count(answer);
+        self.replacements.count(answer);
+    }
+
     pub fn lines(&self) -> String {
-        let mut lines = self.all.lines("") + &self.blocks.lines("block ");
+        let mut lines = self.all.lines("");
+        for (before, counts) in [("block ", &self.blocks), ("find ", &self.finds), ("replace ", &self.replacements)] {
+            lines += &counts.lines(before);
+        }
+        lines += &format!("replace checked {}\n", self.checked_replacements);
         if self.bad_case {
             lines += "bad case 1\n";
         }
@@ -94,8 +117,15 @@ pub fn run(input: &[u8], output: &mut impl Write) -> io::Result<Tally> {
 fn answer_case(input: &mut Input, tally: &mut Tally) -> Option<Vec<u8>> {
     let line = input.line()?;
     let words: Vec<&[u8]> = line.split(|byte| *byte == b' ').collect();
+    let just_edited = tally.just_edited.take();
     match words[..] {
-        [b"check", length] => answer_check(input.lent(length)?, tally),
+        [b"check", length] => {
+            let file = input.lent(length)?;
+            if just_edited.is_some_and(|edited| edited == file) && check(file).is_ok() {
+                tally.checked_replacements += 1;
+            }
+            answer_check(file, tally)
+        }
         [b"day", day, places, length] => {
             let day = number(day, usize::MAX as u64)? as usize;
             let places = number(places, LONGEST_LIST)? as usize;
@@ -109,6 +139,17 @@ fn answer_case(input: &mut Input, tally: &mut Tally) -> Option<Vec<u8>> {
             let interval_length = number(interval_length, u64::from(u32::MAX))? as u32;
             let unit = number(unit, u64::from(u8::MAX))? as u8;
             answer_block(input.lent(length)?, interval_length, unit, tally)
+        }
+        [b"find", day, length] => {
+            let day = number(day, usize::MAX as u64)? as usize;
+            answer_find(input.lent(length)?, day, tally)
+        }
+        [b"replace", day, length, room, block] => {
+            let day = number(day, usize::MAX as u64)? as usize;
+            // A length that is longer than the room is no bad case.
+            let length = number(length, usize::MAX as u64)? as usize;
+            let room = input.take(number(room, LONGEST_LENT)? as usize)?;
+            answer_replace(room, length, day, input.lent(block)?, tally)
         }
         [b"write", ref numbers @ ..] => answer_write(input, numbers, tally),
         _ => None,
@@ -149,6 +190,34 @@ fn answer_block(block: &[u8], interval_length: u32, unit: u8, tally: &mut Tally)
     Some(match answer {
         Ok(read) => format!("{} {}\n", day_words(read.day), read.records).into_bytes(),
         Err(refusal) => refusal_line(refusal, false),
+    })
+}
+
+fn answer_find(file: &[u8], day: usize, tally: &mut Tally) -> Option<Vec<u8>> {
+    let answer = find_day(file, day);
+    tally.count_find(&answer);
+    Some(match answer {
+        Ok(DayFound { channel, nmi, suffix, unit, length, start, end }) => {
+            format!("accepted {channel} {nmi} {suffix} {unit} {length} {start} {end}\n").into_bytes()
+        }
+        Err(refusal) => refusal_line(refusal, false),
+    })
+}
+
+/// The room is answered as it is left, also behind the new file.
+fn answer_replace(lent: &[u8], length: usize, day: usize, block: &[u8], tally: &mut Tally) -> Option<Vec<u8>> {
+    let mut room = lent.to_vec();
+    let answer = replace_day(&mut room, length, day, block);
+    tally.count_replacement(&answer);
+    Some(match answer {
+        Ok(new_length) => {
+            tally.just_edited = Some(room[..new_length].to_vec());
+            let mut answer = format!("accepted {new_length}").into_bytes();
+            end_line(&mut answer, room[new_length..] != lent[new_length..]);
+            answer.extend(&room);
+            answer
+        }
+        Err(refusal) => refusal_line(refusal, room != lent),
     })
 }
 
@@ -420,6 +489,32 @@ mod tests {
             "block 30 0 1100001\n\n",
             "block 30 0 1\n",
             "block 30 0 0\nx",
+            "find\n\n",
+            "find 0\n\n",
+            "find 0 0 \n\n",
+            "find 0 0 0\n\n",
+            "find -1 0\n\n",
+            "find 18446744073709551616 0\n\n",
+            "find 0 1100001\n\n",
+            "find 0 1\n",
+            "find 0 1\nx",
+            "find 0 0\nx",
+            "fin 0 0\n\n",
+            "replace\n\n",
+            "replace 0 0 0\n\n",
+            "replace 0 0 0 0 0\n\n",
+            "replace 0  0 0\n\n",
+            "replace -1 0 0 0\n\n",
+            "replace 18446744073709551616 0 0 0\n\n",
+            "replace 0 18446744073709551616 0 0\n\n",
+            "replace 0 0 1100001 0\n\n",
+            "replace 0 0 0 1100001\n\n",
+            "replace 0 0 2 0\nx",
+            "replace 0 0 2 0\n12",
+            "replace 0 0 1 2\n12",
+            "replace 0 0 1 2\n123",
+            "replace 0 0 1 1\n123",
+            "Replace 0 0 0 0\n\n",
             "write 20030922 30 20030922092231 0 0 10 0 0 0 0 0 0\n\n\n\n\n\n\n\n",
             "write 4294967296 30 20030922092231 0 0 10 0 0 0 0 0 0 0\n\n\n\n\n\n\n\n",
             "write 20030922 30 20030922092231 0 256 10 0 0 0 0 0 0 0\n\n\n\n\n\n\n\n",
@@ -476,6 +571,86 @@ mod tests {
         let lines = tally.lines();
         for line in ["refused 2 2\n", "block refused 2 1\n", "block accepted 0\n"] {
             assert!(lines.contains(line), "{lines}");
+        }
+    }
+
+    /// A file of two half-hour days, and its length.
+    fn file_of_two_days() -> (String, usize) {
+        let head = "100,NEM12,200301011534,MDP1,Ret1\r\n200,VABD000163,E1Q1,1,E1,N1,MET,kWh,30,\r\n";
+        let file = format!("{head}{}{}900\r\n", plain_day("20030501", "1"), plain_day("20030502", "2"));
+        let length = file.len();
+        (file, length)
+    }
+
+    fn plain_day(date: &str, value: &str) -> String {
+        format!("300,{date},{}A,,,20030503153445,\r\n", format!("{value},").repeat(48))
+    }
+
+    #[test]
+    fn a_found_day_is_answered_by_its_channel_and_its_places() {
+        let (file, length) = file_of_two_days();
+        let day = plain_day("20030501", "1").len();
+        // The 100 has 34 bytes, and the 200 has 41.
+        for (number, start) in [("0", 75), ("1", 75 + day), ("01", 75 + day)] {
+            let expected = format!("accepted 0 38 56 1 30 {start} {}\n", start + day);
+            assert_eq!(answers(&format!("find {number} {length}\n{file}\n")), expected);
+        }
+        for number in ["2", "18446744073709551615"] {
+            assert_eq!(answers(&format!("find {number} {length}\n{file}\n")), "refused 14 0 0 0\n");
+        }
+        assert_eq!(answers("find 0 0\n\n"), "refused 2 0 0 0\n");
+    }
+
+    #[test]
+    fn a_replacement_is_answered_by_the_whole_room() {
+        let (file, length) = file_of_two_days();
+        let case = |day: usize, told: &str, room: &str, block: &str| {
+            format!("replace {day} {told} {} {}\n{room}{block}\n", room.len(), block.len())
+        };
+        let (old, told) = (plain_day("20030502", "2"), length.to_string());
+        for value in ["3", "0.25"] {
+            let block = plain_day("20030502", value);
+            let edited = file.replace(&old, &block);
+            let room = format!("{file}{}", "\x01\r\n~".repeat(200));
+            let expected = format!("accepted {}\n{edited}{}", edited.len(), &room[edited.len()..]);
+            assert_eq!(answers(&case(1, &told, &room, &block)), expected);
+            // The next answer begins at once.
+            let input = case(1, &told, &room, &block) + "check 0\n\n";
+            assert_eq!(answers(&input), expected + "refused 2 0 0 0\n");
+        }
+        for (day, told, room, block, expected) in [
+            (9, "18446744073709551615", "", "x", "refused 15 0 0 0\n"),
+            (9, "1100001", "x", "x", "refused 15 0 0 0\n"),
+            (9, "0", &file[..], "x", "refused 2 0 0 0\n"),
+            (2, &told[..], &file, "x", "refused 14 0 0 0\n"),
+            (1, &told, &file, "", "refused 2 0 0 0\n"),
+            (1, &told, &file, &plain_day("20030503", "2.5"), "refused 8 4 0 2\n"),
+            (1, &told, &file, &plain_day("20030502", "2.5"), "refused 15 0 0 0\n"),
+        ] {
+            assert_eq!(answers(&case(day, told, room, block)), expected, "{day} {told}");
+        }
+    }
+
+    #[test]
+    fn finds_and_replacements_are_counted_apart() {
+        let (file, length) = file_of_two_days();
+        let block = plain_day("20030501", "7");
+        let edited = file.replace(&plain_day("20030501", "1"), &block);
+        let replace = format!("replace 0 {length} {length} {}\n{file}{block}\n", block.len());
+        let check = |file: &str| format!("check {}\n{file}\n", file.len());
+        let find = format!("find 2 {length}\n{file}\n");
+        // Only a check of the edited file that comes at once counts as one.
+        let runs = [(check(&edited), 1), (check(&file), 0), (find.clone() + &check(&edited), 0), (String::new(), 0)];
+        for (behind, checked) in runs {
+            let input = format!("{find}{replace}{behind}");
+            let tally = run(input.as_bytes(), &mut io::sink()).unwrap();
+            assert_eq!((tally.replacements.accepted, tally.checked_replacements), (1, checked));
+            assert!(tally.finds.refusals(14) > 0);
+            let lines = tally.lines();
+            for line in ["find accepted 0\n", "replace accepted 1\n", "replace refused 15 0\n"] {
+                assert!(lines.contains(line), "{lines}");
+            }
+            assert!(lines.contains(&format!("replace checked {checked}\n")), "{lines}");
         }
     }
 

@@ -18,6 +18,7 @@ pub const RECORD_OUT_OF_PLACE: u64 = 4;
 pub const WRONG_FIELD_COUNT: u64 = 5;
 pub const FIELD_BREAKS_RULE: u64 = 6;
 pub const RULE_ACROSS_BROKEN: u64 = 7;
+/// Also the date of a block that is to replace a day of another date.
 pub const DATE_NOT_LATER: u64 = 8;
 pub const COVER_BROKEN: u64 = 9;
 pub const COVER_INCOMPLETE: u64 = 10;

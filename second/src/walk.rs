@@ -4,8 +4,8 @@ use crate::fields::{self, Rule, MOST_DECIMALS};
 use crate::notes::Note;
 use crate::records::{kind_of, layout, quality_fields, Kind, Record};
 use crate::refusal::{
-    Refusal, COVER_BROKEN, COVER_INCOMPLETE, DATE_NOT_LATER, DAY_ALL_ALIKE, FIELD_BREAKS_RULE, READ_OUTSIDE_DAY,
-    RECORD_OUT_OF_PLACE, RULE_ACROSS_BROKEN, WRONG_FIELD_COUNT,
+    Refusal, COVER_BROKEN, COVER_INCOMPLETE, DATE_NOT_LATER, DAY_ALL_ALIKE, FIELD_BREAKS_RULE, NO_SUCH_NUMBER,
+    READ_OUTSIDE_DAY, RECORD_OUT_OF_PLACE, RULE_ACROSS_BROKEN, WRONG_FIELD_COUNT,
 };
 use crate::units::Unit;
 
@@ -15,6 +15,13 @@ pub struct MeterFile<'a> {
     pub version: u64,
     pub channels: Vec<Channel<'a>>,
     pub days: Vec<Day<'a>>,
+}
+
+impl<'a> MeterFile<'a> {
+    /// The day with this number, counted from 0.
+    pub fn day(&self, number: usize) -> Result<&Day<'a>, Refusal> {
+        self.days.get(number).ok_or(Refusal::without_place(NO_SUCH_NUMBER))
+    }
 }
 
 pub struct Channel<'a> {
@@ -27,6 +34,10 @@ pub struct Channel<'a> {
 pub struct Day<'a> {
     /// Number of its channel, from 0.
     pub channel: usize,
+    /// Where its block starts.
+    pub start: usize,
+    /// Where its block ends: behind the CR LF of its last record, be it a 500.
+    pub end: usize,
     pub date: u32,
     /// Its channel's.
     pub unit: Unit,
@@ -239,6 +250,8 @@ impl<'a> Walk<'a> {
         self.channel().total += values.iter().map(|value| u128::from(*value)).sum::<u128>();
         self.content.days.push(Day {
             channel: self.content.channels.len() - 1,
+            start: record.start,
+            end: record.end,
             date,
             unit,
             update: record.decimal(n + 6),
@@ -259,6 +272,7 @@ impl<'a> Walk<'a> {
             return Err(record.refuse_field(COVER_BROKEN, 2));
         }
         self.day().notes[start - 1..end].fill(record.note(4));
+        self.day().end = record.end;
         self.next_interval = end + 1;
         if end == self.n {
             if all_say_same(&self.day().notes) {
@@ -274,6 +288,7 @@ impl<'a> Walk<'a> {
         if read_time != 0 && !fields::belongs_to_day(read_time, self.day().date) {
             return Err(record.refuse_field(READ_OUTSIDE_DAY, 4));
         }
+        self.day().end = record.end;
         self.place = Place::InDay;
         Ok(())
     }

@@ -1,12 +1,12 @@
 //! Cases that hand in a day block on its own: accepted ones, damaged ones, aimed ones and sweeps.
 
 use super::chance::Chance;
-use super::files::{self, Channel, Draft};
+use super::files::{self, Channel, Draft, Make};
 use super::unit_sweep::{self, BlockUnit};
 use super::{aimed, damage, requests, sweep, words};
 use crate::records::Kind;
 
-fn some_channel(chance: &mut Chance) -> Channel {
+pub fn some_channel(chance: &mut Chance) -> Channel {
     let unit = words::unit(chance);
     Channel::of(some_minutes(chance), unit)
 }
@@ -44,15 +44,15 @@ pub fn large(chance: &mut Chance) -> Vec<u8> {
 /// A block with several changes, anywhere or in one record.
 pub fn damaged(chance: &mut Chance) -> Vec<u8> {
     let channel = some_channel(chance);
-    case(channel, &damaged_bytes(chance, channel))
+    case(channel, &damaged_bytes(chance, &|chance| files::block(chance, channel)))
 }
 
-fn damaged_bytes(chance: &mut Chance, channel: Channel) -> Vec<u8> {
-    let make = |chance: &mut Chance| files::block(chance, channel);
+/// Such a block of this make.
+pub fn damaged_bytes(chance: &mut Chance, make: Make) -> Vec<u8> {
     if chance.one_in(3) {
-        damage::tangled(chance, &make)
+        damage::tangled(chance, make)
     } else {
-        damage::damaged(chance, &make)
+        damage::damaged(chance, make)
     }
 }
 
@@ -99,27 +99,33 @@ pub fn with_unit(chance: &mut Chance, turn: u64) -> Vec<u8> {
 /// A block aimed at one refusal.
 pub fn aimed(chance: &mut Chance, aim: u64) -> Vec<u8> {
     let channel = some_channel(chance);
-    let bytes = match aim {
-        2 if chance.one_in(2) => bytes_behind(chance, channel),
-        4 if chance.one_in(2) => record_behind(chance, channel),
+    if aim == 16 {
+        return any_bytes_behind_no_channel(chance, channel);
+    }
+    case(channel, &aimed_bytes(chance, channel, &|chance| files::block(chance, channel), aim))
+}
+
+/// A block of this make, aimed at a refusal that it can get behind a 200 such as this one.
+pub fn aimed_bytes(chance: &mut Chance, channel: Channel, make: Make, aim: u64) -> Vec<u8> {
+    match aim {
+        2 if chance.one_in(2) => bytes_behind(chance, make),
+        4 if chance.one_in(2) => record_behind(chance, channel, make),
         5 if chance.one_in(3) => block_of_other_length(chance, channel),
-        16 => return any_bytes_behind_no_channel(chance, channel),
-        _ => aimed::bytes_for(chance, &|chance| files::block(chance, channel), aim),
-    };
-    case(channel, &bytes)
+        _ => aimed::bytes_for(chance, make, aim),
+    }
 }
 
 /// A block or what may be left of one, with bytes behind it that don't end a record.
-fn bytes_behind(chance: &mut Chance, channel: Channel) -> Vec<u8> {
-    let mut bytes = block_or_part(chance, channel).bytes();
+fn bytes_behind(chance: &mut Chance, make: Make) -> Vec<u8> {
+    let mut bytes = block_or_part(chance, make).bytes();
     let behind = chance.pick(&[b"\r".as_slice(), b"\n", b"900", b"500,S,,,", b"400,1,1,A,,\r", b"\x00", b" "]);
     bytes.extend(behind);
     bytes
 }
 
 /// A block or what may be left of one, with a record behind it that leaves the day, or with any other.
-fn record_behind(chance: &mut Chance, channel: Channel) -> Vec<u8> {
-    let mut draft = block_or_part(chance, channel);
+fn record_behind(chance: &mut Chance, channel: Channel, make: Make) -> Vec<u8> {
+    let mut draft = block_or_part(chance, make);
     match chance.below(4) {
         0 => draft.rows.push(files::row(chance, Kind::R200, 0)),
         1 => draft.rows.extend(files::block(chance, channel).rows),
@@ -130,8 +136,8 @@ fn record_behind(chance: &mut Chance, channel: Channel) -> Vec<u8> {
 }
 
 /// A block, of which some last records may be missing, so that its cover may be open.
-fn block_or_part(chance: &mut Chance, channel: Channel) -> Draft {
-    let mut draft = files::block(chance, channel);
+fn block_or_part(chance: &mut Chance, make: Make) -> Draft {
+    let mut draft = make(chance);
     if chance.one_in(2) {
         let keep = chance.below(draft.rows.len());
         draft.rows.truncate(keep);
@@ -152,7 +158,7 @@ fn block_of_other_length(chance: &mut Chance, channel: Channel) -> Vec<u8> {
 fn any_bytes_behind_no_channel(chance: &mut Chance, channel: Channel) -> Vec<u8> {
     let bytes = match chance.below(3) {
         0 => Vec::new(),
-        1 => damaged_bytes(chance, channel),
+        1 => damaged_bytes(chance, &|chance| files::block(chance, channel)),
         _ => files::block(chance, channel).bytes(),
     };
     let (minutes, unit) = (words::no_interval_length(chance), words::no_unit_number(chance));

@@ -11,6 +11,11 @@ impl Chance {
         Chance { state: of_seed.next() ^ index.wrapping_mul(0xD1B5_4A32_D192_ED03) }
     }
 
+    /// For the edit of this number. Its choices have nothing to do with those of the case that it stands behind.
+    pub fn for_edit(seed: u64, number: u64) -> Chance {
+        Chance::for_case(!seed, number)
+    }
+
     pub fn next(&mut self) -> u64 {
         self.state = self.state.wrapping_add(0x9E37_79B9_7F4A_7C15);
         let mut mixed = self.state;

@@ -319,7 +319,8 @@ pub fn large(chance: &mut Chance, which: usize) -> Vec<u8> {
     file_of_length(chance, length)
 }
 
-fn file_of_length(chance: &mut Chance, length: usize) -> Vec<u8> {
+/// An accepted file of one channel and this length, but for a length that is over the limit.
+pub fn file_of_length(chance: &mut Chance, length: usize) -> Vec<u8> {
     let channel = Channel::half_hours(chance);
     full_file(chance, length, channel, 2_000, |chance, date| {
         let note = words::note(chance);
@@ -367,8 +368,9 @@ pub fn large_block(chance: &mut Chance, channel: Channel) -> Vec<u8> {
     bytes
 }
 
-/// 500s, as long as need be: with a service order of 0 to 15 bytes one has 10 to 25 bytes.
-fn fill_with_orders(bytes: &mut Vec<u8>, length: usize) {
+/// Puts 500s behind the bytes till they have this length, which is 10 bytes more at least. With a service order of 0 to
+/// 15 bytes one has 10 to 25 bytes.
+pub fn fill_with_orders(bytes: &mut Vec<u8>, length: usize) {
     while bytes.len() < length {
         let record = match length - bytes.len() {
             left @ 10..=25 => left,

@@ -1,4 +1,4 @@
-//! Cases that put one question to a file: check it, read a day, or total a channel.
+//! Cases that put one question to a file: check it, read a day, total a channel, or find a day's block.
 
 use super::chance::Chance;
 use crate::check::read_file;
@@ -37,6 +37,17 @@ fn total_case(file: &[u8], chance: &mut Chance) -> Vec<u8> {
     case(&format!("total {}", some_number(chance, channels)), file)
 }
 
+/// A case that looks for a day, the first or the last of the file more often than others.
+pub fn find_case(file: &[u8], chance: &mut Chance) -> Vec<u8> {
+    let days = read_file(file).map_or(1, |content| content.days.len());
+    let day = match chance.below(8) {
+        0 => days,
+        1 => chance.pick(&[days + 1, 1_000_000, usize::MAX - 1, usize::MAX, usize::MAX]),
+        _ => chance.place_among(days.max(1)),
+    };
+    case(&format!("find {day}"), file)
+}
+
 /// A number that counts one of so many things, or none of them.
 fn some_number(chance: &mut Chance, count: usize) -> usize {
     match chance.below(16) {
@@ -65,6 +76,12 @@ pub fn case(request: &str, bytes: &[u8]) -> Vec<u8> {
     case.extend(bytes);
     case.push(b'\n');
     case
+}
+
+/// A case that replaces a day of the file that is the first `length` bytes of the room.
+pub fn replace_case(day: usize, length: usize, room: &[u8], block: &[u8]) -> Vec<u8> {
+    let line = format!("replace {day} {length} {} {}\n", room.len(), block.len());
+    [line.as_bytes(), room, block, b"\n"].concat()
 }
 
 /// The words of a case's line, and the bytes behind it.

@@ -193,7 +193,7 @@ fn dates_with_read_times() -> Vec<(u32, u64)> {
 }
 
 /// A day block that is accepted but for the read time of its last 500, if that isn't.
-fn rows_with_read_time(chance: &mut Chance, channel: Channel, turn: u64) -> Vec<Row> {
+pub fn rows_with_read_time(chance: &mut Chance, channel: Channel, turn: u64) -> Vec<Row> {
     let pairs = dates_with_read_times();
     let (date, read_time) = pairs[which(turn, pairs.len())];
     let mut rows = files::day_block(chance, channel, date);
