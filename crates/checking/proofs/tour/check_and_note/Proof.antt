@@ -72,11 +72,15 @@ returns-3 c = (
   refused-answer _ _ _ _ _ (c .refused3 .ensures)
       (turned-stop _ _ _ (c .before .before .before .before .before .before .before .before .before .before .before .before .loop .st) (c .before .before .before .before .before .before .before .before .before .before .before .before .loop .t) (c .before .before .before .before .before .before .before .before .before .before .before .before .loop .inv) (c .before .before .before .before .before .before .before .before .before .before .if2 .taken) _ (c .before .before .before .before .before .before .before .before .before .record-at .ensures) _ _ (c .before .before .before .before .before .before .before .handed .given .1) _ (c .before .before .before .before .before .step .ensures .0) _ _ _ (c .before .before .before .step2 .given .1) _
       (c .before .place-of2 .ensures)),
-  (search refused-day,
-  (refused-before _ _ _ _ _ (c .refused3 .ensures)
-      (turned-stop _ _ _ (c .before .before .before .before .before .before .before .before .before .before .before .before .loop .st) (c .before .before .before .before .before .before .before .before .before .before .before .before .loop .t) (c .before .before .before .before .before .before .before .before .before .before .before .before .loop .inv) (c .before .before .before .before .before .before .before .before .before .before .if2 .taken) _ (c .before .before .before .before .before .before .before .before .before .record-at .ensures) _ _ (c .before .before .before .before .before .before .before .handed .given .1) _ (c .before .before .before .before .before .step .ensures .0) _ _ _ (c .before .before .before .step2 .given .1) _
-      (c .before .place-of2 .ensures)),
-  search refused-channel)),
+  (
+    search refused-day,
+    (
+      refused-before _ _ _ _ _ (c .refused3 .ensures)
+          (turned-stop _ _ _ (c .before .before .before .before .before .before .before .before .before .before .before .before .loop .st) (c .before .before .before .before .before .before .before .before .before .before .before .before .loop .t) (c .before .before .before .before .before .before .before .before .before .before .before .before .loop .inv) (c .before .before .before .before .before .before .before .before .before .before .if2 .taken) _ (c .before .before .before .before .before .before .before .before .before .record-at .ensures) _ _ (c .before .before .before .before .before .before .before .handed .given .1) _ (c .before .before .before .before .before .step .ensures .0) _ _ _ (c .before .before .before .step2 .given .1) _
+          (c .before .place-of2 .ensures)),
+      search refused-channel,
+    ),
+  ),
 )
 
 enum-known-step-2 : tie.Need-enum-known-step-2 Inv-loop μ-loop

@@ -1,0 +1,2 @@
+pub mod Replace
+pub mod Tries
