@@ -19,7 +19,7 @@ use Rattle.refusals.specs.Places.{headline, counts, whereabouts}
 use Rattle.refusals.specs.Hints.{knownUnits, tooMany}
 use Rattle.refusals.specs.Excerpts.{excerpt, mark}
 use Rattle.records.specs.Records.{recordOf, channelBefore, nBefore, unitNamed}
-use Rattle.explain.specs.Said.{hasPlace, markedText, shownLine, countsLine, isUnitField, isInterval, isValueField, unitFor, decimalsLine, unitLine, hint, placeText, explanation, toldPlace, told}
+use Rattle.explain.specs.Said.{hasPlace, markedText, shownLine, countsLine, isUnitField, isInterval, isValueField, unitFor, decimalsLine, unitLine, hint, placeText, explanationAs, toldPlace, told}
 use Rattle.records.specs.declared.Record.{Record}
 
 module _ {p₀ p₁ p₂ p₃ p₄ : List ℕ} {at i j k l : ℕ} where
@@ -28,23 +28,23 @@ module _ {p₀ p₁ p₂ p₃ p₄ : List ℕ} {at i j k l : ℕ} where
   unfolding markedText lineText
   marked-put line column a b c d = filled-then (filled-then a b) (filled-then c d)
 
-  pub place-put : (file : List ℕ) (x : Refusal) (r : Record) {line : List ℕ} {column : ℕ} → line ≡ part file (r .start) (r .end) → column ≡ x .place - r .start
-      → Filled p₀ at (whereabouts x (r .kind) (r .count)) i p₁ → Filled p₁ i (10 ∷ []) j p₂ → Filled p₂ j (hint file x r) k p₃
-      → Filled p₃ k (shownLine line column) l p₄ → Filled p₀ at (placeText file x r) l p₄
+  pub place-put : (file : List ℕ) (x y : Refusal) (r : Record) {line : List ℕ} {column : ℕ} → line ≡ part file (r .start) (r .end) → column ≡ x .place - r .start
+      → Filled p₀ at (whereabouts y (r .kind) (r .count)) i p₁ → Filled p₁ i (10 ∷ []) j p₂ → Filled p₂ j (hint file x r) k p₃
+      → Filled p₃ k (shownLine line column) l p₄ → Filled p₀ at (placeText file x y r) l p₄
   unfolding placeText lineText
-  place-put file x r el ec a b c d = rw (← el, ← ec) (filled-then (filled-then (filled-then a b) c) d)
+  place-put file x y r el ec a b c d = rw (← el, ← ec) (filled-then (filled-then (filled-then a b) c) d)
 
 module _ {p₀ p₁ p₂ p₃ : List ℕ} {at i j k : ℕ} where
   -- b is what `has_place` answers
-  pub explained-put : (file : List ℕ) (x : Refusal) {r : Record} {b : Bool} → b ≡ hasPlace (x .number) → b ≡ true → r ≡ recordOf file (x .place)
-      → Filled p₀ at (headline (x .number)) i p₁ → Filled p₁ i (10 ∷ []) j p₂ → Filled p₂ j (placeText file x r) k p₃ → Filled p₀ at (explanation file x) k p₃
-  unfolding explanation lineText
-  explained-put file x e t er a c d = rw (← e, t, ← er) (filled-then (filled-then a c) d)
+  pub explained-put : (file : List ℕ) (x y : Refusal) {r : Record} {b : Bool} → b ≡ hasPlace (x .number) → b ≡ true → r ≡ recordOf file (x .place)
+      → Filled p₀ at (headline (x .number)) i p₁ → Filled p₁ i (10 ∷ []) j p₂ → Filled p₂ j (placeText file x y r) k p₃ → Filled p₀ at (explanationAs file x y) k p₃
+  unfolding explanationAs lineText
+  explained-put file x y e t er a c d = rw (← e, t, ← er) (filled-then (filled-then a c) d)
 
-  pub explained-bare : (file : List ℕ) (x : Refusal) {b : Bool} → b ≡ hasPlace (x .number) → b ≡ false
-      → Filled p₀ at (headline (x .number)) i p₁ → Filled p₁ i (10 ∷ []) j p₂ → Filled p₂ j [] k p₃ → Filled p₀ at (explanation file x) k p₃
-  unfolding explanation lineText
-  explained-bare file x e t a c d = rw (← e, t) (filled-then (filled-then a c) d)
+  pub explained-bare : (file : List ℕ) (x y : Refusal) {b : Bool} → b ≡ hasPlace (x .number) → b ≡ false
+      → Filled p₀ at (headline (x .number)) i p₁ → Filled p₁ i (10 ∷ []) j p₂ → Filled p₂ j [] k p₃ → Filled p₀ at (explanationAs file x y) k p₃
+  unfolding explanationAs lineText
+  explained-bare file x y e t a c d = rw (← e, t) (filled-then (filled-then a c) d)
 
 module _ {p₀ p₁ p₂ : List ℕ} {at i j : ℕ} (file : List ℕ) (x : Refusal) where
   -- b is what `has_place` answers

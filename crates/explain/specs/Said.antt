@@ -70,13 +70,16 @@ markedText line column = lineText (excerpt line column) ++ lineText (mark column
 unfoldable pub shownLine : List ℕ → ℕ → List ℕ
 shownLine line column = cond (eqb (length line) 0) [] (markedText line column)
 
--- where a refusal stands, which is in the record r
-unfoldable pub placeText : List ℕ → Refusal → Record → List ℕ
-placeText file x r =
-    lineText (whereabouts x (r .kind) (r .count)) ++ hint file x r ++ shownLine (part file (r .start) (r .end)) (x .place - r .start)
+-- where a refusal stands, which is in the record r; its place is told as y has it
+unfoldable pub placeText : List ℕ → Refusal → Refusal → Record → List ℕ
+placeText file x y r =
+    lineText (whereabouts y (r .kind) (r .count)) ++ hint file x r ++ shownLine (part file (r .start) (r .end)) (x .place - r .start)
 
-unfoldable pub explanation : List ℕ → Refusal → List ℕ
-explanation file x = lineText (headline (x .number)) ++ cond (hasPlace (x .number)) (placeText file x (recordOf file (x .place))) []
+unfoldable pub explanationAs : List ℕ → Refusal → Refusal → List ℕ
+explanationAs file x y = lineText (headline (x .number)) ++ cond (hasPlace (x .number)) (placeText file x y (recordOf file (x .place))) []
+
+abbrev pub explanation : List ℕ → Refusal → List ℕ
+explanation file x = explanationAs file x x
 
 -- where it stands, in the same line
 unfoldable pub toldPlace : List ℕ → Refusal → List ℕ

@@ -12,7 +12,7 @@ use refusals::places::whereabouts;
 ghost use mathlib.Core.Path.{_≡_};
 ghost use Prim.Native.Nat.{_-_};
 ghost use Rattle.page.specs.Filled.{Filled};
-ghost use Rattle.explain.specs.Said.{hasPlace, markedText, shownLine, placeText, explanation, toldPlace, told as Said·told};
+ghost use Rattle.explain.specs.Said.{hasPlace, markedText, shownLine, placeText, explanationAs, explanation, toldPlace, told as Said·told};
 
 // Whether the number comes with a place in the file.
 fn has_place(number: u64) -> bool
@@ -53,11 +53,11 @@ fn column_of(start: usize, place: usize) -> usize
     place - start
 }
 
-// Where a refusal stands, which is in the record r.
-fn place_text(page: &mut [u8], at: usize, file: &[u8], x: Refusal, r: Record) -> usize
-    ensures { λ p. ⌜ Filled (now (page .entry)) at (placeText (now (file .entry)) x r) p (now (page .exit)) ⌝ }
+// Where a refusal stands, which is in the record r; its place is told as y has it.
+fn place_text(page: &mut [u8], at: usize, file: &[u8], x: Refusal, y: Refusal, r: Record) -> usize
+    ensures { λ p. ⌜ Filled (now (page .entry)) at (placeText (now (file .entry)) x y r) p (now (page .exit)) ⌝ }
 {
-    let p = whereabouts(page, at, x, r.kind, r.count);
+    let p = whereabouts(page, at, y, r.kind, r.count);
     let q = put(page, p, b"\n");
     let s = hint(page, q, file, x, r);
     shown_line(
@@ -68,16 +68,23 @@ fn place_text(page: &mut [u8], at: usize, file: &[u8], x: Refusal, r: Record) ->
     )
 }
 
-// All that is said of a refusal.
-pub fn explained(page: &mut [u8], at: usize, file: &[u8], x: Refusal) -> usize
-    ensures { λ r. ⌜ Filled (now (page .entry)) at (explanation (now (file .entry)) x) r (now (page .exit)) ⌝ }
+// All that is said of a refusal x of a file, with its place told as y has it: a block's refusal is looked at behind its 200, and told from the block's start.
+pub fn explained_as(page: &mut [u8], at: usize, file: &[u8], x: Refusal, y: Refusal) -> usize
+    ensures { λ r. ⌜ Filled (now (page .entry)) at (explanationAs (now (file .entry)) x y) r (now (page .exit)) ⌝ }
 {
     let p = headline(page, at, x.number);
     let q = put(page, p, b"\n");
     if has_place(x.number) {
-        return place_text(page, q, file, x, record_of(file, x.place));
+        return place_text(page, q, file, x, y, record_of(file, x.place));
     }
     put(page, q, b"")
+}
+
+// The same, with its own place.
+pub fn explained(page: &mut [u8], at: usize, file: &[u8], x: Refusal) -> usize
+    ensures { λ r. ⌜ Filled (now (page .entry)) at (explanation (now (file .entry)) x) r (now (page .exit)) ⌝ }
+{
+    explained_as(page, at, file, x, x)
 }
 
 // Where it stands, in the line that says what it means.

@@ -1,8 +1,8 @@
--- `explain::refused::explained` meets its contract. Assumes nothing.
+-- `explain::refused::explained_as` meets its contract. Assumes nothing.
 use Rattle.explain.proofs.Saying.{explained-put, explained-bare}
 use borrow.Author.Needs.{needs}
-use Rattle.explain.proofs.refused.explained.Statement.{statement}
-use Rattle.explain.proofs.refused.explained.Tie as tie
+use Rattle.explain.proofs.refused.explained_as.Statement.{statement}
+use Rattle.explain.proofs.refused.explained_as.Tie as tie
 
 headline-requires : tie.Need-headline-requires
 headline-requires c κs = search needs
@@ -40,8 +40,8 @@ same-length-2 c = search needs
 returns-2 : tie.Need-returns-2
 returns-2 c = search explained-bare
 
-pub explained-spec : {M : Type 1} → statement M
-explained-spec =
+pub explained-as-spec : {M : Type 1} → statement M
+explained-as-spec =
     tie.close
     (tie.spec
     headline-requires
