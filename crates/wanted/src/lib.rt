@@ -142,9 +142,28 @@ fn by_key(page: &mut [u8], file: &[u8]) -> Wanted {
     }
 }
 
-pub fn wanted_day(page: &mut [u8], file: &[u8]) -> Wanted {
-    if os::arg_count() == BY_KEY {
+// The day, of so many words in all.
+fn asked(page: &mut [u8], file: &[u8], words: usize) -> Wanted {
+    if words == BY_KEY {
         return by_key(page, file);
     }
     by_number(page)
+}
+
+pub fn wanted_day(page: &mut [u8], file: &[u8]) -> Wanted {
+    asked(page, file, os::arg_count())
+}
+
+// The same where one more word stands behind those of the day.
+pub fn wanted_before_last(page: &mut [u8], file: &[u8]) -> Wanted {
+    asked(page, file, last_word())
+}
+
+// The number of the last word, which is how many stand before it.
+pub fn last_word() -> usize {
+    let n = os::arg_count();
+    if n == 0 {
+        return 0;
+    }
+    n - 1
 }
