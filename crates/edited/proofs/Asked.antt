@@ -1,11 +1,11 @@
 -- A replacing that is accepted, taken apart: every test on its way passed, and the room that it leaves begins with the edited file. Assumes nothing.
 use Prim.Native.Nat.{ℕ, _≤_}
-use mathlib.Core.Path.{_≡_, refl, sym, ap}
+use mathlib.Core.Path.{_≡_, refl, sym, ap, ap₂}
 use mathlib.Core.List.{List, [], _∷_}
 use lib.ListN.{length, take, drop}
 use lib.Seq.{take-append-seam, drop-append-seam}
 use lib.Dec.{ltb, eqb}
-use borrow.Author.Tests.{ltb-false, eqb-true}
+use borrow.Author.Tests.{ltb-false, eqb-true, eq-eqb, le-ltb}
 use Rattle.ground.proofs.Cases.{by}
 use Rattle.format.specs.Cut.{lines}
 use Rattle.format.specs.Records.{dateIn}
@@ -15,12 +15,8 @@ use Rattle.format.specs.Day.{DayRows, daysOf, over}
 use Rattle.passing.specs.Passes.{topDate}
 use Rattle.passing.proofs.Walk.{not-accepted}
 use Rattle.whose.specs.Whose.{whoseIs}
-use Rattle.replacing.specs.Replace.{Left, left, orRefused, edited, putOf, sameDate, replaceFirst, replaceIn, replaceOf}
-use Rattle.edited.specs.Edited.{Replaces}
-
--- the edited file, where the day d stood
-abbrev pub editedAt : List ℕ → DayRows → List ℕ → List ℕ
-editedAt file d block = edited file (whoseIs file d .start) (whoseIs file d .end) block
+use Rattle.replacing.specs.Replace.{Left, left, orRefused, putOf, sameDate, replaceFirst, replaceIn, replaceOf}
+use Rattle.edited.specs.Edited.{Replaces, editedAt}
 
 pub record Asked (file room : List ℕ) (day : ℕ) (block : List ℕ) (m : ℕ) (room′ : List ℕ) : Type 0 where
   pub answer : List ℕ
@@ -32,6 +28,7 @@ pub record Asked (file room : List ℕ) (day : ℕ) (block : List ℕ) (m : ℕ)
   pub block-check : blockCheckOf (whoseIs file rows .minutes) (whoseIs file rows .unit) block ≡ accepted numbers
   pub date : topDate (lines block) ≡ dateIn (rows .block .top .cells)
   pub short : length (editedAt file rows block) ≤ most
+  pub fits : length (editedAt file rows block) ≤ length room
   pub size : m ≡ length (editedAt file rows block)
   pub leaves : room′ ≡ over (editedAt file rows block) room
 
@@ -50,7 +47,7 @@ same-date d block xs e =
     (λ t. eqb-true _ _ t)
     (λ t. not-accepted 8 4 0 2 xs (rw t at e))
 
-put : (file room : List ℕ) (m : ℕ) (room′ : List ℕ) → putOf file room ≡ left (accepted (m ∷ [])) room′ → (length file ≤ most) × (m ≡ length file) × (room′ ≡ over file room)
+put : (file room : List ℕ) (m : ℕ) (room′ : List ℕ) → putOf file room ≡ left (accepted (m ∷ [])) room′ → (length file ≤ most) × (length file ≤ length room) × (m ≡ length file) × (room′ ≡ over file room)
 unfolding putOf
 put file room m room′ e =
     by (ltb most (length file))
@@ -61,7 +58,7 @@ put file room m room′ e =
     let q : left (accepted (length file ∷ [])) (over file room) ≡ left (accepted (m ∷ [])) room′ = rw (t, s) at e in
     let i : accepted (length file ∷ []) ≡ accepted (m ∷ []) = ap (λ (l : Left). l .answer) q in
     let j : m ≡ length file = cc in
-    (ltb-false _ _ t, j, sym (ap (λ (l : Left). l .room) q))))
+    (ltb-false _ _ t, ltb-false _ _ s, j, sym (ap (λ (l : Left). l .room) q))))
 
 asked-first : (file xs : List ℕ) (day : ℕ) (block room : List ℕ) (m : ℕ) (room′ : List ℕ) (ds : List DayRows) → checkOf file ≡ accepted xs → drop day (daysOf file) ≡ ds
     → replaceFirst file ds block room ≡ left (accepted (m ∷ [])) room′ → Asked file room day block m room′
@@ -81,11 +78,12 @@ asked-first file xs day block room m room′ (d ∷ ds) c q e =
       block-check = a .1;
       date = same-date d block (b .0) (b .1);
       short = w .0;
-      size = w .1;
-      leaves = w .2;
+      fits = w .1;
+      size = w .2;
+      leaves = w .3;
     }
 
-pub asked : (room : List ℕ) (n day : ℕ) (block : List ℕ) (m : ℕ) (room′ : List ℕ) → Replaces room n day block m room′ → Asked (take n room) room day block m room′
+pub asked : (room : List ℕ) (n day : ℕ) (block : List ℕ) (m : ℕ) (room′ : List ℕ) → Replaces room n day block m room′ → (n ≤ length room) × Asked (take n room) room day block m room′
 unfolding replaceOf replaceIn
 asked room n day block m room′ e =
     by (ltb (length room) n)
@@ -94,7 +92,16 @@ asked room n day block m room′ e =
     let file : List ℕ = take n room in
     let q : orRefused (checkOf file) room (replaceFirst file (drop day (daysOf file)) block room) ≡ left (accepted (m ∷ [])) room′ = rw t at e in
     let a = or-accepted (checkOf file) room (replaceFirst file (drop day (daysOf file)) block room) (m ∷ []) room′ q in
-    asked-first file (a .0) day block room m room′ (drop day (daysOf file)) (a .1) refl (a .2))
+    (ltb-false _ _ t, asked-first file (a .0) day block room m room′ (drop day (daysOf file)) (a .1) refl (a .2)))
+
+-- and where every test passes, it is accepted
+pub asked-replaces : (room : List ℕ) (n day : ℕ) (block : List ℕ) (m : ℕ) (room′ : List ℕ) → n ≤ length room → Asked (take n room) room day block m room′
+    → Replaces room n day block m room′
+unfolding replaceOf replaceIn sameDate putOf
+asked-replaces room n day block m room′ l w =
+    let new : List ℕ = editedAt (take n room) (w .rows) block in
+    rw (le-ltb (length room) n l, w .check, w .at, w .block-check, eq-eqb _ _ (w .date), le-ltb most (length new) (w .short), le-ltb (length room) (length new) (w .fits))
+    (ap₂ left (ap (λ (i : ℕ). accepted (i ∷ [])) (sym (w .size))) (sym (w .leaves)))
 
 -- the room that is left: the edited file, and then what was there
 module _ (file room : List ℕ) (day : ℕ) (block : List ℕ) (m : ℕ) (room′ : List ℕ) (w : Asked file room day block m room′) where

@@ -5,3 +5,4 @@ pub mod Whose
 pub mod Asked
 pub mod Swap
 pub mod Theorems
+pub mod Exactly

@@ -150,7 +150,7 @@ module _ (e b : ℕ) where
   EachMoved (x ∷ xs) (y ∷ ys) = Moved x y × EachMoved xs ys
 
   shifted-on : (i : ℕ) → b + i ≡ shifted e b (e + i)
-  shifted-on i = let z : b + i ≡ e + i - e + b = omega arith in rw (le-leb e (e + i) (omega arith)) z
+  shifted-on i = rw (le-leb e (e + i) (omega arith)) (omega arith)
 
   module _ (some : 0 < e) where
     start-moved : (f : List ℕ) (k s : ℕ) → cond (eqb (length f) 0) 0 (b + k + s) ≡ shifted e b (cond (eqb (length f) 0) 0 (e + k + s))

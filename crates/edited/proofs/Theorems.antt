@@ -17,9 +17,9 @@ use Rattle.passing.proofs.Alone.{alone, accepted-alone, alone-anywhere}
 use Rattle.passing.proofs.Parts.{Parts, parts}
 use Rattle.whose.specs.Whose.{whoseIs, whoseAs, findFirst, findOf}
 use Rattle.replacing.specs.Replace.{edited}
-use Rattle.edited.specs.Edited.{Replaces, Edited}
+use Rattle.edited.specs.Edited.{Replaces, editedAt, Edited}
 use Rattle.edited.proofs.Whose.{take-before, drop-block, day-is, start-is, end-is, channel-is, minutes-is, unit-is, decimals-are}
-use Rattle.edited.proofs.Asked.{editedAt, Asked, asked, edited-is, behind-is}
+use Rattle.edited.proofs.Asked.{Asked, asked, edited-is, behind-is}
 use Rattle.edited.proofs.Swap.{Other, same-check, bytes-before, bytes-inside, bytes-behind, new, reads-new, read-new, same-days, earlier-day, later-day, totals-there}
 
 found-day : (file xs : List ℕ) (day : ℕ) (d : DayRows) (ds : List DayRows) → checkOf file ≡ accepted xs → drop day (daysOf file) ≡ d ∷ ds → findOf file day ≡ whoseAs (whoseIs file d)
@@ -59,7 +59,7 @@ module _ (file : List ℕ) (day : ℕ) (d : DayRows) (p : Parts file day d) wher
           earlier = subst (λ (i : ℕ). p .st .date < i) e (accepted-later (p .st) (p .block) (p .accepted));
         }
 
-    taken : Accepted (p .st) block
+    pub taken : Accepted (p .st) block
     taken = alone-anywhere (whoseIs file d .minutes) (whoseIs file d .unit) block t n u l k w (p .st) awaits
 
     -- what the new day says is what the block's check answers
@@ -132,10 +132,10 @@ module _ (file room : List ℕ) (day : ℕ) (block : List ℕ) (m : ℕ) (room�
 pub replaced : (room : List ℕ) (n day : ℕ) (block : List ℕ) (m : ℕ) (room′ : List ℕ) → Replaces room n day block m room′ → Edited (take n room) day block (take m room′)
 replaced room n day block m room′ h =
     let file : List ℕ = take n room in
-    let w = asked room n day block m room′ h in
+    let w = asked room n day block m room′ h .1 in
     let q = edited-is file room day block m room′ w ∙ edited-parts file day (w .rows) (parts-there file room day block m room′ w) block in
     subst (Edited file day block) (sym q) (edited-there file room day block m room′ w)
 
 -- "lent bytes past the new end stay"
 pub past-end : (room : List ℕ) (n day : ℕ) (block : List ℕ) (m : ℕ) (room′ : List ℕ) → Replaces room n day block m room′ → drop m room′ ≡ drop m room
-past-end room n day block m room′ h = behind-is (take n room) room day block m room′ (asked room n day block m room′ h)
+past-end room n day block m room′ h = behind-is (take n room) room day block m room′ (asked room n day block m room′ h .1)

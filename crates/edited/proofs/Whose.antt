@@ -2,6 +2,7 @@
 -- the state there. Assumes nothing.
 use Prim.Native.Nat.{ℕ, _+_, _-_}
 use mathlib.Core.Path.{_≡_, sym, ap, _∙_}
+use mathlib.Core.Logic.{_≢_}
 use mathlib.Core.Bool.{true, _||_}
 use mathlib.Core.List.{List, _∷_, _++_}
 use native.Mathlib.Omega.{arith}
@@ -10,20 +11,21 @@ use lib.Seq.{take-append-seam, drop-append-seam, drop-append-add}
 use lib.Dec.{eqb}
 use Rattle.ground.proofs.Tests.{and-true}
 use Rattle.format.specs.Numbers.{isNumber, intervalsOf}
-use Rattle.format.specs.Units.{unitOf, decimalsOf}
+use Rattle.format.specs.Units.{unitOf, isUnit, decimalsOf}
 use Rattle.format.specs.Cut.{Lines, line, rest, lines, fields, field}
-use Rattle.format.specs.Records.{noScale, kindIn, rowOf, obeys, unitField, unitIn, decimalsIn, intervalsIn}
+use Rattle.format.specs.Records.{noScale, kindIn, rowOf, obeys, lengthField, unitField, unitIn, decimalsIn, intervalsIn}
 use Rattle.format.specs.Order.{Due}
 use Rattle.format.specs.File.{after}
 use Rattle.format.specs.Day.{DayRows, dayFrom}
 use Rattle.format.specs.Total.{totalsFrom}
 use Rattle.format.proofs.Cut.{bytesOf}
-use Rattle.format.proofs.Units.{unit-decimals}
+use Rattle.format.proofs.Units.{unit-in, unit-decimals}
 use Rattle.passing.specs.Passes.{Passes, kindsOf, areUnder}
 use Rattle.passing.proofs.Files.{onto, lines-behind}
 use Rattle.passing.proofs.Blocks.{headed, one-day}
 use Rattle.passing.proofs.Parts.{Apart, Parts}
 use Rattle.theorems.proofs.Rows.{ok-at}
+use Rattle.theorems.proofs.Says.{length-some}
 use Rattle.whose.specs.Whose.{channelsBefore, minutesIn, underEnd, endFrom, whoseIs}
 use Rattle.edited.proofs.Moved.{block-length}
 
@@ -96,6 +98,14 @@ module _ (file : List ℕ) (day : ℕ) (d : DayRows) (p : Parts file day d) wher
   named : isNumber (unitOf (field unitField (d .channel .cells))) ≡ true
   unfolding rowOf obeys
   named = ok-at 200 noScale (d .channel .cells) unitField (p .head) (omega arith)
+
+  pub unit-known : isUnit (whoseIs file d .unit) ≡ true
+  unfolding unitIn
+  unit-known = rw unit-is (unit-in (field unitField (d .channel .cells)) named)
+
+  pub length-known : intervalsOf (whoseIs file d .minutes) ≢ 0
+  unfolding rowOf obeys
+  length-known e = omega (arith, length-some (d .channel .cells) (ok-at 200 noScale (d .channel .cells) lengthField (p .head) (omega arith)), minutes-is, p .intervals)
 
   pub decimals-are : decimalsOf (whoseIs file d .unit) ≡ p .st .decimals
   unfolding unitIn decimalsIn

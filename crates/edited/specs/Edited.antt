@@ -1,7 +1,7 @@
 -- What a replacing that is accepted leaves of the file. 02, 14: "the edited file is accepted. Every other day reads as before but for shifted description
 -- places, the channel's total equals a fresh count, and bytes outside the block are the old ones; lent bytes past the new end stay." The tickets of 02 say
 -- each more closely, below.
-use Prim.Native.Nat.{ℕ, _+_, _-_, _<_}
+use Prim.Native.Nat.{ℕ, _+_, _-_, _≤_, _<_}
 use mathlib.Core.Path.{_≡_}
 use mathlib.Core.Logic.{_≢_}
 use mathlib.Core.Bool.{cond}
@@ -9,18 +9,41 @@ use mathlib.Core.List.{List, [], _∷_, _++_, map}
 use lib.ListN.{length, take, drop}
 use lib.Dec.{leb}
 use Rattle.ground.specs.Lists.{sum}
+use Rattle.format.specs.Cut.{lines}
 use Rattle.format.specs.Answers.{Answer, accepted, refused}
-use Rattle.format.specs.File.{checkOf, blockCheckOf, IsAccepted}
+use Rattle.format.specs.Order.{Due}
+use Rattle.format.specs.File.{most, checkOf, blockCheckOf, IsAccepted}
 use Rattle.format.specs.Day.{DayRows, daysOf, Day, Five, five, Outcome, outcome, readOf}
 use Rattle.format.specs.Total.{totalOf}
+use Rattle.passing.specs.Passes.{Leads, Accepted, topDate}
 use Rattle.theorems.specs.Days.{meant}
 use Rattle.shortest.specs.Blocks.{Reads, Read}
-use Rattle.whose.specs.Whose.{Whose, whoseAs, findOf}
-use Rattle.replacing.specs.Replace.{left, replaceOf}
+use Rattle.whose.specs.Whose.{Whose, whoseIs, whoseAs, findOf}
+use Rattle.replacing.specs.Replace.{left, edited, replaceOf}
 
 -- the file is the room's first n bytes; a replacing of its day by the block is accepted, and the edited file is the first m bytes of the room that is left
 abbrev pub Replaces : List ℕ → ℕ → ℕ → List ℕ → ℕ → List ℕ → Type 0
 Replaces room n day block m room′ = replaceOf room n day block ≡ left (accepted (m ∷ [])) room′
+
+-- ---- when it is accepted
+
+-- the file with the block in the place of the day d's
+abbrev pub editedAt : List ℕ → DayRows → List ℕ → List ℕ
+editedAt file d block = edited file (whoseIs file d .start) (whoseIs file d .end) block
+
+-- the file is accepted and has a day of this number; behind what stands before that day's block the check takes these bytes as a block, and they have its date;
+-- the edited file is no longer than a file may be, and than the room
+pub record Replaceable (file : List ℕ) (day : ℕ) (block room : List ℕ) : Type 0 where
+  pub was : IsAccepted file
+  pub rows : DayRows
+  pub others : List DayRows
+  pub at : drop day (daysOf file) ≡ rows ∷ others
+  pub st : Due
+  pub leads : Leads (take (whoseIs file rows .start) file) st
+  pub taken : Accepted st block
+  pub date : topDate (lines block) ≡ meant rows .date
+  pub short : length (editedAt file rows block) ≤ most
+  pub fits : length (editedAt file rows block) ≤ length room
 
 -- ---- description places
 
