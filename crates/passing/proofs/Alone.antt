@@ -214,6 +214,22 @@ alone m y s t n u l k = (
       e ∙ rw (w .says, w .records)),
 )
 
+-- It accepts with no other numbers.
+pub accepted-alone : (m y : ℕ) (s xs : List ℕ) → blockCheckOf m y s ≡ accepted xs → (t n u l k : ℕ) × Alone m y s t n u l k × (xs ≡ t ∷ n ∷ u ∷ l ∷ k ∷ [])
+accepted-alone m y s xs e =
+    let w = check-block m y s xs e in
+    let n : ℕ = intervalsOf m in
+    let d = headed (behind200 n (decimalsOf y)) s (w .2) in
+    let fs : List (List ℕ) = fields (d .first) in (
+      dateIn fs,
+      n,
+      updateIn n fs,
+      loadIn n fs,
+      length (kindsOf (lines s)),
+      record { intervals = refl; known = w .0; unit-known = w .1; accepted = w .2; says = rw (d .is); records = refl },
+      w .3 ∙ ap (λ (ls : Lines). topSays n ls ++ length (kindsOf (lines s)) ∷ []) (d .is),
+    )
+
 -- A block that it accepts, with the date t and n intervals, is accepted in every state that awaits a block of n intervals, the unit's decimals and that date.
 pub alone-anywhere : (m y : ℕ) (s : List ℕ) (t n u l k : ℕ) → Alone m y s t n u l k → (st : Due) → Awaits st n (decimalsOf y) t → Accepted st s
 alone-anywhere m y s t n u l k w st h =

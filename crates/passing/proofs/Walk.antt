@@ -9,13 +9,15 @@ use lib.ListN.{length}
 use lib.Dec.{ltb, eqb}
 use borrow.Author.Tests.{ne-eqb, ltb-false, le-ltb}
 use Rattle.ground.proofs.Cases.{by}
-use Rattle.format.specs.Cut.{Lines, line, rest, lines}
+use Rattle.format.specs.Cut.{Lines, line, rest, lines, fields}
+use Rattle.format.specs.Records.{kindIn}
 use Rattle.format.specs.Order.{isEnd, Due, begun}
 use Rattle.format.specs.Faults.{faultOf}
 use Rattle.format.specs.Answers.{Answer, accepted, refused, refusal}
 use Rattle.format.specs.File.{after, orGoOn, walkOf, most, checkOf, IsAccepted}
 use Rattle.format.specs.declared.Fault.{Fault}
 use Rattle.format.specs.declared.Fault.the-variants.{Fine, Stop}
+use Rattle.format.proofs.States.{not-ended}
 use Rattle.passing.specs.Passes.{Passes}
 use Rattle.passing.proofs.Fit.{Fit, fine-fit}
 
@@ -80,6 +82,13 @@ passed st p k (line r ls) xs e =
     let w = passed (after st r) (p + length r + 2) (k + 1) ls xs (g .on) in
     record { end = w .end; passes = (g .fine, w .passes); expected = w .expected; answer = w .answer }
 
+-- and what is passed to there is accepted, with those counts
+pub passes-walk : (st end : Due) (p k : ℕ) (ls : Lines) → Passes st ls end → isEnd (end .expect) ≡ true → walkOf st p k ls ≡ accepted (end .version ∷ end .channels ∷ end .days ∷ [])
+unfolding walkOf
+passes-walk st end p k (rest t) h x = rw (h .0, h .1, x)
+passes-walk st end p k (line r ls) h x =
+    rw (not-ended (st .expect) (kindIn (fields r)) (fine-fit st r (h .0) .may), h .0) (passes-walk (after st r) end (p + length r + 2) (k + 1) ls (h .1) x)
+
 -- ---- the file
 
 -- an answer that is no refusal 1 is the walk's
@@ -98,3 +107,7 @@ file-short file a = walk-of file (accepted (a .0)) (a .1) (not-accepted 1 0 0 0 
 -- and passes
 pub file-passes : (file xs : List ℕ) → checkOf file ≡ accepted xs → Passed begun (lines file) xs
 file-passes file xs e = passed begun 0 0 (lines file) xs (walk-of file (accepted xs) e (not-accepted 1 0 0 0 xs) .1)
+
+pub passes-file : (file : List ℕ) (end : Due) → length file ≤ most → Passes begun (lines file) end → isEnd (end .expect) ≡ true
+    → checkOf file ≡ accepted (end .version ∷ end .channels ∷ end .days ∷ [])
+passes-file file end l h x = of-walk file (accepted (end .version ∷ end .channels ∷ end .days ∷ [])) l (passes-walk begun end 0 0 (lines file) h x)

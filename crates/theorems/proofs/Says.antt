@@ -47,22 +47,34 @@ date-most n d fs h = last-date (dateIn fs) (that-holds isDate (numberOf 8 8 (fie
 
 -- ---- a 200's intervals
 
-pub intervals-of : (fs : Record) → IsRecord 200 0 0 fs → (intervalsIn fs ≡ 288) ⊎ ((intervalsIn fs ≡ 96) ⊎ (intervalsIn fs ≡ 48))
-unfolding rowOf obeys intervalsIn lengthOf intervalsOf isLength
-intervals-of fs h =
+-- of an interval length
+intervals-in : (fs : Record) → isNumber (lengthOf (field 8 fs)) ≡ true → (intervalsIn fs ≡ 288) ⊎ ((intervalsIn fs ≡ 96) ⊎ (intervalsIn fs ≡ 48))
+unfolding intervalsIn lengthOf intervalsOf isLength
+intervals-in fs h =
     let m : ℕ = numberIn (lengthOf (field 8 fs)) in
-    let p : isLength m ≡ true = that-holds isLength (smallOf 2 (field 8 fs)) (meets-at 200 (rowOf 200 (scale 0 0)) fs 8 (h .meets) (omega arith)) in
+    let p : isLength m ≡ true = that-holds isLength (smallOf 2 (field 8 fs)) h in
     by (eqb m 5) (λ e. inl (rw (eqb-true m 5 e)))
     λ e₁. by (eqb m 15) (λ e. inr (inl (rw (eqb-true m 15 e))))
     λ e₂. inr (inr (let e : m ≡ 30 = eqb-true m 30 (let z : eqb m 30 ≡ true = (rw (e₁, e₂) at p) in z) in rw e))
 
-pub intervals-some : (fs : Record) → IsRecord 200 0 0 fs → 1 ≤ intervalsIn fs
-intervals-some fs h = go (intervals-of fs h)
+pub length-some : (fs : Record) → isNumber (lengthOf (field 8 fs)) ≡ true → 1 ≤ intervalsIn fs
+length-some fs h = go (intervals-in fs h)
   where
     go : (intervalsIn fs ≡ 288) ⊎ ((intervalsIn fs ≡ 96) ⊎ (intervalsIn fs ≡ 48)) → 1 ≤ intervalsIn fs
     go (inl e) = omega arith
     go (inr (inl e)) = omega arith
     go (inr (inr e)) = omega arith
+
+module _ (fs : Record) (h : IsRecord 200 0 0 fs) where
+  length-known : isNumber (lengthOf (field 8 fs)) ≡ true
+  unfolding rowOf obeys
+  length-known = meets-at 200 (rowOf 200 (scale 0 0)) fs 8 (h .meets) (omega arith)
+
+  pub intervals-of : (intervalsIn fs ≡ 288) ⊎ ((intervalsIn fs ≡ 96) ⊎ (intervalsIn fs ≡ 48))
+  intervals-of = intervals-in fs length-known
+
+  pub intervals-some : 1 ≤ intervalsIn fs
+  intervals-some = length-some fs length-known
 
 -- ---- a 200's unit
 
