@@ -13,7 +13,8 @@ use Rattle.passing.specs.Passes.{Passes, Leads, Accepted, kindsOf}
 use Rattle.passing.proofs.Alone.{alone, accepted-alone, anywhere-alone}
 use Rattle.passing.proofs.Parts.{Parts, parts}
 use Rattle.whose.specs.Whose.{whoseIs}
-use Rattle.edited.specs.Edited.{Replaces, editedAt, Replaceable}
+use Rattle.edited.specs.Edited.{Replaces, Replaceable}
+use Rattle.replacing.specs.Replace.{editedAt}
 use Rattle.edited.proofs.Whose.{take-before, start-is, minutes-is, unit-known, length-known, decimals-are}
 use Rattle.edited.proofs.Asked.{asked, asked-replaces}
 use Rattle.edited.proofs.Theorems.{taken}

@@ -16,8 +16,9 @@ use Rattle.passing.proofs.Blocks.{headed, accepted-later}
 use Rattle.passing.proofs.Alone.{alone, accepted-alone, alone-anywhere}
 use Rattle.passing.proofs.Parts.{Parts, parts}
 use Rattle.whose.specs.Whose.{whoseIs, whoseAs, findFirst, findOf}
-use Rattle.replacing.specs.Replace.{edited}
-use Rattle.edited.specs.Edited.{Replaces, editedAt, Edited}
+use Rattle.moving.specs.Moving.{spliced}
+use Rattle.edited.specs.Edited.{Replaces, Edited}
+use Rattle.replacing.specs.Replace.{editedAt}
 use Rattle.edited.proofs.Whose.{take-before, drop-block, day-is, start-is, end-is, channel-is, minutes-is, unit-is, decimals-are}
 use Rattle.edited.proofs.Asked.{Asked, asked, edited-is, behind-is}
 use Rattle.edited.proofs.Swap.{Other, same-check, bytes-before, bytes-inside, bytes-behind, new, reads-new, read-new, same-days, earlier-day, later-day, totals-there}
@@ -43,7 +44,7 @@ module _ (file : List ℕ) (day : ℕ) (d : DayRows) (p : Parts file day d) wher
   -- the edited file, by the parts of the old one
   edited-parts : (block : List ℕ) → editedAt file d block ≡ p .before ++ (block ++ p .behind)
   edited-parts block =
-      ap₂ (λ (a e : ℕ). edited file a e block) (start-is file day d p) (end-is file day d p)
+      ap₂ (λ (a e : ℕ). spliced file a e block) (start-is file day d p) (end-is file day d p)
       ∙ ap₂ (λ (x y : List ℕ). x ++ (block ++ y)) (take-before file day d p) (drop-block file day d p)
 
   module _ (block : List ℕ) (t n u l k : ℕ) (w : Alone (whoseIs file d .minutes) (whoseIs file d .unit) block t n u l k) (same : topDate (lines block) ≡ dateIn (d .block .top .cells)) where

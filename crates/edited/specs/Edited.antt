@@ -19,17 +19,13 @@ use Rattle.passing.specs.Passes.{Leads, Accepted, topDate}
 use Rattle.theorems.specs.Days.{meant}
 use Rattle.shortest.specs.Blocks.{Reads, Read}
 use Rattle.whose.specs.Whose.{Whose, whoseIs, whoseAs, findOf}
-use Rattle.replacing.specs.Replace.{left, edited, replaceOf}
+use Rattle.replacing.specs.Replace.{left, editedAt, replaceOf}
 
 -- the file is the room's first n bytes; a replacing of its day by the block is accepted, and the edited file is the first m bytes of the room that is left
 abbrev pub Replaces : List ℕ → ℕ → ℕ → List ℕ → ℕ → List ℕ → Type 0
 Replaces room n day block m room′ = replaceOf room n day block ≡ left (accepted (m ∷ [])) room′
 
 -- ---- when it is accepted
-
--- the file with the block in the place of the day d's
-abbrev pub editedAt : List ℕ → DayRows → List ℕ → List ℕ
-editedAt file d block = edited file (whoseIs file d .start) (whoseIs file d .end) block
 
 -- the file is accepted and has a day of this number; behind what stands before that day's block the check takes these bytes as a block, and they have its date;
 -- the edited file is no longer than a file may be, and than the room

@@ -14,7 +14,7 @@ use Rattle.format.specs.File.{most, checkOf, blockCheckOf}
 use Rattle.format.specs.Day.{DayRows, daysOf, over}
 use Rattle.passing.specs.Passes.{topDate}
 use Rattle.moving.specs.Moving.{spliced}
-use Rattle.whose.specs.Whose.{Whose, whoseIs}
+use Rattle.whose.specs.Whose.{whoseIs}
 use Rattle.replacing.specs.declared.Replaced.{Replaced}
 use Rattle.replacing.specs.declared.Replaced.the-variants.{Length, Refused}
 
@@ -36,6 +36,10 @@ abbrev pub orRefused : Answer → List ℕ → Left → Left
 orRefused (accepted xs) room l = l
 orRefused (refused x p k i) room l = left (refused x p k i) room
 
+-- the file with the block in the place of the day d's
+abbrev pub editedAt : List ℕ → DayRows → List ℕ → List ℕ
+editedAt file d block = spliced file (whoseIs file d .start) (whoseIs file d .end) block
+
 -- the edited file into the room, if it isn't too long: "1 if the new length is over the limit, 15 if the room is shorter than the new length"
 unfoldable pub putOf : List ℕ → List ℕ → Left
 putOf file room =
@@ -51,9 +55,8 @@ sameDate d block = cond (eqb (topDate (lines block)) (dateIn (d .block .top .cel
 abbrev pub replaceFirst : List ℕ → List DayRows → List ℕ → List ℕ → Left
 replaceFirst file [] block room = left (refusal 14) room
 replaceFirst file (d ∷ ds) block room =
-    let w : Whose = whoseIs file d in
-    orRefused (blockCheckOf (w .minutes) (w .unit) block) room
-    (orRefused (sameDate d block) room (putOf (spliced file (w .start) (w .end) block) room))
+    orRefused (blockCheckOf (whoseIs file d .minutes) (whoseIs file d .unit) block) room
+    (orRefused (sameDate d block) room (putOf (editedAt file d block) room))
 
 -- the file is the first so many bytes of the room
 unfoldable pub replaceIn : List ℕ → ℕ → List ℕ → List ℕ → Left

@@ -129,17 +129,6 @@ is-record k n d fs i h e o =
       together = subst (Each (λ i. Together (markAt k i fs))) (qualities-of k n d fs) (unbroken-together k fs (z .n) (o .2));
     }
 
--- each field of a record that is in order obeys its rule
-obeyed-at : (k : ℕ) (us : List Rule) (fs : Record) (i : ℕ) → Obeyed k us fs → i < length us → obeys k (getD us i Indicator) (getD fs i []) ≡ true
-obeyed-at k [] fs i h l = absurd (let z : ⊥ = omega arith in z)
-obeyed-at k (u ∷ us) [] i h l = absurd h
-obeyed-at k (u ∷ us) (f ∷ fs) zero h l = h .0
-obeyed-at k (u ∷ us) (f ∷ fs) (suc i) h l = obeyed-at k us fs i (h .1) (omega arith)
-
-pub ok-at : (k : ℕ) (z : Scale) (fs : Record) (i : ℕ) → Ok k z fs → i < length (rowOf k z) → obeys k (getD (rowOf k z) i Indicator) (getD fs i []) ≡ true
-unfolding countOf
-ok-at k z fs i o l = obeyed-at k (rowOf k z) fs i (fine-obeyed k z 0 0 (rowOf k z) fs refl (o .0) (o .1)) l
-
 pub record-fields : (k n d : ℕ) (fs : Record) → IsRecord k n d fs → Fields fs
 record-fields k n d [] r =
     let w = tidied k (scaleFor k n d []) in
