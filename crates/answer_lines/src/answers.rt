@@ -12,7 +12,7 @@ ghost use Rattle.format.specs.Answers.{refusedAs, checkedAs, blockCheckedAs, da
 ghost use Rattle.page.specs.Filled.{Filled};
 ghost use Rattle.answer_lines.specs.Lines.{lineOf};
 
-fn accepted(page: &mut [u8], at: usize, list: &[u64]) -> usize
+pub fn accepted(page: &mut [u8], at: usize, list: &[u64]) -> usize
     ensures { λ r. ⌜ Filled (now (page .entry)) at (lineOf (Answers·accepted (now (list .entry)))) r (now (page .exit)) ⌝ }
 {
     let p = put(page, at, b"accepted");

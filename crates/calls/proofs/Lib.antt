@@ -1,2 +1,2 @@
 mod Looked
-mod Answered
+pub mod Answered

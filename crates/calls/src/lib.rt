@@ -2,7 +2,7 @@
 // should not have.
 pub mod blocks;
 pub mod files;
-mod kept;
+pub mod kept;
 
 // The most places of a list.
 pub const PLACES: usize = 300;

@@ -1,7 +1,10 @@
-// The probe's cases that hand in a file, check, day and total, or a block on its own. No contract can say what is read, so those that read are proved safe, and
-// have none; what they answer is put together by `calls`.
+// The probe's cases that hand in a file, check, day, total and find, a block on its own, or a room with a file that is edited. No contract can say what is read,
+// so those that read are proved safe, and have none; what they answer is put together by `calls` and `edits`.
+pub mod rooms;
+
 use calls::PLACES;
 use calls::files;
+use edits::find;
 use input::Going;
 use input::bytes::Cursor;
 use input::bytes::Passed;
@@ -54,6 +57,16 @@ pub fn total_case(buf: &mut [u8], c: Cursor, file: &mut [u8], page: &mut [u8], a
     let k = numbers[0] as usize;
     let n = numbers[1] as usize;
     Going::On(after, files::totalled(part(file, 0, n), k, page, at))
+}
+
+pub fn find_case(buf: &mut [u8], c: Cursor, file: &mut [u8], page: &mut [u8], at: usize) -> Going {
+    let mut numbers = [0u64; 2];
+    let Passed::To(after) = file_in(buf, c, b"ind ", &mut numbers, file) else {
+        return Going::Bad;
+    };
+    let k = numbers[0] as usize;
+    let n = numbers[1] as usize;
+    Going::On(after, find(part(file, 0, n), k, page, at))
 }
 
 pub fn block_case(buf: &mut [u8], c: Cursor, file: &mut [u8], page: &mut [u8], at: usize) -> Going {

@@ -74,7 +74,7 @@ fn behind(c: Cursor, n: usize) -> Cursor
 }
 
 // Fills the list, past the buffer where that is used up.
-fn fill(buf: &[u8], c: Cursor, to: &mut [u8]) -> Passed {
+pub fn fill(buf: &[u8], c: Cursor, to: &mut [u8]) -> Passed {
     let first = put(to, 0, part(buf, c.at, c.end));
     let mut n = first;
     while n < to.len() {

@@ -2,6 +2,8 @@
 use cases::block_case;
 use cases::check_case;
 use cases::day_case;
+use cases::find_case;
+use cases::rooms::replace_case;
 use cases::total_case;
 use input::Going;
 use input::bytes::Cursor;
@@ -17,6 +19,9 @@ const TURNS: u64 = 18446744073709551615;
 // What is put on the page is written out where so much of it stands there: the longest line, a day's, is shorter than the rest.
 const FULL: usize = 32768;
 
+// The longest file, room and block that can be handed in.
+const LONGEST: usize = 1100000;
+
 fn write(page: &[u8], at: usize) {
     io::write_all(libc::STDOUT_FILENO, part(page, 0, at));
 }
@@ -31,7 +36,15 @@ fn make_room(page: &[u8], at: usize) -> usize {
 }
 
 // The next case, told by its first byte.
-fn case(buf: &mut [u8], c: Cursor, file: &mut [u8], page: &mut [u8], at: usize) -> Going {
+fn case(
+    buf: &mut [u8],
+    c: Cursor,
+    file: &mut [u8],
+    copy: &mut [u8],
+    block: &mut [u8],
+    page: &mut [u8],
+    at: usize,
+) -> Going {
     let Taken::Byte(b, after) = next(buf, c) else {
         return Going::Ended;
     };
@@ -39,6 +52,8 @@ fn case(buf: &mut [u8], c: Cursor, file: &mut [u8], page: &mut [u8], at: usize) 
         b'b' => block_case(buf, after, file, page, at),
         b'c' => check_case(buf, after, file, page, at),
         b'd' => day_case(buf, after, file, page, at),
+        b'f' => find_case(buf, after, file, page, at),
+        b'r' => replace_case(buf, after, file, copy, block, page, at),
         b't' => total_case(buf, after, file, page, at),
         b'w' => write_case(buf, after, page, at),
         _ => Going::Bad,
@@ -50,13 +65,13 @@ fn bad_case(page: &mut [u8], at: usize) {
     write(page, p);
 }
 
-fn run(buf: &mut [u8], file: &mut [u8], page: &mut [u8]) {
+fn run(buf: &mut [u8], file: &mut [u8], copy: &mut [u8], block: &mut [u8], page: &mut [u8]) {
     let mut c = Cursor { at: 0, end: 0 };
     let mut at: usize = 0;
     let mut turns = TURNS;
     while 0 < turns {
         turns -= 1;
-        match case(buf, c, file, page, at) {
+        match case(buf, c, file, copy, block, page, at) {
             Going::On(next, place) => {
                 c = next;
                 at = make_room(page, place);
@@ -73,13 +88,15 @@ fn run(buf: &mut [u8], file: &mut [u8], page: &mut [u8]) {
     }
 }
 
-fn go(file: &mut [u8]) {
+fn go(file: &mut [u8], copy: &mut [u8], block: &mut [u8]) {
     let mut buf = io::large_buffer();
     let mut page = io::large_buffer();
-    run(&mut buf, file, &mut page);
+    run(&mut buf, file, copy, block, &mut page);
 }
 
 fn main() {
-    let mut file = [0u8; 1100000];
-    go(&mut file);
+    let mut file = [0u8; LONGEST];
+    let mut copy = [0u8; LONGEST];
+    let mut block = [0u8; LONGEST];
+    go(&mut file, &mut copy, &mut block);
 }

@@ -6,6 +6,12 @@ use Rattle.probe.proofs.main.Tie as tie
 slice-aggregate-go : tie.Need-slice-aggregate-go
 slice-aggregate-go c = long 1100000
 
+slice-aggregate-go-2 : tie.Need-slice-aggregate-go-2
+slice-aggregate-go-2 c = long 1100000
+
+slice-aggregate-go-3 : tie.Need-slice-aggregate-go-3
+slice-aggregate-go-3 c = long 1100000
+
 go-requires : tie.Need-go-requires
 go-requires c κs = tt
 
@@ -13,4 +19,4 @@ returns : tie.Need-returns
 returns c = tt
 
 pub main-spec : {M : Type 1} → statement M
-main-spec = tie.close (tie.spec slice-aggregate-go go-requires returns)
+main-spec = tie.close (tie.spec slice-aggregate-go slice-aggregate-go-2 slice-aggregate-go-3 go-requires returns)
