@@ -11,6 +11,12 @@ use Rattle.format.specs.declared.Totalled.{Totalled}
 use Rattle.format.specs.declared.Totalled.the-variants as totalled
 use Rattle.format.specs.declared.Written.{Written}
 use Rattle.format.specs.declared.Written.the-variants as written
+use Rattle.whose.specs.Whose.{dayFoundAs}
+use Rattle.whose.specs.declared.DayFound.{DayFound}
+use Rattle.whose.specs.declared.DayFound.the-variants as found
+use Rattle.replacing.specs.Replace.{replacedAs}
+use Rattle.replacing.specs.declared.Replaced.{Replaced}
+use Rattle.replacing.specs.declared.Replaced.the-variants as replaced
 
 refusal-is : (n p r f : ℕ) → Refusal
 refusal-is n p r f = record { number = n; place = p; «record» = r; field = f }
@@ -48,3 +54,15 @@ written-one (written.Block a b) (written.Block c d) e = cc
 written-one (written.Block a b) (written.Refused y) e = cc
 written-one (written.Refused x) (written.Block c d) e = cc
 written-one (written.Refused x) (written.Refused y) e = ap written.Refused (refusal-one x y e)
+
+pub found-one : (x y : DayFound) → dayFoundAs x ≡ dayFoundAs y → x ≡ y
+found-one (found.At a b c d g h i) (found.At j k l m n o p) e = cc
+found-one (found.At a b c d g h i) (found.Refused y) e = cc
+found-one (found.Refused x) (found.At j k l m n o p) e = cc
+found-one (found.Refused x) (found.Refused y) e = ap found.Refused (refusal-one x y e)
+
+pub replaced-one : (x y : Replaced) → replacedAs x ≡ replacedAs y → x ≡ y
+replaced-one (replaced.Length a) (replaced.Length b) e = cc
+replaced-one (replaced.Length a) (replaced.Refused y) e = cc
+replaced-one (replaced.Refused x) (replaced.Length b) e = cc
+replaced-one (replaced.Refused x) (replaced.Refused y) e = ap replaced.Refused (refusal-one x y e)

@@ -14,7 +14,12 @@ use Rattle.reading.proofs.total.total.Kinds as total-kinds
 use Rattle.reading.proofs.total.total.Reads as total-reads
 use Rattle.writing.proofs.write_day.Kinds as write-kinds
 use Rattle.writing.proofs.write_day.Reads as write-reads
-use Rattle.determined.proofs.Answers.{checked-one, day-read-one, totalled-one, written-one}
+use Rattle.whose.proofs.find_day.Kinds as find-kinds
+use Rattle.whose.proofs.find_day.Reads as find-reads
+use Rattle.replacing.specs.Replace.{Left}
+use Rattle.replacing.proofs.replace_day.Kinds as replace-kinds
+use Rattle.replacing.proofs.replace_day.Reads as replace-reads
+use Rattle.determined.proofs.Answers.{checked-one, day-read-one, totalled-one, written-one, found-one, replaced-one}
 
 -- `check` is lent nothing that it may change
 pub one-check : (κs : Lfts 1) (a : Dens κs check-kinds.ps) (x y : resT check-kinds.r κs .Denot) (e f : AtExit (endedOf 1 check-kinds.ps check-kinds.r) κs)
@@ -47,3 +52,13 @@ one-read κs a x y e f p q =
 pub one-write : (κs : Lfts 8) (a : Dens κs write-kinds.ps) (x y : resT write-kinds.r κs .Denot) (e f : AtExit (endedOf 8 write-kinds.ps write-kinds.r) κs)
     → write-reads.Learnt κs a x e → write-reads.Learnt κs a y f → (x ≡ y) × (now (e .1 .1 .1 .1 .1 .1 .1 .1 .0) ≡ now (f .1 .1 .1 .1 .1 .1 .1 .1 .0))
 one-write κs a x y e f p q = (written-one x y (p .0 ∙ sym (q .0)), p .1 ∙ sym (q .1))
+
+-- `find_day` is lent nothing that it may change
+pub one-find : (κs : Lfts 1) (a : Dens κs find-kinds.ps) (x y : resT find-kinds.r κs .Denot) (e f : AtExit (endedOf 1 find-kinds.ps find-kinds.r) κs)
+    → find-reads.Learnt κs a x e → find-reads.Learnt κs a y f → x ≡ y
+one-find κs a x y e f p q = found-one x y (p ∙ sym q)
+
+-- `replace_day`: the answer, and every byte of the room
+pub one-replace : (κs : Lfts 2) (a : Dens κs replace-kinds.ps) (x y : resT replace-kinds.r κs .Denot) (e f : AtExit (endedOf 2 replace-kinds.ps replace-kinds.r) κs)
+    → replace-reads.Learnt κs a x e → replace-reads.Learnt κs a y f → (x ≡ y) × (now (e .0) ≡ now (f .0))
+one-replace κs a x y e f p q = let o = p ∙ sym q in (replaced-one x y (ap (λ (u : Left). u .answer) o), ap (λ (u : Left). u .room) o)

@@ -51,7 +51,7 @@ on-12 : (b : Bool) → Next (cond b first200 first250)
 on-12 true = record { some = refl; other = refl }
 on-12 false = record { some = refl; other = refl }
 
-no-day : (b : Bool) → mayCome (cond b first200 first250) 300 ≡ false
+pub no-day : (b : Bool) → mayCome (cond b first200 first250) 300 ≡ false
 no-day true = refl
 no-day false = refl
 

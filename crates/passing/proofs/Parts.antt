@@ -2,7 +2,7 @@
 -- over the file's records, with what the state holds of the last 200; the bytes are those of the lines. Assumes nothing.
 use Prim.Native.Nat.{ℕ, zero, suc, _+_, _≤_}
 use mathlib.Core.Path.{_≡_, refl, sym, ap, _∙_, subst}
-use mathlib.Core.Bool.{Bool, true, false, false≢true, cond, _||_}
+use mathlib.Core.Bool.{true, false, false≢true, cond, _||_}
 use mathlib.Core.List.{List, [], _∷_, _++_}
 use native.Mathlib.Omega.{arith}
 use lib.ListN.{length, drop, length-append}
@@ -11,7 +11,7 @@ use borrow.Author.Tests.{eqb-true, eq-eqb}
 use Rattle.ground.proofs.Cases.{by, both}
 use Rattle.format.specs.Cut.{Lines, line, rest, lines, fields}
 use Rattle.format.specs.Records.{noScale, kindIn, versionIn, unitIn, decimalsIn, intervalsIn}
-use Rattle.format.specs.Order.{first200, first250, mayCome, inDay, inVaried, isEnd, Due, begun, on100, afterOf}
+use Rattle.format.specs.Order.{mayCome, inDay, inVaried, isEnd, Due, begun, on100, afterOf}
 use Rattle.format.specs.Faults.{scaleOf}
 use Rattle.format.specs.Answers.{accepted}
 use Rattle.format.specs.File.{after, checkOf}
@@ -23,7 +23,7 @@ use Rattle.passing.specs.Passes.{Passes, Leads, kindsOf, headIn, areUnde
 use Rattle.passing.proofs.Fit.{Ok, fine-fit, Head, h100, h200, h300, h400, h500, h250, h550, h900, head, free-of, free-if}
 use Rattle.passing.proofs.Steps.{runs-end, days-more, cells-on}
 use Rattle.passing.proofs.Walk.{file-passes}
-use Rattle.passing.proofs.Counts.{counts-begun, counted}
+use Rattle.passing.proofs.Counts.{no-day, counts-begun, counted}
 use Rattle.passing.proofs.Files.{onto, lines-passed, bytes-onto, runs-lines}
 use Rattle.passing.proofs.Blocks.{under-none}
 use Rattle.passing.proofs.Alone.{Inside, inside-after, inside-300}
@@ -101,10 +101,6 @@ Heads st fs = mayCome (st .expect) 300 ≡ true → Heading st fs
 
 heads-none : (st : Due) (fs : List (List ℕ)) → mayCome (st .expect) 300 ≡ false → Heads st fs
 heads-none st fs l h = absurd (false≢true (sym l ∙ h))
-
-no-day : (b : Bool) → mayCome (cond b first200 first250) 300 ≡ false
-no-day true = refl
-no-day false = refl
 
 heads-on : (st : Due) (k : ℕ) (fs gs : List (List ℕ)) → Head (st .expect) k → Ok k (scaleOf st k fs) fs → Heads st gs → Heads (afterOf st k fs) (cond (eqb k 200) fs gs)
 unfolding afterOf
