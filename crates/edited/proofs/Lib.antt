@@ -6,3 +6,4 @@ pub mod Asked
 pub mod Swap
 pub mod Theorems
 pub mod Exactly
+pub mod Keeps

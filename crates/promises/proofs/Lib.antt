@@ -1,3 +1,4 @@
 pub mod Exact
 pub mod Again
 pub mod Promises
+pub mod Replaces
