@@ -1,10 +1,10 @@
 // The probe's cases that hand in a file, check, day, total and find, a block on its own, or a room with a file that is edited. No contract can say what is read,
-// so those that read are proved safe, and have none; what they answer is put together by `calls` and `edits`.
+// so those that read are proved safe, and have none; what they answer is put together by `calls` and `edit_calls`.
 pub mod rooms;
 
 use calls::PLACES;
 use calls::files;
-use edits::find;
+use edit_calls::find;
 use input::Going;
 use input::bytes::Cursor;
 use input::bytes::Passed;

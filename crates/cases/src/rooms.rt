@@ -1,7 +1,7 @@
 // The case that hands in a room with a file in front, and a block for one of the file's days. The answer is the line and, where the file was edited, all of the
 // room, which is too long for the page.
-use edits::Edited;
-use edits::replace;
+use edit_calls::Edited;
+use edit_calls::replace;
 use input::Going;
 use input::bytes::Cursor;
 use input::bytes::Passed;

@@ -19,7 +19,7 @@ ghost use Rattle.page.specs.Filled.{Filled};
 ghost use Rattle.whose.specs.Whose.{findOf};
 ghost use Rattle.replacing.specs.Replace.{replacedAs, replaceOf};
 ghost use Rattle.calls.specs.Lines.{answerLine, bytesIn};
-ghost use Rattle.edits.specs.Lines.{shownIn, replaceText};
+ghost use Rattle.edit_calls.specs.Lines.{shownIn, replaceText};
 
 // Where day k stands.
 pub fn find(file: &[u8], k: usize, page: &mut [u8], at: usize) -> usize

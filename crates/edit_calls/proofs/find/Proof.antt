@@ -1,8 +1,8 @@
--- `edits::find` meets its contract. Assumes nothing.
+-- `edit_calls::find` meets its contract. Assumes nothing.
 use Rattle.calls.proofs.Answered.{line-put}
 use borrow.Author.Needs.{needs}
-use Rattle.edits.proofs.find.Statement.{statement}
-use Rattle.edits.proofs.find.Tie as tie
+use Rattle.edit_calls.proofs.find.Statement.{statement}
+use Rattle.edit_calls.proofs.find.Tie as tie
 
 find-day-requires : tie.Need-find-day-requires
 find-day-requires c κs = search needs

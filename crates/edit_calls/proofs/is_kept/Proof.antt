@@ -1,8 +1,8 @@
--- `edits::is_kept` meets its contract. Assumes nothing.
-use Rattle.edits.proofs.Answered.{kept-from}
+-- `edit_calls::is_kept` meets its contract. Assumes nothing.
+use Rattle.edit_calls.proofs.Answered.{kept-from}
 use borrow.Author.Needs.{needs}
-use Rattle.edits.proofs.is_kept.Statement.{statement}
-use Rattle.edits.proofs.is_kept.Tie as tie
+use Rattle.edit_calls.proofs.is_kept.Statement.{statement}
+use Rattle.edit_calls.proofs.is_kept.Tie as tie
 
 part-requires : tie.Need-part-requires
 part-requires c κs = search needs

@@ -1,8 +1,8 @@
--- `edits::replace` meets its contract. Assumes nothing.
-use Rattle.edits.proofs.Answered.{copied-over, copied-front, left-room, left-shown, left-put}
+-- `edit_calls::replace` meets its contract. Assumes nothing.
+use Rattle.edit_calls.proofs.Answered.{copied-over, copied-front, left-room, left-shown, left-put}
 use borrow.Author.Needs.{needs}
-use Rattle.edits.proofs.replace.Statement.{statement}
-use Rattle.edits.proofs.replace.Tie as tie
+use Rattle.edit_calls.proofs.replace.Statement.{statement}
+use Rattle.edit_calls.proofs.replace.Tie as tie
 
 put-bytes-requires : tie.Need-put-bytes-requires
 put-bytes-requires c κs = search needs

@@ -19,7 +19,7 @@ use Rattle.replacing.specs.declared.Replaced.{Replaced}
 use Rattle.answer_lines.specs.Lines.{lineOf}
 use Rattle.calls.specs.Kept.{ending}
 use Rattle.calls.specs.Lines.{bytesIn}
-use Rattle.edits.specs.Lines.{shownIn, leftText}
+use Rattle.edit_calls.specs.Lines.{shownIn, leftText}
 
 -- ---- the room and its copy
 
