@@ -25,15 +25,16 @@ use wanted::last_word;
 use wanted::wanted_before_last;
 use whose::DayFound;
 use whose::find_day;
+ghost use Prim.Native.Nat.{_≤_};
 
 // Room in front of the block for the 200 of its day, which has some three hundred bytes at most: what is said of a block's refusal looks at both.
 const FRONT: usize = 1024;
 
 // ---- what is said of a refusal
 
-// The date of the block from a place on, behind a 200 of so many minutes and that unit.
-fn date_of(memory: &[u8], start: usize, minutes: u32, unit: u8) -> u64 {
-    match check_block(memory, start, minutes, unit) {
+// The date of a block, behind a 200 of so many minutes and that unit.
+fn date_of(block: &[u8], minutes: u32, unit: u8) -> u64 {
+    match check_block(block, 0, minutes, unit) {
         BlockChecked::Accepted {
             date,
             n: _,
@@ -64,26 +65,25 @@ fn too_long(page: &mut [u8]) {
     complain(page, p);
 }
 
-// Puts a record in front of the block, with its CR LF; answers where it starts.
-fn put_in_front(blocks: &mut [u8], record: &[u8]) -> usize {
-    if FRONT - 2 < record.len() {
-        return FRONT;
+// Puts a record in front of the block, with its CR LF; answers how many bytes that are, 0 where there is no room for them.
+fn put_in_front(blocks: &mut [u8], record: &[u8]) -> usize
+    ensures { λ r. ⌜ r ≤ 1024 ⌝ }
+{
+    let n = record.len();
+    if FRONT - 2 < n {
+        return 0;
     }
-    let at = FRONT - 2 - record.len();
-    put(blocks, at, record);
+    put(blocks, FRONT - 2 - n, record);
     put(blocks, FRONT - 2, b"\r\n");
-    at
+    n + 2
 }
 
-// A refusal that is placed in the block, of m bytes, as one of the bytes that start so far before it.
-fn placed_behind(x: Refusal, before: usize, m: usize) -> Refusal {
-    if m < x.place {
+// A refusal of the block, placed in the text that has so many bytes before the block.
+fn placed_in(x: Refusal, text: &[u8], before: usize) -> Refusal {
+    if text.len() < before {
         return x;
     }
-    if 2000000 < before {
-        return x;
-    }
-    if 2000000 < m {
+    if text.len() - before < x.place {
         return x;
     }
     Refusal {
@@ -94,29 +94,19 @@ fn placed_behind(x: Refusal, before: usize, m: usize) -> Refusal {
     }
 }
 
-// The block's own refusal, behind the 200 whose NMI stands at a place of the file.
-fn of_block(page: &mut [u8], file: &[u8], nmi: usize, blocks: &mut [u8], m: usize, x: Refusal) {
+// The block's own refusal, behind the 200 whose NMI stands at a place of the file. The block ends at `end`.
+fn of_block(page: &mut [u8], file: &[u8], nmi: usize, blocks: &mut [u8], end: usize, x: Refusal) {
     let head = record_of(file, nmi);
-    let from = put_in_front(blocks, part(file, head.start, head.end));
-    if FRONT < from {
-        return;
-    }
-    let y = placed_behind(x, FRONT - from, m);
+    let before = put_in_front(blocks, part(file, head.start, head.end));
+    let text = part(blocks, FRONT - before, end);
+    let y = placed_in(x, text, before);
     let p = put(page, 0, b"in the block: ");
-    let q = explained_as(page, p, part(blocks, from, block_end(m)), y, x);
+    let q = explained_as(page, p, text, y, x);
     warn(page, q);
 }
 
-// Where a block of m bytes ends.
-fn block_end(m: usize) -> usize {
-    if 2000000 < m {
-        return FRONT;
-    }
-    FRONT + m
-}
-
 // Whose refusal it is: the file's own, or that there is no such day; else the block's, or one of both together.
-fn say(page: &mut [u8], file: &[u8], k: usize, blocks: &mut [u8], m: usize, x: Refusal) {
+fn say(page: &mut [u8], file: &[u8], k: usize, blocks: &mut [u8], end: usize, x: Refusal) {
     match find_day(file, k) {
         DayFound::Refused(_) => {
             let p = refused(page, file, x);
@@ -129,16 +119,16 @@ fn say(page: &mut [u8], file: &[u8], k: usize, blocks: &mut [u8], m: usize, x: R
             unit,
             length,
             start,
-            end,
+            end: behind,
         } => {
             if x.number == 1 {
                 too_long(page);
             } else if x.number == 8 {
-                let old = date_of(part(file, start, end), 0, length, unit);
-                let new = date_of(part(blocks, 0, block_end(m)), FRONT, length, unit);
+                let old = date_of(part(file, start, behind), length, unit);
+                let new = date_of(part(blocks, FRONT, end), length, unit);
                 another_date(page, k, old, new);
             } else {
-                of_block(page, file, nmi, blocks, m, x);
+                of_block(page, file, nmi, blocks, end, x);
             }
         }
     }
@@ -146,32 +136,40 @@ fn say(page: &mut [u8], file: &[u8], k: usize, blocks: &mut [u8], m: usize, x: R
 
 // ---- the command
 
-fn edit(page: &mut [u8], room: &mut [u8], n: usize, k: usize, blocks: &mut [u8], m: usize) -> u8 {
-    match replace_day(room, n, k, part(blocks, FRONT, block_end(m))) {
+fn edit(page: &mut [u8], room: &mut [u8], n: usize, k: usize, blocks: &mut [u8], end: usize) -> u8 {
+    match replace_day(room, n, k, part(blocks, FRONT, end)) {
         Replaced::Length(l) => write(room, l),
         Replaced::Refused(x) => {
-            say(page, part(room, 0, n), k, blocks, m, x);
+            say(page, part(room, 0, n), k, blocks, end, x);
             REFUSED
         }
     }
 }
 
+// The block, behind the room in front of it; answers where it ends.
 fn load_block(blocks: &mut [u8]) -> Loaded {
     if blocks.len() < FRONT {
         return Loaded::Failed;
     }
-    load_word(last_word(), &mut blocks[FRONT..])
+    let most = blocks.len() - FRONT;
+    let Loaded::Bytes(m) = load_word(last_word(), &mut blocks[FRONT..]) else {
+        return Loaded::Failed;
+    };
+    if most < m {
+        return Loaded::Bytes(blocks.len());
+    }
+    Loaded::Bytes(FRONT + m)
 }
 
 fn replace(page: &mut [u8], room: &mut [u8], blocks: &mut [u8]) -> u8 {
     let Loaded::Bytes(n) = load_word(2, room) else {
         return FAILED;
     };
-    let Loaded::Bytes(m) = load_block(blocks) else {
+    let Loaded::Bytes(end) = load_block(blocks) else {
         return FAILED;
     };
     match wanted_before_last(page, part(room, 0, n)) {
-        Wanted::Day(k) => edit(page, room, n, k, blocks, m),
+        Wanted::Day(k) => edit(page, room, n, k, blocks, end),
         Wanted::Nothing(status) => status,
     }
 }
