@@ -10,7 +10,6 @@ use Rattle.ground.specs.Lists.{part, same}
 use Rattle.ground.specs.Room.{Put}
 use Rattle.ground.proofs.Lists.{to-end}
 use Rattle.ground.proofs.Room.{sets-front}
-use Rattle.format.specs.Answers.{Answer}
 use Rattle.format.specs.Day.{over}
 use Rattle.page.specs.Filled.{Filled}
 use Rattle.page.proofs.Filling.{filled-then}

@@ -15,9 +15,8 @@ use Rattle.format.specs.Day.{DayRows, daysOf, over}
 use Rattle.passing.specs.Passes.{topDate}
 use Rattle.passing.proofs.Walk.{not-accepted}
 use Rattle.whose.specs.Whose.{whoseIs}
-use Rattle.replacing.specs.Replace.{Left, left, orRefused, putOf, sameDate, replaceFirst, replaceIn, replaceOf}
+use Rattle.replacing.specs.Replace.{Left, left, orRefused, editedAt, putOf, sameDate, replaceFirst, replaceIn, replaceOf}
 use Rattle.edited.specs.Edited.{Replaces}
-use Rattle.replacing.specs.Replace.{editedAt}
 
 pub record Asked (file room : List ℕ) (day : ℕ) (block : List ℕ) (m : ℕ) (room′ : List ℕ) : Type 0 where
   pub answer : List ℕ

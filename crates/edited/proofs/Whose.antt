@@ -3,25 +3,18 @@
 use Prim.Native.Nat.{ℕ, _+_, _-_}
 use mathlib.Core.Path.{_≡_, sym, ap, _∙_}
 use mathlib.Core.Logic.{_≢_}
-use mathlib.Core.Bool.{true, _||_}
-use mathlib.Core.List.{List, _∷_, _++_}
+use mathlib.Core.Bool.{true}
+use mathlib.Core.List.{List, _++_}
 use native.Mathlib.Omega.{arith}
-use lib.ListN.{length, take, drop, length-append}
-use lib.Seq.{take-append-seam, drop-append-seam, drop-append-add}
-use lib.Dec.{eqb}
-use Rattle.ground.proofs.Tests.{and-true}
+use lib.ListN.{length, take, drop}
+use lib.Seq.{drop-append-seam, drop-append-add}
 use Rattle.format.specs.Numbers.{isNumber, intervalsOf}
 use Rattle.format.specs.Units.{unitOf, isUnit, decimalsOf}
-use Rattle.format.specs.Cut.{Lines, line, rest, lines, fields, field}
+use Rattle.format.specs.Cut.{lines, field}
 use Rattle.format.specs.Records.{noScale, rowOf, ruleOf, countOf, obeys, lengthField, unitField, unitIn, decimalsIn, intervalsIn}
-use Rattle.format.specs.Order.{Due}
-use Rattle.format.specs.File.{after}
 use Rattle.format.specs.Day.{DayRows, dayFrom}
 use Rattle.format.specs.Total.{totalsFrom}
-use Rattle.format.proofs.Cut.{bytesOf}
 use Rattle.format.proofs.Units.{unit-in, unit-decimals}
-use Rattle.passing.specs.Passes.{Passes, kindsOf, areUnder}
-use Rattle.passing.proofs.Files.{onto, lines-behind}
 use Rattle.passing.proofs.Blocks.{headed, one-day}
 use Rattle.passing.proofs.Fit.{fine-unbroken}
 use Rattle.passing.proofs.Parts.{Parts}

@@ -1,14 +1,13 @@
 -- The edited file put into the room, or refused for its length: the lengths that the code compares are those of the definition. Assumes nothing.
 use Prim.Native.Nat.{ℕ, _+_, _-_, _≤_, _<_}
-use mathlib.Core.Path.{_≡_, ap, ap₂, sym, _∙_}
-use mathlib.Core.List.{List, [], _∷_, _++_}
+use mathlib.Core.Path.{_≡_, ap₂}
+use mathlib.Core.List.{List, [], _∷_}
 use native.Mathlib.Omega.{arith}
-use lib.ListN.{length, take, drop, length-append, length-drop}
+use lib.ListN.{length, take, length-append, length-drop}
 use lib.Seq.{length-take-le}
 use borrow.Author.Tests.{lt-ltb, le-ltb}
 use Rattle.format.specs.Answers.{accepted, refusal, refusedAs}
 use Rattle.format.specs.File.{most}
-use Rattle.format.specs.Day.{over}
 use Rattle.format.specs.declared.Refusal.{Refusal}
 use Rattle.moving.specs.Moving.{spliced, Fitting, Spliced}
 use Rattle.replacing.specs.Replace.{left, putOf}

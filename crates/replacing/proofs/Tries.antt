@@ -1,5 +1,5 @@
 -- What comes of a try, by what was found of the day and what the check of the block answers. Assumes nothing.
-use Prim.Native.Nat.{ℕ, _+_, _-_, _≤_, _<_}
+use Prim.Native.Nat.{ℕ, _-_, _≤_, _<_}
 use mathlib.Core.Path.{_≡_, refl, sym, ap, _∙_}
 use mathlib.Core.Bool.{true, false, true≢false}
 use mathlib.Core.List.{List, [], _∷_}
@@ -17,14 +17,13 @@ use Rattle.format.specs.Total.{totalAfter}
 use Rattle.format.specs.declared.Refusal.{Refusal}
 use Rattle.format.specs.declared.BlockChecked.{BlockChecked}
 use Rattle.format.specs.declared.BlockChecked.the-variants as checked
-use Rattle.passing.specs.Passes.{topDate, Alone}
+use Rattle.passing.specs.Passes.{topDate}
 use Rattle.passing.proofs.Alone.{alone}
-use Rattle.passing.proofs.Blocks.{headed}
 use Rattle.passing.proofs.Walk.{not-accepted, file-short}
-use Rattle.passing.proofs.Parts.{Parts, parts}
+use Rattle.passing.proofs.Parts.{parts}
 use Rattle.lines.specs.Places.{LineEnd}
 use Rattle.moving.specs.Moving.{spliced}
-use Rattle.whose.specs.Whose.{minutesIn, endFrom, Whose, whoseIs, dayFoundAs, findFirst, findOf}
+use Rattle.whose.specs.Whose.{whoseIs, dayFoundAs, findFirst, findOf}
 use Rattle.whose.specs.declared.DayFound.{DayFound}
 use Rattle.whose.specs.declared.DayFound.the-variants as found
 use Rattle.whose.proofs.Ends.{block-end, block-within, top-date}

@@ -1,6 +1,6 @@
 -- A day's block in the file that was cut at it: where it starts and ends, and what is read of it there. Assumes nothing.
 use Prim.Native.Nat.{ℕ, _+_, _≤_}
-use mathlib.Core.Path.{_≡_, refl, sym, ap, _∙_}
+use mathlib.Core.Path.{_≡_, sym, ap, _∙_}
 use mathlib.Core.Bool.{true, false, true≢false, _||_}
 use mathlib.Core.List.{List, [], _∷_, _++_}
 use native.Mathlib.Omega.{arith}
@@ -22,7 +22,7 @@ use Rattle.passing.proofs.Files.{onto, lines-behind}
 use Rattle.passing.proofs.Parts.{Parts, Apart}
 use Rattle.lines.specs.Places.{LineEnd}
 use Rattle.lines.proofs.Ends.{line-none, line-more}
-use Rattle.whose.specs.Whose.{underEnd, endFrom, whoseIs}
+use Rattle.whose.specs.Whose.{underEnd, endFrom}
 use Rattle.whose.proofs.Found.{onward-is}
 
 -- behind records under a 300, where none of them follows

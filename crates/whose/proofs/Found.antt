@@ -1,23 +1,23 @@
 -- What is found of a day, place by place: the fields of its 200, the end of its block, and how many channels stand before it. Assumes nothing.
 use Prim.Native.Nat.{ℕ, _+_, _-_, _≤_, _<_}
-use mathlib.Core.Path.{_≡_, refl, sym, ap, _∙_, subst}
+use mathlib.Core.Path.{_≡_, sym, ap, _∙_}
 use mathlib.Core.Bool.{Bool, true, false, not, _&&_, _||_}
 use mathlib.Core.List.{List, [], _∷_, _++_}
 use native.Mathlib.Omega.{arith}
 use native.Mathlib.Nat.{add-zero}
-use lib.ListN.{length, take, drop, length-append}
+use lib.ListN.{length, take, drop}
 use lib.Seq.{drop-append-seam, take-append-seam}
 use lib.Dec.{eqb, leb}
 use borrow.Author.Tests.{eqb-true, leb-true, not-true, not-false}
-use Rattle.ground.specs.Lists.{all, part}
-use Rattle.ground.proofs.Tests.{and-true, or-other}
+use Rattle.ground.specs.Lists.{part}
+use Rattle.ground.proofs.Tests.{and-true}
 use Rattle.ground.proofs.Cases.{by}
 use Rattle.format.specs.Numbers.{isLength, smallOf, that, lengthOf, numberIn}
 use Rattle.format.specs.Texts.{isNmi, isSuffix}
 use Rattle.format.specs.Bytes.{areAll}
 use Rattle.format.specs.Cut.{Lines, line, rest, lines, fields, field, startOf}
 use Rattle.format.specs.Records.{noScale, rowOf, ruleOf, countOf, obeys, kindIn, unitIn}
-use Rattle.format.specs.Answers.{Answer, accepted, refusal, refused, refusedAs, checkedAs}
+use Rattle.format.specs.Answers.{accepted, refusal, refusedAs, checkedAs}
 use Rattle.format.specs.File.{checkOf, IsAccepted}
 use Rattle.format.specs.Day.{DayRows, daysOf}
 use Rattle.format.specs.Total.{totalsFrom}
@@ -33,14 +33,14 @@ use Rattle.passing.proofs.Parts.{Parts, parts}
 use Rattle.lines.specs.Places.{LineEnd, Rest}
 use Rattle.lines.proofs.Cuts.{rest-first}
 use Rattle.lines.proofs.Ends.{line-none, line-more, line-long}
-use Rattle.day.specs.Places.{Heads, channelAt, dayAt, daysAt, located, inside}
+use Rattle.day.specs.Places.{channelAt, dayAt, daysAt, located, inside}
 use Rattle.day.specs.declared.Under.{Under}
 use Rattle.day.specs.declared.Place.{Place}
 use Rattle.day.specs.declared.Place.the-variants.{At, Missing}
 use Rattle.day.proofs.Find.{room-behind, heads-found, line-found}
 use Rattle.channel.specs.Places.{totalsIn, totalsAt}
 use Rattle.checking.specs.Tour.{ChannelsBefore}
-use Rattle.whose.specs.Whose.{channelsBefore, minutesIn, underEnd, endFrom, whoseAs, whoseIs, dayFoundAs, findOf}
+use Rattle.whose.specs.Whose.{channelsBefore, minutesIn, underEnd, whoseAs, whoseIs, dayFoundAs, findOf}
 use Rattle.whose.specs.Stands.{Stands}
 use Rattle.whose.specs.declared.DayFound.{DayFound}
 

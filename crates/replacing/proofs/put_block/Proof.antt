@@ -1,6 +1,5 @@
 -- `replacing::put_block` meets its contract. Assumes nothing.
-use Rattle.replacing.proofs.Puts.{put-1, put-15, put-fits, put-done}
-use borrow.Author.Needs.{needs}
+use Rattle.replacing.proofs.Puts.{put-1, put-15, put-done}
 use borrow.Author.Needs.{needs}
 use Rattle.replacing.proofs.put_block.Statement.{statement}
 use Rattle.replacing.proofs.put_block.Tie as tie

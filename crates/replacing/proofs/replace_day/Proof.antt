@@ -2,7 +2,6 @@
 use lib.Seq.{length-take-le}
 use Rattle.replacing.proofs.Tries.{replaced-15, replaced-not, replaced-put, fits-order, fits-within, fits-short}
 use borrow.Author.Needs.{needs}
-use borrow.Author.Needs.{needs}
 use Rattle.replacing.proofs.replace_day.Statement.{statement}
 use Rattle.replacing.proofs.replace_day.Tie as tie
 

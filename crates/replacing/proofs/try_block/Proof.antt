@@ -1,7 +1,6 @@
 -- `replacing::try_block` meets its contract. Assumes nothing.
 use Rattle.replacing.proofs.Tries.{try-none, found-there}
 use borrow.Author.Needs.{needs}
-use borrow.Author.Needs.{needs}
 use Rattle.replacing.proofs.try_block.Statement.{statement}
 use Rattle.replacing.proofs.try_block.Tie as tie
 

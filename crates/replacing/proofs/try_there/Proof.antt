@@ -1,7 +1,6 @@
 -- `replacing::try_there` meets its contract. Assumes nothing.
 use Rattle.replacing.proofs.Tries.{start-within, try-refused, try-another, try-fits}
 use borrow.Author.Needs.{needs}
-use borrow.Author.Needs.{needs}
 use Rattle.replacing.proofs.try_there.Statement.{statement}
 use Rattle.replacing.proofs.try_there.Tie as tie
 

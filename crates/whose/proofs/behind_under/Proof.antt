@@ -1,5 +1,5 @@
 -- `whose::behind_under` meets its contract. Assumes nothing.
-use Prim.Native.Nat.{_-_, _≤_, _+_}
+use Prim.Native.Nat.{_-_, _≤_}
 use lib.ListN.{length, drop}
 use mathlib.Core.Path.{_≡_}
 use Rattle.format.specs.Cut.{lines}
@@ -8,7 +8,6 @@ use Rattle.day.proofs.Find.{line-less}
 use Rattle.whose.specs.Whose.{underEnd}
 use Rattle.whose.proofs.Found.{unders}
 use borrow.Author.Needs.{needs}
-use native.Mathlib.Omega.{arith}
 use Rattle.whose.proofs.behind_under.Statement.{statement}
 use Rattle.whose.proofs.behind_under.Tie as tie
 

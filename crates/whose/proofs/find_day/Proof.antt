@@ -2,7 +2,6 @@
 use Rattle.checking.proofs.Answered.{is-accepted}
 use Rattle.whose.proofs.Found.{find-refused}
 use borrow.Author.Needs.{needs}
-use borrow.Author.Needs.{needs}
 use Rattle.whose.proofs.find_day.Statement.{statement}
 use Rattle.whose.proofs.find_day.Tie as tie
 

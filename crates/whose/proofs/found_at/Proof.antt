@@ -1,7 +1,6 @@
 -- `whose::found_at` meets its contract. Assumes nothing.
 use Rattle.whose.proofs.Found.{found-is}
 use borrow.Author.Needs.{needs}
-use borrow.Author.Needs.{needs}
 use Rattle.whose.proofs.found_at.Statement.{statement}
 use Rattle.whose.proofs.found_at.Tie as tie
 

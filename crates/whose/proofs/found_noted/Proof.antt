@@ -1,7 +1,6 @@
 -- `whose::found_noted` meets its contract. Assumes nothing.
 use Rattle.whose.proofs.Found.{stands, find-none, find-at}
 use borrow.Author.Needs.{needs}
-use borrow.Author.Needs.{needs}
 use Rattle.whose.proofs.found_noted.Statement.{statement}
 use Rattle.whose.proofs.found_noted.Tie as tie
 

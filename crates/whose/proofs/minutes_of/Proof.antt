@@ -2,7 +2,6 @@
 use Prim.Native.Nat.{_≤_}
 use Rattle.whose.proofs.Found.{minutes-small, minutes-are}
 use borrow.Author.Needs.{needs}
-use borrow.Author.Needs.{needs}
 use Rattle.whose.proofs.minutes_of.Statement.{statement}
 use Rattle.whose.proofs.minutes_of.Tie as tie
 
