@@ -1,7 +1,7 @@
 -- The loop over the fields of a record: each field so far meets its rule, where the next one starts, and the places that later rules ask for.
 -- Assumes nothing.
 use Prim.Native.Nat.{ℕ, _+_, _-_, _≤_, _<_}
-use mathlib.Core.Path.{_≡_, refl, sym, _∙_, ap}
+use mathlib.Core.Path.{_≡_, refl, sym, _∙_, ap, subst}
 use mathlib.Core.List.{List}
 use mathlib.Core.Bool.{Bool, true, false, cond, _&&_, false≢true}
 use native.Mathlib.Omega.{arith}
@@ -321,11 +321,20 @@ along-end file at e k z i b v w p q y l h np nq ev ew =
 pub value-left : (file : List ℕ) (at e n d i t : ℕ) → Typed file at e 300 (scale n d) → Along file at e 300 (scale n d) i t → i < n + 2 → t < e
 value-left file at e n d i t y l few = left file at e 300 (scale n d) i t y l (omega (arith, y .count, count-300 300 (scale n d) refl))
 
-pub along-value : (file : List ℕ) (at e n d i t : ℕ) {r : Held} {z : ℕ} → Typed file at e 300 (scale n d) → Along file at e 300 (scale n d) i t → 2 ≤ i → i < n + 2
-    → r ≡ heldOf 300 (Value d) (t + 1) (part file (t + 1) e) → r ≡ To z → Along file at e 300 (scale n d) (i + 1) z
+-- the field that is next, by another sum
+pub along-at : (file : List ℕ) (at e k : ℕ) (z : Scale) (i j t : ℕ) → Along file at e k z i t → i ≡ j → Along file at e k z j t
+along-at file at e k z i j t l q = subst (λ (x : ℕ). Along file at e k z x t) q l
+
+-- the next of those that are left
+pub along-value : (file : List ℕ) (at e n d left t : ℕ) {r : Held} {z : ℕ} → Typed file at e 300 (scale n d) → Along file at e 300 (scale n d) (n + 2 - left) t → 2 ≤ n + 2 - left → 0 < left
+    → r ≡ heldOf 300 (Value d) (t + 1) (part file (t + 1) e) → r ≡ To z → Along file at e 300 (scale n d) (n + 2 - (left - 1)) z
 unfolding rowOf
-along-value file at e n d i t {r} y l two few er q =
-    along-on file at e 300 (scale n d) i t y l (Value d) r (value-left file at e n d i t y l few) (rule-is 300 (scale n d) 300 i refl (row-value n d i two few)) er q
+along-value file at e n d left t {r} {z} y l two some er q =
+    let i : ℕ = n + 2 - left in
+    let few : i < n + 2 = omega arith in
+    let on : i + 1 ≡ n + 2 - (left - 1) = omega arith in
+    subst (λ (j : ℕ). Along file at e 300 (scale n d) j z) on
+    (along-on file at e 300 (scale n d) i t y l (Value d) r (value-left file at e n d i t y l few) (rule-is 300 (scale n d) 300 i refl (row-value n d i two few)) er q)
 
 -- what `passed` answers
 module _ (file : List ℕ) (at e k n d i b : ℕ) where

@@ -62,23 +62,27 @@ fn noted(w: usize, before: usize, i: usize, a: usize) -> usize
     before
 }
 
-// Passes the values of a 300, up to one that breaks its rule.
+// Passes the values of a 300, up to one that breaks its rule. Those that are left are counted down, so that the loop has one number less to keep.
 fn pass_values(file: &[u8], at: usize, e: usize, n: usize, d: usize, i: usize, b: usize) -> Spot
     requires { ⌜ Typed (now file) at e 300 (scale n d) × Along (now file) at e 300 (scale n d) i b × (2 ≤ i) × (i ≤ n + 2) ⌝ }
     ensures { λ r. ⌜ Along (now (file .entry)) at e 300 (scale n d) (r .i) (r .b) × (b ≤ r .b) × (i ≤ r .i) × (r .i ≤ n + 2) ⌝ }
 {
-    let mut j = i;
+    let behind = n + 2;
+    let mut left = behind - i;
     let mut t = b;
-    while j < n + 2 {
+    while 0 < left {
         let a = t + 1;
         let h = value_held(file, a, e, d);
         let Held::To(z) = h else {
-            return Spot { i: j, b: t };
+            return Spot {
+                i: behind - left,
+                b: t,
+            };
         };
         t = z;
-        j += 1;
+        left -= 1;
     }
-    Spot { i: j, b: t }
+    Spot { i: behind, b: t }
 }
 
 // Goes on over the values of a 300, if they come next; a field that later rules ask for is none of them.
