@@ -321,7 +321,7 @@ along-end file at e k z i b v w p q y l h np nq ev ew =
 pub value-left : (file : List ℕ) (at e n d i t : ℕ) → Typed file at e 300 (scale n d) → Along file at e 300 (scale n d) i t → i < n + 2 → t < e
 value-left file at e n d i t y l few = left file at e 300 (scale n d) i t y l (omega (arith, y .count, count-300 300 (scale n d) refl))
 
--- the field that is next, by another sum
+-- the same field, its number put otherwise
 pub along-at : (file : List ℕ) (at e k : ℕ) (z : Scale) (i j t : ℕ) → Along file at e k z i t → i ≡ j → Along file at e k z j t
 along-at file at e k z i j t l q = subst (λ (x : ℕ). Along file at e k z x t) q l
 
@@ -333,8 +333,9 @@ along-value file at e n d left t {r} {z} y l two some er q =
     let i : ℕ = n + 2 - left in
     let few : i < n + 2 = omega arith in
     let on : i + 1 ≡ n + 2 - (left - 1) = omega arith in
-    subst (λ (j : ℕ). Along file at e 300 (scale n d) j z) on
+    along-at file at e 300 (scale n d) (i + 1) (n + 2 - (left - 1)) z
     (along-on file at e 300 (scale n d) i t y l (Value d) r (value-left file at e n d i t y l few) (rule-is 300 (scale n d) 300 i refl (row-value n d i two few)) er q)
+    on
 
 -- what `passed` answers
 module _ (file : List ℕ) (at e k n d i b : ℕ) where
