@@ -1,0 +1,4 @@
+pub mod Numbers
+pub mod Fields
+pub mod Back
+pub mod Offsets
