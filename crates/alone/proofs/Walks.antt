@@ -1,7 +1,7 @@
 -- The walk over a block: a record's fault there, what each way out of a turn answers, and the turn itself. Assumes nothing.
 use Prim.Native.Nat.{ℕ, _+_, _-_, _≤_, _<_}
-use mathlib.Core.Path.{_≡_, sym, _∙_}
-use mathlib.Core.List.{List, [], _∷_}
+use mathlib.Core.Path.{_≡_, refl, sym, ap, _∙_}
+use mathlib.Core.List.{List, [], _∷_, _++_}
 use mathlib.Core.Bool.{Bool, true, false, not, _&&_, _||_, false≢true}
 use native.Mathlib.Omega.{arith}
 use lib.ListN.{length, drop, length-drop, drop-of-length-le}
@@ -19,8 +19,9 @@ use Rattle.format.specs.Cut.{rest, lines, fields}
 use Rattle.format.specs.Records.{kindIn, dateIn, updateIn, loadIn}
 use Rattle.format.specs.Order.{Due, inDay}
 use Rattle.format.specs.Faults.{isOpen, faultAt, faultOf}
-use Rattle.format.specs.Answers.{Answer, accepted, refused, refusedAs}
-use Rattle.format.specs.File.{after, isForeign, blockFaultOf, endOf, blockWalkOf, blockCheckOf}
+use Rattle.format.specs.Answers.{accepted, refused, refusedAs}
+use Rattle.format.specs.File.{after, isForeign, blockFaultOf, endOf, blockWalkOf, topSays, blockCheckOf}
+use Rattle.format.specs.declared.Number.the-variants.{Is, Bad}
 use Rattle.format.specs.declared.Refusal.{Refusal}
 use Rattle.format.specs.declared.Fault.the-variants.{Fine, Stop}
 use Rattle.format.proofs.Numbers.{intervals-most}
@@ -41,7 +42,11 @@ use Rattle.order.proofs.Next.{gone, stopped, kept-on}
 use Rattle.alone.specs.declared.BlockWalk.{BlockWalk}
 use Rattle.alone.specs.declared.BlockTurn.{BlockTurn}
 use Rattle.alone.specs.declared.BlockTurn.the-variants as turn
-use Rattle.alone.specs.Walk.{onFrom, leftOf, topOf, wholeOf, isForeignHere, firstWalk, Walking, Turned}
+use Rattle.alone.specs.declared.BlockEnd.{BlockEnd}
+use Rattle.alone.specs.declared.BlockEnd.the-variants as blockEnd
+use Rattle.alone.specs.declared.Walked.{Walked}
+use Rattle.alone.specs.declared.Walked.the-variants as walked
+use Rattle.alone.specs.Walk.{onFrom, leftOf, wholeOf, isForeignHere, firstWalk, dateSaid, Walking, Turned, Ended, Entire, IsBlock, WalkedAs}
 
 -- ---- a record's fault in a block
 
@@ -129,9 +134,9 @@ module _ (memory : List ℕ) (start n d : ℕ) (t : BlockWalk) (q : t ≡ firstW
         kept = record { known = omega arith; begun = λ z. absurd (let y : ⊥ = omega arith in y); within = omega arith; small = s; few = l; channels = omega arith; days = omega arith };
       })
 
-  pub walked-first : wholeOf memory start n d ≡ leftOf memory start (topOf memory start n) t
+  pub walked-first : (xs : List ℕ) → wholeOf memory start n d xs ≡ leftOf memory start xs t
   unfolding expectedAs
-  walked-first = rw q
+  walked-first xs = rw q
 
 module _ (memory : List ℕ) (start : ℕ) (t : BlockWalk) (g : Walking memory start t) (r : Record) (is : r ≡ recordAt memory (t .at)) where
   pub turned-end : r ≡ None → Turned memory start t turn.End
@@ -195,24 +200,21 @@ module _ (memory : List ℕ) (start : ℕ) (t : BlockWalk) (w : BlockTurn) (g : 
     pub turned-walking : Walking memory start u
     turned-walking = turned .0
 
-    pub turned-left : {a : Answer} (xs : List ℕ) → a ≡ leftOf memory start xs t → a ≡ leftOf memory start xs u
-    turned-left xs e = e ∙ turned .2 xs
+    pub turned-left : (n d : ℕ) → ((xs : List ℕ) → wholeOf memory start n d xs ≡ leftOf memory start xs t) → (xs : List ℕ) → wholeOf memory start n d xs ≡ leftOf memory start xs u
+    turned-left n d e xs = e xs ∙ turned .2 xs
 
     pub turned-less : length memory - u .at < length memory - t .at
     turned-less = omega (arith, turned .1, turned .0 .within)
 
-  pub turned-refused : (x : Refusal) → w ≡ turn.Stop x → {a : Answer} (xs : List ℕ) → a ≡ leftOf memory start xs t → refusedAs x ≡ a
-  turned-refused x h xs e = let z : Turned memory start t (turn.Stop x) = rw h at g in sym (e ∙ z xs)
+  pub turned-refused : (x : Refusal) → w ≡ turn.Stop x → (n d : ℕ) → ((xs : List ℕ) → wholeOf memory start n d xs ≡ leftOf memory start xs t) → (xs : List ℕ) → wholeOf memory start n d xs ≡ refusedAs x
+  turned-refused x h n d e xs = let z : Turned memory start t (turn.Stop x) = rw h at g in e xs ∙ z xs
 
   pub turned-over : w ≡ turn.End → lines (drop (t .at) memory) ≡ rest (drop (t .at) memory)
   turned-over h = rw h at g
 
 -- ---- where no CR LF is left
 
-module _ (memory : List ℕ) (start n : ℕ) (t : BlockWalk) (g : Walking memory start t) (no : Turned memory start t turn.End) where
-  abbrev answer : Answer
-  answer = leftOf memory start (topOf memory start n) t
-
+module _ (memory : List ℕ) (start : ℕ) (t : BlockWalk) (g : Walking memory start t) (no : Turned memory start t turn.End) where
   abbrev at-end : Due
   at-end = seen memory (t .state)
 
@@ -220,32 +222,35 @@ module _ (memory : List ℕ) (start n : ℕ) (t : BlockWalk) (g : Walking memory
     ei : i ≡ inDay (at-end .expect)
     ei = eb ∙ is-500 (t .state .expect)
 
-    pub end-none : {a : Answer} → a ≡ refused 2 (t .at - start) (t .records) 0 → not i ≡ true → a ≡ answer
+    pub end-none : {x : Refusal} → refusedAs x ≡ refused 2 (t .at - start) (t .records) 0 → not i ≡ true → (xs : List ℕ) → leftOf memory start xs t ≡ refusedAs x
     unfolding blockWalkOf
-    end-none q h = q ∙ sym (rw (no, ← ei, not-true i h))
+    end-none q h xs = rw (no, ← ei, not-true i h) (sym q)
 
     module _ (h : not i ≡ false) where
-      pub end-left : {a : Answer} → a ≡ refused 2 (t .at - start) (t .records) 0 → (t .at ≡ length memory → ⊥) → a ≡ answer
+      pub end-left : {x : Refusal} → refusedAs x ≡ refused 2 (t .at - start) (t .records) 0 → (t .at ≡ length memory → ⊥) → (xs : List ℕ) → leftOf memory start xs t ≡ refusedAs x
       unfolding blockWalkOf
-      end-left q z =
+      end-left q z xs =
           let y : length (drop (t .at) memory) ≡ 0 → ⊥ = λ e. omega (arith, length-drop (t .at) memory, g .within) in
-          q ∙ sym (rw (no, ← ei, not-false i h, ne-eqb _ _ y))
+          rw (no, ← ei, not-false i h, ne-eqb _ _ y) (sym q)
 
       module _ (z : t .at ≡ length memory) {o : Bool} (eo : o ≡ isOpen at-end 0) where
         all-read : lines (drop (t .at) memory) ≡ rest []
         unfolding lines
         all-read = rw (z, drop-length memory)
 
-        pub end-10 : {a : Answer} → a ≡ refused 10 (t .at - start) (t .records) 0 → o ≡ true → a ≡ answer
+        pub end-10 : {x : Refusal} → refusedAs x ≡ refused 10 (t .at - start) (t .records) 0 → o ≡ true → (xs : List ℕ) → leftOf memory start xs t ≡ refusedAs x
         unfolding blockWalkOf endOf
-        end-10 q u = q ∙ sym (rw (all-read, ← ei, not-false i h, ← eo, u))
+        end-10 q u xs = rw (all-read, ← ei, not-false i h, ← eo, u) (sym q)
 
-        pub end-block : (e : ℕ) → LineEnd memory start e → (e ≡ length memory → ⊥) → o ≡ false → (d u l : ℕ)
-            → d ≡ dateIn (fields (part memory start e)) → u ≡ updateIn n (fields (part memory start e)) → l ≡ loadIn n (fields (part memory start e))
-            → accepted (d ∷ n ∷ u ∷ l ∷ t .records ∷ []) ≡ answer
+        pub end-block : o ≡ false → (xs : List ℕ) → leftOf memory start xs t ≡ accepted (xs ++ t .records ∷ [])
         unfolding blockWalkOf endOf
-        end-block e s go w d u l ed eu el =
-            sym (rw (all-read, ← ei, not-false i h, ← eo, w, line-more memory start e s go, ← ed, ← eu, ← el))
+        end-block w xs = rw (all-read, ← ei, not-false i h, ← eo, w)
+
+-- what the end is, the walk is
+module _ (memory : List ℕ) (start n d : ℕ) (t : BlockWalk) (e : (xs : List ℕ) → wholeOf memory start n d xs ≡ leftOf memory start xs t) where
+  pub entire : (r : BlockEnd) → Ended memory start t r → Entire memory start n d r
+  entire (blockEnd.Whole k) h = λ xs. e xs ∙ h xs
+  entire (blockEnd.Stopped x) h = λ xs. e xs ∙ h xs
 
 -- ---- the whole block
 
@@ -253,13 +258,13 @@ pub few : (m n : ℕ) → n ≡ intervalsOf m → n ≤ 288
 few m n e = rw e (intervals-most m)
 
 module _ (memory : List ℕ) (start m n unit : ℕ) (en : n ≡ intervalsOf m) where
-  pub length-16 : {a : Answer} → a ≡ refused 16 0 0 0 → n ≡ 0 → a ≡ blockCheckOf m unit (drop start memory)
+  pub length-16 : {x : Refusal} → refusedAs x ≡ refused 16 0 0 0 → n ≡ 0 → blockCheckOf m unit (drop start memory) ≡ refusedAs x
   unfolding blockCheckOf
-  length-16 q z = rw (← en, z) q
+  length-16 q z = rw (← en, z) (sym q)
 
-  pub unit-16 : {a : Answer} {b : Bool} → a ≡ refused 16 0 0 0 → b ≡ isUnit unit → not b ≡ true → a ≡ blockCheckOf m unit (drop start memory)
+  pub unit-16 : {x : Refusal} {b : Bool} → refusedAs x ≡ refused 16 0 0 0 → b ≡ isUnit unit → not b ≡ true → blockCheckOf m unit (drop start memory) ≡ refusedAs x
   unfolding blockCheckOf
-  unit-16 {a} {b} q eb h = rw (← eb, not-true b h, or-true (eqb (intervalsOf m) 0)) q
+  unit-16 {x} {b} q eb h = rw (← eb, not-true b h, or-true (eqb (intervalsOf m) 0)) (sym q)
 
   module _ (some : n ≡ 0 → ⊥) {b : Bool} (eb : b ≡ isUnit unit) (h : not b ≡ false) where
     -- there is no record
@@ -267,13 +272,50 @@ module _ (memory : List ℕ) (start m n unit : ℕ) (en : n ≡ intervalsOf m) w
     unfolding blockCheckOf blockWalkOf
     none-there z = rw (← en, ne-eqb n 0 some, ← eb, not-false b h, z)
 
-    pub whole-behind : {a : Answer} → a ≡ refused 2 0 0 0 → length memory < start → a ≡ blockCheckOf m unit (drop start memory)
+    pub whole-behind : {x : Refusal} → refusedAs x ≡ refused 2 0 0 0 → length memory < start → blockCheckOf m unit (drop start memory) ≡ refusedAs x
     unfolding lines
-    whole-behind q l = q ∙ sym (none-there (rw (drop-of-length-le memory {i = start} (omega arith))))
+    whole-behind q l = none-there (rw (drop-of-length-le memory {i = start} (omega arith))) ∙ sym q
 
-    pub whole-none : {a : Answer} → a ≡ refused 2 0 0 0 → (e : ℕ) → LineEnd memory start e → e ≡ length memory → a ≡ blockCheckOf m unit (drop start memory)
-    whole-none q e s z = q ∙ sym (none-there (line-none memory start e s z))
+    module _ (e : ℕ) (s : LineEnd memory start e) where
+      pub whole-none : {x : Refusal} → refusedAs x ≡ refused 2 0 0 0 → e ≡ length memory → blockCheckOf m unit (drop start memory) ≡ refusedAs x
+      whole-none q z = none-there (line-none memory start e s z) ∙ sym q
 
-    pub whole-walk : {a : Answer} (d : ℕ) → d ≡ decimalsOf unit → a ≡ wholeOf memory start n d → a ≡ blockCheckOf m unit (drop start memory)
-    unfolding blockCheckOf
-    whole-walk d ed q = let z : start - start ≡ 0 = omega arith in rw (← en, ne-eqb n 0 some, ← eb, not-false b h, ← ed) (rw z at q)
+      module _ {d : ℕ} (ed : d ≡ decimalsOf unit) where
+        whole-walk : blockCheckOf m unit (drop start memory) ≡ wholeOf memory start n d (topSays (intervalsOf m) (lines (drop start memory)))
+        unfolding blockCheckOf
+        whole-walk = let z : start - start ≡ 0 = omega arith in rw (← en, ne-eqb n 0 some, ← eb, not-false b h, ← ed, z) refl
+
+        module _ {w : BlockEnd} (k : Entire memory start n d w) where
+          pub whole-stopped : {x : Refusal} → w ≡ blockEnd.Stopped x → blockCheckOf m unit (drop start memory) ≡ refusedAs x
+          whole-stopped {x} q = whole-walk ∙ (rw q at k) (topSays (intervalsOf m) (lines (drop start memory)))
+
+          pub whole-block : {j : ℕ} → w ≡ blockEnd.Whole j → (e ≡ length memory → ⊥) → IsBlock memory start m unit j e
+          whole-block q go = record { line = s; more = go; is = whole-walk ∙ (rw q at k) (topSays (intervalsOf m) (lines (drop start memory))) }
+
+-- ---- what a caller is told
+
+module _ (memory : List ℕ) (start m unit : ℕ) {w : Walked} (a : WalkedAs memory start m unit w) where
+  pub told-stopped : {x : Refusal} → w ≡ walked.Stopped x → refusedAs x ≡ blockCheckOf m unit (drop start memory)
+  told-stopped q = sym (rw q at a)
+
+  pub date-none : {x : Refusal} → w ≡ walked.Stopped x → Bad ≡ dateSaid (blockCheckOf m unit (drop start memory))
+  unfolding dateSaid
+  date-none q = let z : WalkedAs memory start m unit (walked.Stopped _) = rw q at a in rw z
+
+  module _ {k e : ℕ} (q : w ≡ walked.Block k e) where
+    pub block-is : IsBlock memory start m unit k e
+    block-is = rw q at a
+
+    pub block-order : start ≤ e
+    block-order = block-is .line .order
+
+    pub block-within : e ≤ length memory
+    block-within = block-is .line .within
+
+    pub told-block : {n : ℕ} → n ≡ intervalsOf m → {d u l : ℕ} → d ≡ dateIn (fields (part memory start e)) → u ≡ updateIn n (fields (part memory start e))
+        → l ≡ loadIn n (fields (part memory start e)) → accepted (d ∷ n ∷ u ∷ l ∷ k ∷ []) ≡ blockCheckOf m unit (drop start memory)
+    told-block en ed eu el = sym (block-is .is ∙ rw (line-more memory start e (block-is .line) (block-is .more), ← en, ← ed, ← eu, ← el) refl)
+
+    pub date-is : {d : ℕ} → d ≡ dateIn (fields (part memory start e)) → Is d ≡ dateSaid (blockCheckOf m unit (drop start memory))
+    unfolding dateSaid
+    date-is ed = rw (block-is .is, line-more memory start e (block-is .line) (block-is .more)) (ap Is ed)

@@ -1,9 +1,9 @@
 -- The walk over a block that is a part of longer memory, from a place of it to its end.
 use Prim.Native.Nat.{ℕ, _-_, _≤_, _<_}
 use mathlib.Core.Path.{_≡_}
-use mathlib.Core.List.{List}
+use mathlib.Core.List.{List, [], _∷_, _++_}
 use mathlib.Core.Bool.{Bool, false, cond}
-use lib.ListN.{length, drop}
+use lib.ListN.{length, drop, getD}
 use lib.Dec.{ltb}
 use Rattle.ground.specs.Lists.{spanOf}
 use Rattle.format.specs.Bytes.{plain}
@@ -11,12 +11,22 @@ use Rattle.format.specs.Cut.{rest, lines, fields}
 use Rattle.format.specs.Records.{kindIn}
 use Rattle.format.specs.Order.{Due}
 use Rattle.format.specs.Faults.{isOpen}
-use Rattle.format.specs.Answers.{Answer, refused, refusedAs}
-use Rattle.format.specs.File.{behind200, isForeign, blockWalkOf, topSays}
+use Rattle.format.specs.Answers.{Answer, accepted, refused, refusedAs}
+use Rattle.format.specs.Numbers.{intervalsOf}
+use Rattle.format.specs.File.{behind200, isForeign, blockWalkOf, topSays, blockCheckOf}
+use Rattle.format.specs.declared.Number.{Number}
+use Rattle.format.specs.declared.Number.the-variants.{Is, Bad}
+use Rattle.lines.specs.Places.{LineEnd}
 use Rattle.order.specs.State.{seen, closed, Kept}
 use Rattle.alone.specs.declared.BlockWalk.{BlockWalk}
 use Rattle.alone.specs.declared.BlockTurn.{BlockTurn}
 use Rattle.alone.specs.declared.BlockTurn.the-variants.{On, Stop, End}
+use Rattle.alone.specs.declared.BlockEnd.{BlockEnd}
+use Rattle.alone.specs.declared.BlockEnd.the-variants.{Whole}
+use Rattle.alone.specs.declared.BlockEnd.the-variants as blockEnd
+use Rattle.alone.specs.declared.Walked.{Walked}
+use Rattle.alone.specs.declared.Walked.the-variants.{Block}
+use Rattle.alone.specs.declared.Walked.the-variants as walked
 
 -- a refusal without a field
 abbrev pub refusedAt : ℕ → ℕ → ℕ → Answer
@@ -29,13 +39,14 @@ onFrom memory start xs st p k = blockWalkOf xs st (p - start) k (lines (drop p m
 abbrev pub leftOf : List ℕ → ℕ → List ℕ → BlockWalk → Answer
 leftOf memory start xs t = onFrom memory start xs (seen memory (t .state)) (t .at) (t .records)
 
--- behind a 200 of n intervals: what its 300 says
-abbrev pub topOf : List ℕ → ℕ → ℕ → List ℕ
-topOf memory start n = topSays n (lines (drop start memory))
+-- behind a 200 of n intervals whose values have at most d decimals: what is to be answered of the block, where xs is what its 300 says
+abbrev pub wholeOf : List ℕ → ℕ → ℕ → ℕ → List ℕ → Answer
+wholeOf memory start n d xs = onFrom memory start xs (behind200 n d) start 0
 
--- and, where their values have at most d decimals, what is to be answered of the block
-abbrev pub wholeOf : List ℕ → ℕ → ℕ → ℕ → Answer
-wholeOf memory start n d = onFrom memory start (topOf memory start n) (behind200 n d) start 0
+-- the date in the answer that a check of a block gives
+unfoldable pub dateSaid : Answer → Number
+dateSaid (accepted xs) = Is (getD xs 0 0)
+dateSaid (refused x p k i) = Bad
 
 -- the record r is no part of the block, and neither 3 nor 10 comes before that
 unfoldable pub isForeignHere : Due → List ℕ → Bool
@@ -58,3 +69,23 @@ abbrev pub Turned : List ℕ → ℕ → BlockWalk → BlockTurn → Type 0
 Turned memory start t (On u) = Walking memory start u × (t .at < u .at) × ((xs : List ℕ) → leftOf memory start xs t ≡ leftOf memory start xs u)
 Turned memory start t (Stop x) = (xs : List ℕ) → leftOf memory start xs t ≡ refusedAs x
 Turned memory start t End = lines (drop (t .at) memory) ≡ rest (drop (t .at) memory)
+
+-- where no CR LF is left, whatever the 300 says: the block is whole, with so many records, or its refusal is the answer
+abbrev pub Ended : List ℕ → ℕ → BlockWalk → BlockEnd → Type 0
+Ended memory start t (Whole k) = (xs : List ℕ) → leftOf memory start xs t ≡ accepted (xs ++ k ∷ [])
+Ended memory start t (blockEnd.Stopped x) = (xs : List ℕ) → leftOf memory start xs t ≡ refusedAs x
+
+-- the same from the first record on
+abbrev pub Entire : List ℕ → ℕ → ℕ → ℕ → BlockEnd → Type 0
+Entire memory start n d (Whole k) = (xs : List ℕ) → wholeOf memory start n d xs ≡ accepted (xs ++ k ∷ [])
+Entire memory start n d (blockEnd.Stopped x) = (xs : List ℕ) → wholeOf memory start n d xs ≡ refusedAs x
+
+-- a block of so many records behind a 200 of m minutes and that unit, whose 300 ends at e
+pub record IsBlock (memory : List ℕ) (start m unit k e : ℕ) : Type 0 where
+  pub line : LineEnd memory start e
+  pub more : e ≡ length memory → ⊥
+  pub is : blockCheckOf m unit (drop start memory) ≡ accepted (topSays (intervalsOf m) (lines (drop start memory)) ++ k ∷ [])
+
+abbrev pub WalkedAs : List ℕ → ℕ → ℕ → ℕ → Walked → Type 0
+WalkedAs memory start m unit (Block k e) = IsBlock memory start m unit k e
+WalkedAs memory start m unit (walked.Stopped x) = blockCheckOf m unit (drop start memory) ≡ refusedAs x

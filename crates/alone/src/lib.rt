@@ -6,6 +6,7 @@ use day::head::times_at;
 use follows::in_day;
 use follows::is_open;
 use format::BlockChecked;
+use format::Number;
 use format::Refusal;
 use lines::Found;
 use lines::line_end;
@@ -24,12 +25,12 @@ ghost use Rattle.ground.specs.Lists.{part};
 ghost use Rattle.format.specs.Records.{dateIn, updateIn, loadIn};
 ghost use Rattle.format.specs.Cut.{fields};
 ghost use Rattle.format.specs.Order.{inDay};
-ghost use Rattle.format.specs.Answers.{blockCheckedAs};
+ghost use Rattle.format.specs.Answers.{refusedAs, blockCheckedAs};
 ghost use Rattle.format.specs.File.{blockCheckOf};
 ghost use Rattle.lines.specs.Places.{LineEnd, Looked};
 ghost use Rattle.follows.specs.Tests.{expectedAs};
 ghost use Rattle.order.specs.State.{seen};
-ghost use Rattle.alone.specs.Walk.{refusedAt, topOf, leftOf, wholeOf, isForeignHere, firstWalk, Walking, Turned};
+ghost use Rattle.alone.specs.Walk.{refusedAt, isForeignHere, firstWalk, dateSaid, Walking, Turned, Ended, Entire, WalkedAs};
 ghost use Rattle.alone.specs.declared.BlockTurn.the-variants.{End};
 
 // The walk over a block before a record: where that starts in the memory, how many records are behind, and the state.
@@ -44,6 +45,18 @@ pub enum BlockTurn {
     On(BlockWalk),
     Stop(Refusal),
     End,
+}
+
+// What the walk comes to: how many records the block has, or the refusal that ends it.
+pub enum BlockEnd {
+    Whole(usize),
+    Stopped(Refusal),
+}
+
+// The same of any bytes, and where the block's 300 ends.
+pub enum Walked {
+    Block(usize, usize),
+    Stopped(Refusal),
 }
 
 // What a block's 300 says beside its values and its mark.
@@ -150,49 +163,42 @@ impl BlockWalk {
         }
     }
 
-    // Where no CR LF is left: the memory has to end here, with a day that may end. Its 300 ends at e.
-    fn end(self, memory: &[u8], start: usize, e: usize, n: usize) -> BlockChecked
-        requires { ⌜ Walking (now memory) start self × Turned (now memory) start self End × LineEnd (now memory) start e × (e ≡ length (now memory) → ⊥) ⌝ }
-        ensures { λ r. ⌜ blockCheckedAs r ≡ leftOf (now (memory .entry)) start (topOf (now (memory .entry)) start n) self ⌝ }
+    // Where no CR LF is left: the memory has to end here, with a day that may end.
+    fn end(self, memory: &[u8], start: usize) -> BlockEnd
+        requires { ⌜ Walking (now memory) start self × Turned (now memory) start self End ⌝ }
+        ensures { λ r. ⌜ Ended (now (memory .entry)) start self r ⌝ }
     {
         let st = self.state;
         let from = self.at - start;
         if !in_day(st.expect) {
-            return refused(2, from, self.records);
+            return BlockEnd::Stopped(refusal_at(2, from, self.records));
         }
         if self.at != memory.len() {
-            return refused(2, from, self.records);
+            return BlockEnd::Stopped(refusal_at(2, from, self.records));
         }
         if is_open(st.expect, st.next, st.n, 0) {
-            return refused(10, from, self.records);
+            return BlockEnd::Stopped(refusal_at(10, from, self.records));
         }
-        let s = said_at(memory, start, e, n);
-        BlockChecked::Accepted {
-            date: s.date,
-            n,
-            update: s.update,
-            load: s.load,
-            records: self.records,
-        }
+        BlockEnd::Whole(self.records)
     }
 }
 
 // A refusal without a field.
-fn refused(number: u64, place: usize, record: usize) -> BlockChecked
-    ensures { λ r. ⌜ blockCheckedAs r ≡ refusedAt number place «record» ⌝ }
+fn refusal_at(number: u64, place: usize, record: usize) -> Refusal
+    ensures { λ r. ⌜ refusedAs r ≡ refusedAt number place «record» ⌝ }
 {
-    BlockChecked::Refused(Refusal {
+    Refusal {
         number,
         place,
         record,
         field: 0,
-    })
+    }
 }
 
-// The block from `start` to the memory's end, behind a 200 of n intervals whose values have at most so many decimals, where it has a record.
-fn walk_block(memory: &[u8], start: usize, e: usize, n: usize, decimals: usize) -> BlockChecked
-    requires { ⌜ LineEnd (now memory) start e × (e ≡ length (now memory) → ⊥) × (n ≤ 288) × (decimals ≤ 6) ⌝ }
-    ensures { λ r. ⌜ blockCheckedAs r ≡ wholeOf (now (memory .entry)) start n decimals ⌝ }
+// The block from `start` to the memory's end, behind a 200 of n intervals whose values have at most so many decimals, where it has a record, which ends at e.
+fn walk_block(memory: &[u8], start: usize, e: usize, n: usize, decimals: usize) -> BlockEnd
+    requires { ⌜ LineEnd (now memory) start e × (n ≤ 288) × (decimals ≤ 6) ⌝ }
+    ensures { λ r. ⌜ Entire (now (memory .entry)) start n decimals r ⌝ }
 {
     let mut t = BlockWalk::new(start, n, decimals);
     loop {
@@ -201,9 +207,35 @@ fn walk_block(memory: &[u8], start: usize, e: usize, n: usize, decimals: usize) 
             BlockTurn::On(next) => {
                 t = next;
             }
-            BlockTurn::Stop(x) => return BlockChecked::Refused(x),
-            BlockTurn::End => return t.end(memory, start, e, n),
+            BlockTurn::Stop(x) => return BlockEnd::Stopped(x),
+            BlockTurn::End => return t.end(memory, start),
         }
+    }
+}
+
+// The walk over bytes of which nothing is known.
+fn walk_bytes(memory: &[u8], start: usize, minutes: u32, unit: u8) -> Walked
+    ensures { λ r. ⌜ WalkedAs (now (memory .entry)) start minutes unit r ⌝ }
+{
+    let n = intervals(minutes as u64);
+    if n == 0 {
+        return Walked::Stopped(refusal_at(16, 0, 0));
+    }
+    if !units::is_unit(unit) {
+        return Walked::Stopped(refusal_at(16, 0, 0));
+    }
+    let long = memory.len();
+    if long < start {
+        return Walked::Stopped(refusal_at(2, 0, 0));
+    }
+    let e = line_end(memory, start);
+    if e == long {
+        return Walked::Stopped(refusal_at(2, 0, 0));
+    }
+    let end = walk_block(memory, start, e, n, units::decimals(unit));
+    match end {
+        BlockEnd::Stopped(x) => Walked::Stopped(x),
+        BlockEnd::Whole(records) => Walked::Block(records, e),
     }
 }
 
@@ -212,20 +244,33 @@ fn walk_block(memory: &[u8], start: usize, e: usize, n: usize, decimals: usize) 
 pub fn check_block(memory: &[u8], start: usize, minutes: u32, unit: u8) -> BlockChecked
     ensures { λ r. ⌜ blockCheckedAs r ≡ blockCheckOf minutes unit (drop start (now (memory .entry))) ⌝ }
 {
-    let n = intervals(minutes as u64);
-    if n == 0 {
-        return refused(16, 0, 0);
+    let w = walk_bytes(memory, start, minutes, unit);
+    match w {
+        Walked::Stopped(x) => BlockChecked::Refused(x),
+        Walked::Block(records, e) => {
+            let n = intervals(minutes as u64);
+            let s = said_at(memory, start, e, n);
+            BlockChecked::Accepted {
+                date: s.date,
+                n,
+                update: s.update,
+                load: s.load,
+                records,
+            }
+        }
     }
-    if !units::is_unit(unit) {
-        return refused(16, 0, 0);
+}
+
+// The date that the same check answers, if it accepts the block. The times stand behind all the values, and who needs none of them is spared a second pass.
+pub fn block_date(memory: &[u8], start: usize, minutes: u32, unit: u8) -> Number
+    ensures { λ r. ⌜ r ≡ dateSaid (blockCheckOf minutes unit (drop start (now (memory .entry)))) ⌝ }
+{
+    let w = walk_bytes(memory, start, minutes, unit);
+    match w {
+        Walked::Stopped(_) => Number::Bad,
+        Walked::Block(_, e) => {
+            let h = head_at(memory, start, e);
+            Number::Is(h.date as u64)
+        }
     }
-    let long = memory.len();
-    if long < start {
-        return refused(2, 0, 0);
-    }
-    let e = line_end(memory, start);
-    if e == long {
-        return refused(2, 0, 0);
-    }
-    walk_block(memory, start, e, n, units::decimals(unit))
 }

@@ -51,8 +51,8 @@ fn fill_day(
     }
 }
 
-// The same day, if the lists are long enough.
-fn read_at(
+// The same day, if the lists are long enough; else 15.
+pub fn read_at(
     file: &[u8],
     a: usize,
     e: usize,

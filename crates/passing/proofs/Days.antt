@@ -56,7 +56,7 @@ count-300 z =
     omega (arith, length-append (replicate (z .n) (Value (z .decimals))) (Quality ∷ Reason ∷ Description ∷ Time ∷ Load ∷ []), length-replicate (z .n) (Value (z .decimals)))
 
 -- the block of a 300 that is passed
-sound-block : (st end : Due) (q : ℕ) (r : List ℕ) (ls : Lines) (u : ℕ) → Shut end → kindIn (fields r) ≡ 300 → Passes st (line r ls) end → isSound (blockFound q r ls (st .n) u) ≡ true
+pub sound-block : (st end : Due) (q : ℕ) (r : List ℕ) (ls : Lines) (u : ℕ) → (inVaried (end .expect) ≡ true → end .n < end .next) → kindIn (fields r) ≡ 300 → Passes st (line r ls) end → isSound (blockFound q r ls (st .n) u) ≡ true
 unfolding isSound
 sound-block st end q r ls u o k a =
     let f = fine-fit st r (a .0) in

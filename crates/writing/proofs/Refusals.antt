@@ -27,7 +27,7 @@ use Rattle.value_texts.specs.declared.Measured.{Measured}
 use Rattle.value_texts.specs.declared.Measured.the-variants.{Bytes, Unfit}
 use Rattle.heads.specs.Heads.{fitHead}
 use Rattle.block.specs.Pieces.{dayWith, fitWith, fitOf, Ready, FitDay, Sizes}
-use Rattle.writing.specs.Layers.{placedOf, answeredOf, Writes}
+use Rattle.writing.specs.Layers.{placedOf, answeredOf, measuredOf, Writes}
 
 -- ---- a fit day
 
@@ -79,6 +79,15 @@ module _ (h : DayHead) (n : ℕ) (vs : List ℕ) (l : Five) (text : List ℕ) {m
   unfit f q =
       let z : fitWith h n vs l text ≡ false = unfit-if (fitWith h n vs l text) (length (valuesText vs)) (sym f ∙ e) in
       record { answer = rw z q; left = rw z }
+
+  pub unfit-measured : {a : Answer} → m ≡ Unfit → a ≡ refusal 16 → a ≡ measuredOf (fitWith h n vs l text) (dayWith h n vs l text)
+  unfolding measuredOf answeredOf fitOf
+  unfit-measured f q = rw (unfit-if (fitWith h n vs l text) (length (valuesText vs)) (sym f ∙ e)) q
+
+  pub fit-measured : {k b r : ℕ} → m ≡ Bytes k → Sizes (dayWith h n vs l text) b r → writtenAs (Block b r) ≡ measuredOf (fitWith h n vs l text) (dayWith h n vs l text)
+  unfolding measuredOf answeredOf placedOf
+  fit-measured f s =
+      rw (is-fit f, le-leb (length (blockOf (dayWith h n vs l text))) (length (blockOf (dayWith h n vs l text))) (omega arith)) (ap₂ (λ (x y : ℕ). accepted (x ∷ y ∷ [])) (s .bytes-are) (s .records-are))
 
   pub fit-written : {k : ℕ} {w : Written} {room after : List ℕ} → m ≡ Bytes k
       → Writes placedOf (dayWith h n vs l text) room w after
@@ -168,6 +177,11 @@ module _ (h : DayHead) (vs fs ms rs ss ls text : List ℕ) {n : ℕ} (e : n ≡ 
       answered : (room : ℕ) → answeredOf (fitWith h n (take n vs) (five fs ms rs ss ls) text) (dayWith h n (take n vs) (five fs ms rs ss ls) text) room ≡ writeOf (given h vs fs ms rs ss ls text) room
       unfolding writeOf enough intervalsGiven answeredOf placedOf
       answered room = rw (intervals-known (h .length), ← e, ne-eqb n 0 some, all-long n vs fs ms rs ss ls f t, same-fit, same-day)
+
+      pub day-measured : {a : Answer} → a ≡ measuredOf (fitWith h n (take n vs) (five fs ms rs ss ls) text) (dayWith h n (take n vs) (five fs ms rs ss ls) text)
+          → a ≡ writeOf (given h vs fs ms rs ss ls text) (length (blockOf (dayGiven (given h vs fs ms rs ss ls text))))
+      unfolding measuredOf
+      day-measured q = rw same-day (q ∙ answered _)
 
       module _ (room : List ℕ) {w : Written} {after : List ℕ}
           (x : Writes (answeredOf (fitWith h n (take n vs) (five fs ms rs ss ls) text)) (dayWith h n (take n vs) (five fs ms rs ss ls) text) room w after) where

@@ -18,6 +18,10 @@ placedOf d room = unless (leb (length (blockOf d)) room) 15 (accepted (length (b
 unfoldable pub answeredOf : Bool → Day → ℕ → Answer
 answeredOf fit d room = unless fit 16 (placedOf d room)
 
+-- the same where the block just fills the room
+unfoldable pub measuredOf : Bool → Day → Answer
+measuredOf fit d = answeredOf fit d (length (blockOf d))
+
 -- the answer to a day where the room has so many bytes, and what it leaves of the room
 pub record Writes (answerOf : Day → ℕ → Answer) (d : Day) (room : List ℕ) (w : Written) (after : List ℕ) : Type 0 where
   pub answer : writtenAs w ≡ answerOf d (length room)

@@ -12,9 +12,9 @@ ghost use mathlib.Core.Path.{_≡_};
 ghost use lib.ListN.{length};
 ghost use Rattle.format.specs.Answers.{writtenAs};
 ghost use Rattle.format.specs.Day.{five};
-ghost use Rattle.format.specs.Block.{given, valuesText, writeOf, roomOf};
+ghost use Rattle.format.specs.Block.{given, dayGiven, valuesText, blockOf, writeOf, roomOf};
 ghost use Rattle.block.specs.Pieces.{dayWith, fitWith, Ready, FitDay};
-ghost use Rattle.writing.specs.Layers.{placedOf, answeredOf, Writes};
+ghost use Rattle.writing.specs.Layers.{placedOf, answeredOf, measuredOf, Writes};
 
 // A fit day whose values have k bytes: written where the room is long enough.
 fn write_fit(
@@ -154,6 +154,96 @@ pub fn write_day(
         lengths,
         text,
         room,
+        n,
+    )
+}
+
+// A day whose lists are long enough: its block's bytes and records, if it is fit.
+fn measure_long(
+    day: DayHead,
+    values: &[u64],
+    flags: &[u8],
+    methods: &[u8],
+    reasons: &[u16],
+    starts: &[usize],
+    lengths: &[usize],
+    text: &[u8],
+    n: usize,
+) -> Written
+    requires { ⌜ Ready n (now values) (five (now flags) (now methods) (now reasons) (now starts) (now lengths)) ⌝ }
+    ensures { λ w. ⌜ writtenAs w ≡ measuredOf (fitWith day n (now (values .entry)) (five (now (flags .entry)) (now (methods .entry)) (now (reasons .entry)) (now (starts .entry)) (now (lengths .entry))) (now (text .entry))) (dayWith day n (now (values .entry)) (five (now (flags .entry)) (now (methods .entry)) (now (reasons .entry)) (now (starts .entry)) (now (lengths .entry))) (now (text .entry))) ⌝ }
+{
+    let m = fit_day(
+        day,
+        values,
+        flags,
+        methods,
+        reasons,
+        starts,
+        lengths,
+        text,
+        n,
+    );
+    match m {
+        Measured::Unfit => Written::Refused(Refusal::bare(16)),
+        Measured::Bytes(k) => {
+            let size = measure_block(
+                day,
+                values,
+                k,
+                flags,
+                methods,
+                reasons,
+                starts,
+                lengths,
+                text,
+                n,
+            );
+            Written::Block {
+                bytes: size.bytes,
+                records: size.records,
+            }
+        }
+    }
+}
+
+// What a writing answers in a room that the block just fills, for a caller whose room depends on how long that is.
+pub fn measure_day(
+    day: DayHead,
+    values: &[u64],
+    flags: &[u8],
+    methods: &[u8],
+    reasons: &[u16],
+    starts: &[usize],
+    lengths: &[usize],
+    text: &[u8],
+) -> Written
+    ensures { λ w. ⌜ writtenAs w ≡ writeOf (given day (now (values .entry)) (now (flags .entry)) (now (methods .entry)) (now (reasons .entry)) (now (starts .entry)) (now (lengths .entry)) (now (text .entry))) (length (blockOf (dayGiven (given day (now (values .entry)) (now (flags .entry)) (now (methods .entry)) (now (reasons .entry)) (now (starts .entry)) (now (lengths .entry)) (now (text .entry)))))) ⌝ }
+{
+    let n = intervals(day.length as u64);
+    if n == 0 {
+        return Written::Refused(Refusal::bare(16));
+    }
+    if !enough(
+        n,
+        values.len(),
+        flags.len(),
+        methods.len(),
+        reasons.len(),
+        starts.len(),
+        lengths.len(),
+    ) {
+        return Written::Refused(Refusal::bare(15));
+    }
+    measure_long(
+        day,
+        &values[..n],
+        flags,
+        methods,
+        reasons,
+        starts,
+        lengths,
+        text,
         n,
     )
 }

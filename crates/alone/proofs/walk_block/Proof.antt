@@ -1,15 +1,17 @@
 -- `alone::walk_block` meets its contract. Assumes nothing.
 use Prim.Native.Nat.{_-_}
-use lib.ListN.{length}
-use borrow.Author.Needs.{needs}
 use mathlib.Core.Path.{_≡_}
-use Rattle.alone.specs.Walk.{leftOf, topOf, wholeOf, Walking}
-use Rattle.alone.proofs.Walks.{walking-first, walked-first, turned-walking, turned-left, turned-less, turned-refused, turned-over}
+use mathlib.Core.List.{List}
+use Prim.Native.Nat.{ℕ}
+use lib.ListN.{length}
+use Rattle.alone.specs.Walk.{leftOf, wholeOf, Walking}
+use Rattle.alone.proofs.Walks.{walking-first, walked-first, turned-walking, turned-left, turned-less, turned-refused, turned-over, entire}
+use borrow.Author.Needs.{needs}
 use Rattle.alone.proofs.walk_block.Statement.{statement}
 use Rattle.alone.proofs.walk_block.Tie as tie
 
 abbrev Inv-loop : tie.InvT-loop
-Inv-loop memory start e n decimals t₀ t = Walking memory start t × (wholeOf memory start n decimals ≡ leftOf memory start (topOf memory start n) t)
+Inv-loop memory start e n decimals t₀ t = Walking memory start t × ((xs : List ℕ) → wholeOf memory start n decimals xs ≡ leftOf memory start xs t)
 
 abbrev μ-loop : tie.MeasureT-loop
 μ-loop memory start e n decimals t₀ t = length memory - t .at
@@ -42,25 +44,10 @@ enum-told : tie.Need-enum-told Inv-loop μ-loop
 enum-told c = search needs
 
 end-requires : tie.Need-end-requires Inv-loop μ-loop
-end-requires c κs = (search needs, search turned-over, search needs, search needs)
+end-requires c κs = (search needs, search turned-over)
 
 returns-2 : tie.Need-returns-2 Inv-loop μ-loop
-returns-2 c = cc
+returns-2 c = search entire
 
 pub walk-block-spec : {M : Type 1} → statement M
-walk-block-spec =
-    tie.close
-    (tie.spec
-    Inv-loop
-    μ-loop
-    new-requires
-    loop-holds
-    turn-requires
-    enum-known-turn
-    loop-less
-    loop-again
-    enum-known-turn-2
-    returns
-    enum-told
-    end-requires
-    returns-2)
+walk-block-spec = tie.close (tie.spec Inv-loop μ-loop new-requires loop-holds turn-requires enum-known-turn loop-less loop-again enum-known-turn-2 returns enum-told end-requires returns-2)
