@@ -1,0 +1,3 @@
+mod Adds
+mod Enters
+mod Ways
