@@ -1,5 +1,5 @@
 -- An answer is known from the paper's number and values: no two cases of an enum stand for the same. Assumes nothing.
-use mathlib.Core.Path.{_≡_, ap}
+use mathlib.Core.Path.{_≡_, refl, ap}
 use Prim.Native.Nat.{ℕ}
 use Rattle.format.specs.Answers.{refusedAs, checkedAs, dayReadAs, totalledAs, writtenAs}
 use Rattle.format.specs.declared.Refusal.{Refusal}
@@ -17,6 +17,13 @@ use Rattle.whose.specs.declared.DayFound.the-variants as found
 use Rattle.replacing.specs.Replace.{replacedAs}
 use Rattle.replacing.specs.declared.Replaced.{Replaced}
 use Rattle.replacing.specs.declared.Replaced.the-variants as replaced
+use Rattle.store.specs.Calls.{madeAs, keptAs, slotReadAs}
+use Rattle.store.specs.declared.Made.{Made}
+use Rattle.store.specs.declared.Made.the-variants as made
+use Rattle.store.specs.declared.Kept.{Kept}
+use Rattle.store.specs.declared.Kept.the-variants as kept
+use Rattle.store.specs.declared.SlotRead.{SlotRead}
+use Rattle.store.specs.declared.SlotRead.the-variants as slotRead
 
 refusal-is : (n p r f : ℕ) → Refusal
 refusal-is n p r f = record { number = n; place = p; «record» = r; field = f }
@@ -66,3 +73,26 @@ replaced-one (replaced.Length a) (replaced.Length b) e = cc
 replaced-one (replaced.Length a) (replaced.Refused y) e = cc
 replaced-one (replaced.Refused x) (replaced.Length b) e = cc
 replaced-one (replaced.Refused x) (replaced.Refused y) e = ap replaced.Refused (refusal-one x y e)
+
+pub made-one : (x y : Made) → madeAs x ≡ madeAs y → x ≡ y
+made-one (made.Room a) (made.Room b) e = cc
+made-one (made.Room a) (made.Refused y) e = cc
+made-one (made.Refused x) (made.Room b) e = cc
+made-one (made.Refused x) (made.Refused y) e = ap made.Refused (refusal-one x y e)
+
+pub kept-one : (x y : Kept) → keptAs x ≡ keptAs y → x ≡ y
+kept-one (kept.Days a) (kept.Days b) e = cc
+kept-one (kept.Days a) (kept.Refused y) e = cc
+kept-one (kept.Refused x) (kept.Days b) e = cc
+kept-one (kept.Refused x) (kept.Refused y) e = ap kept.Refused (refusal-one x y e)
+
+pub slot-read-one : (x y : SlotRead) → slotReadAs x ≡ slotReadAs y → x ≡ y
+slot-read-one slotRead.Free slotRead.Free e = refl
+slot-read-one slotRead.Free (slotRead.Used i j k l m n o p) e = cc
+slot-read-one slotRead.Free (slotRead.Refused y) e = cc
+slot-read-one (slotRead.Used a b c d g h q r) slotRead.Free e = cc
+slot-read-one (slotRead.Used a b c d g h q r) (slotRead.Used i j k l m n o p) e = cc
+slot-read-one (slotRead.Used a b c d g h q r) (slotRead.Refused y) e = cc
+slot-read-one (slotRead.Refused x) slotRead.Free e = cc
+slot-read-one (slotRead.Refused x) (slotRead.Used i j k l m n o p) e = cc
+slot-read-one (slotRead.Refused x) (slotRead.Refused y) e = ap slotRead.Refused (refusal-one x y e)

@@ -19,7 +19,18 @@ use Rattle.whose.proofs.find_day.Reads as find-reads
 use Rattle.replacing.specs.Replace.{Left}
 use Rattle.replacing.proofs.replace_day.Kinds as replace-kinds
 use Rattle.replacing.proofs.replace_day.Reads as replace-reads
-use Rattle.determined.proofs.Answers.{checked-one, day-read-one, totalled-one, written-one, found-one, replaced-one}
+use Rattle.store.specs.Calls as Calls
+use Rattle.making.proofs.make_store.Kinds as make-kinds
+use Rattle.making.proofs.make_store.Reads as make-reads
+use Rattle.putting.proofs.put_day.Kinds as put-kinds
+use Rattle.putting.proofs.put_day.Reads as put-reads
+use Rattle.deleting.proofs.delete_day.Kinds as delete-kinds
+use Rattle.deleting.proofs.delete_day.Reads as delete-reads
+use Rattle.getting.proofs.get_day.Kinds as get-kinds
+use Rattle.getting.proofs.get_day.Reads as get-reads
+use Rattle.slot_reading.proofs.read_slot.Kinds as slot-kinds
+use Rattle.slot_reading.proofs.read_slot.Reads as slot-reads
+use Rattle.determined.proofs.Answers.{checked-one, day-read-one, totalled-one, written-one, found-one, replaced-one, made-one, kept-one, slot-read-one}
 
 -- `check` is lent nothing that it may change
 pub one-check : (κs : Lfts 1) (a : Dens κs check-kinds.ps) (x y : resT check-kinds.r κs .Denot) (e f : AtExit (endedOf 1 check-kinds.ps check-kinds.r) κs)
@@ -62,3 +73,38 @@ one-find κs a x y e f p q = found-one x y (p ∙ sym q)
 pub one-replace : (κs : Lfts 2) (a : Dens κs replace-kinds.ps) (x y : resT replace-kinds.r κs .Denot) (e f : AtExit (endedOf 2 replace-kinds.ps replace-kinds.r) κs)
     → replace-reads.Learnt κs a x e → replace-reads.Learnt κs a y f → (x ≡ y) × (now (e .0) ≡ now (f .0))
 one-replace κs a x y e f p q = let o = p ∙ sym q in (replaced-one x y (ap (λ (u : Left). u .answer) o), ap (λ (u : Left). u .room) o)
+
+-- `make_store`: the answer, and every byte of memory
+pub one-make : (κs : Lfts 1) (a : Dens κs make-kinds.ps) (x y : resT make-kinds.r κs .Denot) (e f : AtExit (endedOf 1 make-kinds.ps make-kinds.r) κs)
+    → make-reads.Learnt κs a x e → make-reads.Learnt κs a y f → (x ≡ y) × (now (e .0) ≡ now (f .0))
+one-make κs a x y e f p q = let o = p ∙ sym q in (made-one x y (ap (λ (u : Calls.Left). u .answer) o), ap (λ (u : Calls.Left). u .memory) o)
+
+-- `put_day` and `delete_day` likewise
+pub one-put : (κs : Lfts 10) (a : Dens κs put-kinds.ps) (x y : resT put-kinds.r κs .Denot) (e f : AtExit (endedOf 10 put-kinds.ps put-kinds.r) κs)
+    → put-reads.Learnt κs a x e → put-reads.Learnt κs a y f → (x ≡ y) × (now (e .0) ≡ now (f .0))
+one-put κs a x y e f p q = let o = p ∙ sym q in (kept-one x y (ap (λ (u : Calls.Left). u .answer) o), ap (λ (u : Calls.Left). u .memory) o)
+
+pub one-delete : (κs : Lfts 3) (a : Dens κs delete-kinds.ps) (x y : resT delete-kinds.r κs .Denot) (e f : AtExit (endedOf 3 delete-kinds.ps delete-kinds.r) κs)
+    → delete-reads.Learnt κs a x e → delete-reads.Learnt κs a y f → (x ≡ y) × (now (e .0) ≡ now (f .0))
+one-delete κs a x y e f p q = let o = p ∙ sym q in (kept-one x y (ap (λ (u : Calls.Left). u .answer) o), ap (λ (u : Calls.Left). u .memory) o)
+
+-- `get_day`: the answer, the values, and the five lists of marks
+pub one-get : (κs : Lfts 9) (a : Dens κs get-kinds.ps) (x y : resT get-kinds.r κs .Denot) (e f : AtExit (endedOf 9 get-kinds.ps get-kinds.r) κs)
+    → get-reads.Learnt κs a x e → get-reads.Learnt κs a y f
+    → (x ≡ y) × (now (e .1 .1 .1 .1 .0) ≡ now (f .1 .1 .1 .1 .0)) × (now (e .1 .1 .1 .1 .1 .0) ≡ now (f .1 .1 .1 .1 .1 .0)) × (now (e .1 .1 .1 .1 .1 .1 .0) ≡ now (f .1 .1 .1 .1 .1 .1 .0))
+    × (now (e .1 .1 .1 .1 .1 .1 .1 .0) ≡ now (f .1 .1 .1 .1 .1 .1 .1 .0)) × (now (e .1 .1 .1 .1 .1 .1 .1 .1 .0) ≡ now (f .1 .1 .1 .1 .1 .1 .1 .1 .0)) × (now (e .1 .1 .1 .1 .1 .1 .1 .1 .1 .0) ≡ now (f .1 .1 .1 .1 .1 .1 .1 .1 .1 .0))
+one-get κs a x y e f p q =
+    let o = p ∙ sym q in (
+      day-read-one x y (ap (λ (u : Outcome). u .answer) o),
+      ap (λ (u : Outcome). u .values) o,
+      ap (λ (u : Outcome). u .marks .flags) o,
+      ap (λ (u : Outcome). u .marks .methods) o,
+      ap (λ (u : Outcome). u .marks .reasons) o,
+      ap (λ (u : Outcome). u .marks .starts) o,
+      ap (λ (u : Outcome). u .marks .lengths) o,
+    )
+
+-- `read_slot` is lent nothing that it may change
+pub one-slot : (κs : Lfts 1) (a : Dens κs slot-kinds.ps) (x y : resT slot-kinds.r κs .Denot) (e f : AtExit (endedOf 1 slot-kinds.ps slot-kinds.r) κs)
+    → slot-reads.Learnt κs a x e → slot-reads.Learnt κs a y f → x ≡ y
+one-slot κs a x y e f p q = slot-read-one x y (p ∙ sym q)
