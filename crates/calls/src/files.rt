@@ -22,13 +22,13 @@ ghost use Rattle.calls.specs.Kept.{keptAll};
 ghost use Rattle.calls.specs.Lines.{answerLine, dayText, lentValues, lentMarks};
 
 // What each place of a lent list is filled with: nothing that an interval of a day has.
-const WIDE_MARK: u64 = 18446744073709551557;
+pub const WIDE_MARK: u64 = 18446744073709551557;
 
-const SIZE_MARK: usize = 18446744073709551557;
+pub const SIZE_MARK: usize = 18446744073709551557;
 
-const HALF_MARK: u16 = 42405;
+pub const HALF_MARK: u16 = 42405;
 
-const BYTE_MARK: u8 = 165;
+pub const BYTE_MARK: u8 = 165;
 
 pub fn checked(file: &[u8], page: &mut [u8], at: usize) -> usize
     ensures { λ r. ⌜ Filled (now (page .entry)) at (answerLine (checkOf (now (file .entry)))) r (now (page .exit)) ⌝ }
@@ -84,7 +84,7 @@ fn are_kept(
 }
 
 // The day's line, and whether the six lists are kept behind its intervals.
-fn day_shown(
+pub fn day_shown(
     page: &mut [u8],
     at: usize,
     x: DayRead,

@@ -1,6 +1,7 @@
-// The probe's cases that hand in a file, check, day, total and find, a block on its own, or a room with a file that is edited. No contract can say what is read,
-// so those that read are proved safe, and have none; what they answer is put together by `calls` and `edit_calls`.
+// The probe's cases that hand in a file, check, day, total and find, a block on its own, a room with a file that is edited, or a store. No contract can say what is read,
+// so those that read are proved safe, and have none; what they answer is put together by `calls`, `edit_calls` and `store_calls`.
 pub mod rooms;
+pub mod stores;
 
 use calls::PLACES;
 use calls::files;
@@ -71,7 +72,7 @@ pub fn find_case(buf: &mut [u8], c: Cursor, file: &mut [u8], page: &mut [u8], at
 
 pub fn block_case(buf: &mut [u8], c: Cursor, file: &mut [u8], page: &mut [u8], at: usize) -> Going {
     let mut numbers = [0u64; 3];
-    let Passed::To(after) = file_in(buf, c, b"lock ", &mut numbers, file) else {
+    let Passed::To(after) = file_in(buf, c, b"ock ", &mut numbers, file) else {
         return Going::Bad;
     };
     let minutes = numbers[0];
@@ -91,7 +92,7 @@ pub fn block_case(buf: &mut [u8], c: Cursor, file: &mut [u8], page: &mut [u8], a
 
 pub fn day_case(buf: &mut [u8], c: Cursor, file: &mut [u8], page: &mut [u8], at: usize) -> Going {
     let mut numbers = [0u64; 3];
-    let Passed::To(after) = file_in(buf, c, b"ay ", &mut numbers, file) else {
+    let Passed::To(after) = file_in(buf, c, b"y ", &mut numbers, file) else {
         return Going::Bad;
     };
     let k = numbers[0] as usize;

@@ -58,7 +58,7 @@ fn shown(x: Replaced, n: usize) -> usize
 }
 
 // Whether a room is as it was, from a place on.
-fn is_kept(room: &[u8], was: &[u8], from: usize) -> bool
+pub fn is_kept(room: &[u8], was: &[u8], from: usize) -> bool
     ensures { λ r. ⌜ r ≡ same (drop from (now (room .entry))) (drop from (now (was .entry))) ⌝ }
 {
     same_bytes(part(room, from, room.len()), part(was, from, was.len()))

@@ -97,3 +97,21 @@ pub fn fill_line(buf: &mut [u8], c: Cursor, n: usize, list: &mut [u8]) -> Passed
     };
     byte(buf, after, b'\n')
 }
+
+// The first n places of one list, the first k of another behind them, and the line's end.
+pub fn fill_both(
+    buf: &mut [u8],
+    c: Cursor,
+    n: usize,
+    one: &mut [u8],
+    k: usize,
+    other: &mut [u8],
+) -> Passed {
+    if one.len() < n {
+        return Passed::Bad;
+    }
+    let Passed::To(after) = fill(buf, c, &mut one[..n]) else {
+        return Passed::Bad;
+    };
+    fill_line(buf, after, k, other)
+}

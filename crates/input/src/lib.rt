@@ -10,9 +10,11 @@ use bytes::next;
 ghost use mathlib.Core.Path.{_≡_};
 ghost use Rattle.input.specs.Taking.{expectedOf};
 
-// What a case of the probe has come to: answered, with the input behind it and the page's place behind its answer; there was none; or it was no case.
+// What a case of the probe has come to: answered, with the input behind it and the page's place behind its answer; the same, and so many bytes of memory are lent
+// from now on; there was none; or it was no case.
 pub enum Going {
     On(Cursor, usize),
+    Lent(Cursor, usize, usize),
     Ended,
     Bad,
 }

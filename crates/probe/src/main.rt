@@ -4,6 +4,12 @@ use cases::check_case;
 use cases::day_case;
 use cases::find_case;
 use cases::rooms::replace_case;
+use cases::stores::bytes_case;
+use cases::stores::delete_case;
+use cases::stores::get_case;
+use cases::stores::make_case;
+use cases::stores::memory_case;
+use cases::stores::slot_case;
 use cases::total_case;
 use input::Going;
 use input::bytes::Cursor;
@@ -11,6 +17,7 @@ use input::bytes::Taken;
 use input::bytes::next;
 use page::texts::part;
 use page::texts::put;
+use sheet::puts::put_case;
 use sheet::write_case;
 
 // Nothing says that the input ends, so the loop over its cases has a count that falls.
@@ -21,6 +28,9 @@ const FULL: usize = 32768;
 
 // The longest file, room and block that can be handed in.
 const LONGEST: usize = 1100000;
+
+// The longest memory that can be lent, of which there is a copy before a call.
+const MEMORY: usize = 1200000;
 
 fn write(page: &[u8], at: usize) {
     io::write_all(libc::STDOUT_FILENO, part(page, 0, at));
@@ -35,6 +45,65 @@ fn make_room(page: &[u8], at: usize) -> usize {
     0
 }
 
+// The cases whose second byte tells them apart.
+fn b_case(
+    buf: &mut [u8],
+    c: Cursor,
+    file: &mut [u8],
+    memory: &[u8],
+    size: usize,
+    page: &mut [u8],
+    at: usize,
+) -> Going {
+    let Taken::Byte(b, after) = next(buf, c) else {
+        return Going::Bad;
+    };
+    match b {
+        b'l' => block_case(buf, after, file, page, at),
+        b'y' => bytes_case(buf, after, memory, size, page, at),
+        _ => Going::Bad,
+    }
+}
+
+fn d_case(
+    buf: &mut [u8],
+    c: Cursor,
+    file: &mut [u8],
+    memory: &mut [u8],
+    size: usize,
+    copy: &mut [u8],
+    page: &mut [u8],
+    at: usize,
+) -> Going {
+    let Taken::Byte(b, after) = next(buf, c) else {
+        return Going::Bad;
+    };
+    match b {
+        b'a' => day_case(buf, after, file, page, at),
+        b'e' => delete_case(buf, after, memory, size, copy, page, at),
+        _ => Going::Bad,
+    }
+}
+
+fn m_case(
+    buf: &mut [u8],
+    c: Cursor,
+    memory: &mut [u8],
+    size: usize,
+    copy: &mut [u8],
+    page: &mut [u8],
+    at: usize,
+) -> Going {
+    let Taken::Byte(b, after) = next(buf, c) else {
+        return Going::Bad;
+    };
+    match b {
+        b'a' => make_case(buf, after, memory, size, copy, page, at),
+        b'e' => memory_case(buf, after, memory, page, at),
+        _ => Going::Bad,
+    }
+}
+
 // The next case, told by its first byte.
 fn case(
     buf: &mut [u8],
@@ -42,6 +111,8 @@ fn case(
     file: &mut [u8],
     copy: &mut [u8],
     block: &mut [u8],
+    memory: &mut [u8],
+    size: usize,
     page: &mut [u8],
     at: usize,
 ) -> Going {
@@ -49,11 +120,15 @@ fn case(
         return Going::Ended;
     };
     match b {
-        b'b' => block_case(buf, after, file, page, at),
+        b'b' => b_case(buf, after, file, memory, size, page, at),
         b'c' => check_case(buf, after, file, page, at),
-        b'd' => day_case(buf, after, file, page, at),
+        b'd' => d_case(buf, after, file, memory, size, copy, page, at),
         b'f' => find_case(buf, after, file, page, at),
+        b'g' => get_case(buf, after, memory, size, page, at),
+        b'm' => m_case(buf, after, memory, size, copy, page, at),
+        b'p' => put_case(buf, after, memory, size, copy, page, at),
         b'r' => replace_case(buf, after, file, copy, block, page, at),
+        b's' => slot_case(buf, after, memory, size, page, at),
         b't' => total_case(buf, after, file, page, at),
         b'w' => write_case(buf, after, page, at),
         _ => Going::Bad,
@@ -65,16 +140,29 @@ fn bad_case(page: &mut [u8], at: usize) {
     write(page, p);
 }
 
-fn run(buf: &mut [u8], file: &mut [u8], copy: &mut [u8], block: &mut [u8], page: &mut [u8]) {
+fn run(
+    buf: &mut [u8],
+    file: &mut [u8],
+    copy: &mut [u8],
+    block: &mut [u8],
+    memory: &mut [u8],
+    page: &mut [u8],
+) {
     let mut c = Cursor { at: 0, end: 0 };
     let mut at: usize = 0;
+    let mut size: usize = 0;
     let mut turns = TURNS;
     while 0 < turns {
         turns -= 1;
-        match case(buf, c, file, copy, block, page, at) {
+        match case(buf, c, file, copy, block, memory, size, page, at) {
             Going::On(next, place) => {
                 c = next;
                 at = make_room(page, place);
+            }
+            Going::Lent(next, place, n) => {
+                c = next;
+                at = make_room(page, place);
+                size = n;
             }
             Going::Ended => {
                 write(page, at);
@@ -88,15 +176,16 @@ fn run(buf: &mut [u8], file: &mut [u8], copy: &mut [u8], block: &mut [u8], page:
     }
 }
 
-fn go(file: &mut [u8], copy: &mut [u8], block: &mut [u8]) {
+fn go(file: &mut [u8], copy: &mut [u8], block: &mut [u8], memory: &mut [u8]) {
     let mut buf = io::large_buffer();
     let mut page = io::large_buffer();
-    run(&mut buf, file, copy, block, &mut page);
+    run(&mut buf, file, copy, block, memory, &mut page);
 }
 
 fn main() {
     let mut file = [0u8; LONGEST];
-    let mut copy = [0u8; LONGEST];
+    let mut copy = [0u8; MEMORY];
     let mut block = [0u8; LONGEST];
-    go(&mut file, &mut copy, &mut block);
+    let mut memory = [0u8; MEMORY];
+    go(&mut file, &mut copy, &mut block, &mut memory);
 }

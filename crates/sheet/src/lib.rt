@@ -2,6 +2,7 @@
 // call, and the block is written out behind its answer. What the numbers mean is said by functions that have contracts. No contract can say what is read or
 // written, so those that do it are proved safe, and have none.
 mod lists;
+pub mod puts;
 
 use calls::PLACES;
 use calls::blocks::EMPTY;
