@@ -6,7 +6,7 @@ use crate::day::DayRead;
 use crate::fields;
 use crate::refusal::{Refusal, COVER_INCOMPLETE, DAY_UNFIT};
 use crate::units::Unit;
-use crate::walk::Walk;
+use crate::walk::{Day, Walk};
 
 #[derive(Clone, Copy, Debug, PartialEq, Eq)]
 pub struct BlockRead {
@@ -17,6 +17,17 @@ pub struct BlockRead {
 
 /// Checks a block behind an interval length in minutes and the number of a unit.
 pub fn check_block(block: &[u8], length: u32, unit: u8) -> Result<BlockRead, Refusal> {
+    let walk = walk_over(block, length, unit)?;
+    Ok(BlockRead { day: DayRead::of(&walk.content.days[0]), records: walk.records })
+}
+
+/// The day of such a block. Places of descriptions count from the block's start too.
+pub fn read_block(block: &[u8], length: u32, unit: u8) -> Result<Day<'_>, Refusal> {
+    let mut walk = walk_over(block, length, unit)?;
+    Ok(walk.content.days.remove(0))
+}
+
+fn walk_over(block: &[u8], length: u32, unit: u8) -> Result<Walk<'_>, Refusal> {
     let unfit = Refusal::without_place(DAY_UNFIT);
     let n = fields::intervals_in_day(u64::from(length)).ok_or(unfit)?;
     let unit = Unit::numbered(unit).ok_or(unfit)?;
@@ -28,7 +39,7 @@ pub fn check_block(block: &[u8], length: u32, unit: u8) -> Result<BlockRead, Ref
     if walk.is_in_open_cover() {
         return Err(Refusal { number: COVER_INCOMPLETE, place: walk.start, record: walk.records, field: 0 });
     }
-    Ok(BlockRead { day: DayRead::of(&walk.content.days[0]), records: walk.records })
+    Ok(walk)
 }
 
 #[cfg(test)]

@@ -19,6 +19,7 @@ mod null_data;
 #[cfg(test)]
 mod parts;
 mod requests;
+mod stores;
 mod sweep;
 mod table_sweep;
 #[cfg(test)]
@@ -31,6 +32,7 @@ mod writes;
 
 use chance::Chance;
 
+pub use stores::sequence;
 pub use table_sweep::file;
 
 /// The cases with these numbers have files at the limit of length and above it. There are few, as they are large. They
@@ -144,7 +146,7 @@ fn in_turn(aims: &[u64], turn: u64) -> u64 {
 mod tests {
     use super::*;
     use crate::probe;
-    use crate::refusal::{DAY_UNFIT, LAST, NO_SUCH_NUMBER};
+    use crate::refusal::{of_files, DAY_UNFIT, NO_SUCH_NUMBER};
 
     #[test]
     fn a_run_gives_every_refusal_that_can_be_reached_and_no_bad_case() {
@@ -152,17 +154,17 @@ mod tests {
         let tally = probe::run(&input, &mut std::io::sink()).unwrap();
         let lines = tally.lines();
         assert!(!lines.contains("bad case"), "{lines}");
-        for number in 1..=LAST {
+        for number in of_files() {
             assert!(tally.all.refusals(number) > 0, "refusal {number} never given\n{lines}");
         }
         assert!(tally.blocks.accepted > 0);
-        for number in 1..=LAST {
+        for number in of_files() {
             let can_come = BLOCK_AIMS.contains(&number);
             assert_eq!(tally.blocks.refusals(number) > 0, can_come, "refusal {number} of a block\n{lines}");
         }
         assert!(tally.finds.accepted > 0 && tally.finds.refusals(NO_SUCH_NUMBER) > 0);
         assert!(tally.replacements.accepted > 0);
-        for number in 1..=LAST {
+        for number in of_files() {
             // The day's own 200 has an interval length and a unit.
             let can_come = number != DAY_UNFIT;
             assert_eq!(tally.replacements.refusals(number) > 0, can_come, "refusal {number} of a replacement\n{lines}");

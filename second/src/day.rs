@@ -1,4 +1,4 @@
-//! Reading one day of a NEM12 file into lent lists.
+//! Reading one day into lent lists, of a NEM12 file or of any other bytes that have its block.
 
 use crate::check::read_file;
 use crate::refusal::{Refusal, LENT_TOO_SHORT};
@@ -27,14 +27,14 @@ impl LentLists<'_> {
         lengths.into_iter().min().unwrap_or(0)
     }
 
-    fn fill(&mut self, day: &Day) {
+    fn fill(&mut self, day: &Day, before: usize) {
         for (index, (value, note)) in day.values.iter().zip(&day.notes).enumerate() {
             let length = note.description.len();
             self.values[index] = *value;
             self.flags[index] = note.quality.flag;
             self.methods[index] = note.quality.method;
             self.reasons[index] = note.reason;
-            self.starts[index] = if length == 0 { 0 } else { note.description_start };
+            self.starts[index] = if length == 0 { 0 } else { before + note.description_start };
             self.lengths[index] = length;
         }
     }
@@ -56,12 +56,17 @@ impl DayRead {
     }
 }
 
-pub fn read_day(file: &[u8], number: usize, mut lists: LentLists) -> Result<DayRead, Refusal> {
+pub fn read_day(file: &[u8], number: usize, lists: LentLists) -> Result<DayRead, Refusal> {
     let content = read_file(file)?;
-    let day = content.day(number)?;
+    hand_out(content.day(number)?, 0, lists)
+}
+
+/// Hands out a day that was read. Its descriptions' places are moved on by so many bytes, which stand before those that
+/// it was read from.
+pub fn hand_out(day: &Day, before: usize, mut lists: LentLists) -> Result<DayRead, Refusal> {
     if lists.shortest() < day.values.len() {
         return Err(Refusal::without_place(LENT_TOO_SHORT));
     }
-    lists.fill(day);
+    lists.fill(day, before);
     Ok(DayRead::of(day))
 }

@@ -10,6 +10,7 @@ mod check;
 mod day;
 mod fields;
 mod find;
+mod keys;
 mod notes;
 mod probe;
 mod records;
@@ -17,6 +18,7 @@ mod refusal;
 mod replace;
 #[cfg(test)]
 mod settled;
+mod store;
 mod table;
 mod total;
 mod units;
@@ -29,8 +31,8 @@ use std::io::{self, BufWriter, Read, Write};
 use std::path::Path;
 use std::process::ExitCode;
 
-const USAGE: &str = "usage: second probe [--tally] | second cases SEED COUNT | second files SEED COUNT FOLDER | \
-                     second csv FILE | second daily FILE";
+const USAGE: &str = "usage: second probe [--tally] | second cases SEED COUNT | second stores SEED COUNT | \
+                     second files SEED COUNT FOLDER | second csv FILE | second daily FILE";
 
 fn main() -> ExitCode {
     let arguments: Vec<String> = std::env::args().skip(1).collect();
@@ -39,7 +41,11 @@ fn main() -> ExitCode {
         ["probe"] => answer_probe(false),
         ["probe", "--tally"] => answer_probe(true),
         ["cases", seed, count] => match (seed.parse(), count.parse()) {
-            (Ok(seed), Ok(count)) => make_cases(seed, count),
+            (Ok(seed), Ok(count)) => make_cases(cases::of_number, seed, count),
+            _ => return usage(),
+        },
+        ["stores", seed, count] => match (seed.parse(), count.parse()) {
+            (Ok(seed), Ok(count)) => make_cases(cases::sequence, seed, count),
             _ => return usage(),
         },
         ["files", seed, count, folder] => match (seed.parse(), count.parse()) {
@@ -76,10 +82,11 @@ fn answer_probe(with_tally: bool) -> io::Result<()> {
     Ok(())
 }
 
-fn make_cases(seed: u64, count: u64) -> io::Result<()> {
+/// Writes the cases of each number from 0 on.
+fn make_cases(of_number: fn(u64, u64) -> Vec<Vec<u8>>, seed: u64, count: u64) -> io::Result<()> {
     let mut output = BufWriter::new(io::stdout().lock());
     for index in 0..count {
-        for case in cases::of_number(seed, index) {
+        for case in of_number(seed, index) {
             output.write_all(&case)?;
         }
     }

@@ -1,5 +1,7 @@
 //! The probe: cases in, answers out, line by line.
 
+mod stores;
+
 use crate::block::check_block;
 use crate::check::check;
 use crate::day::{read_day, DayRead, LentLists};
@@ -37,10 +39,10 @@ impl Counts {
         self.refused[number as usize]
     }
 
-    /// A line for each answer, with these words before it.
-    fn lines(&self, before: &str) -> String {
+    /// A line for each answer, with these words before it: accepted, and the refusals of these numbers.
+    fn lines(&self, before: &str, numbers: impl Iterator<Item = u64>) -> String {
         let mut lines = format!("{before}accepted {}\n", self.accepted);
-        for number in 1..=refusal::LAST {
+        for number in numbers {
             lines += &format!("{before}refused {number} {}\n", self.refused[number as usize]);
         }
         lines
@@ -53,9 +55,16 @@ pub struct Tally {
     pub all: Counts,
     /// Those to `block` cases, which are among all too.
     pub blocks: Counts,
-    /// Likewise those to `find` and to `replace` cases.
+    /// Likewise those to `find` and to `replace` cases, and to each kind of case about a store.
     pub finds: Counts,
     pub replacements: Counts,
+    pub makes: Counts,
+    pub puts: Counts,
+    pub gets: Counts,
+    pub deletes: Counts,
+    pub slots: Counts,
+    /// The slots that were read and are free. They are not among those accepted.
+    pub free_slots: u64,
     /// The accepted replacements behind which the edited file was checked at once, and accepted.
     pub checked_replacements: u64,
     /// The edited file, if the last case was an accepted replacement.
@@ -68,27 +77,28 @@ impl Tally {
         self.all.count(answer);
     }
 
-    fn count_block<T>(&mut self, answer: &Result<T, Refusal>) {
+    /// Counts an answer among all, and among those to its kind of case.
+    fn count_as<T>(&mut self, counts_of_kind: fn(&mut Tally) -> &mut Counts, answer: &Result<T, Refusal>) {
         self.all.count(answer);
-        self.blocks.count(answer);
-    }
-
-    fn count_find<T>(&mut self, answer: &Result<T, Refusal>) {
-        self.all.count(answer);
-        self.finds.count(answer);
-    }
-
-    fn count_replacement<T>(&mut self, answer: &Result<T, Refusal>) {
-        self.all.count(answer);
-        self.replacements.count(answer);
+        counts_of_kind(self).count(answer);
     }
 
     pub fn lines(&self) -> String {
-        let mut lines = self.all.lines("");
+        let mut lines = self.all.lines("", refusal::numbers());
         for (before, counts) in [("block ", &self.blocks), ("find ", &self.finds), ("replace ", &self.replacements)] {
-            lines += &counts.lines(before);
+            lines += &counts.lines(before, refusal::of_files());
         }
         lines += &format!("replace checked {}\n", self.checked_replacements);
+        for (before, counts) in [
+            ("make ", &self.makes),
+            ("put ", &self.puts),
+            ("get ", &self.gets),
+            ("delete ", &self.deletes),
+            ("slot ", &self.slots),
+        ] {
+            lines += &counts.lines(before, refusal::of_stores());
+        }
+        lines += &format!("slot free {}\n", self.free_slots);
         if self.bad_case {
             lines += "bad case 1\n";
         }
@@ -99,9 +109,11 @@ impl Tally {
 /// Answers each case of the input in turn. The first bad case is answered too, and ends the run.
 pub fn run(input: &[u8], output: &mut impl Write) -> io::Result<Tally> {
     let mut tally = Tally::default();
+    // The one memory that is lent to all cases about stores.
+    let mut memory = Vec::new();
     let mut rest = Input { bytes: input };
     while !rest.bytes.is_empty() {
-        match answer_case(&mut rest, &mut tally) {
+        match answer_case(&mut rest, &mut memory, &mut tally) {
             Some(answer) => output.write_all(&answer)?,
             None => {
                 output.write_all(b"bad case\n")?;
@@ -114,7 +126,7 @@ pub fn run(input: &[u8], output: &mut impl Write) -> io::Result<Tally> {
 }
 
 /// Reads one case and answers it. None is a bad case, here and in all that follows.
-fn answer_case(input: &mut Input, tally: &mut Tally) -> Option<Vec<u8>> {
+fn answer_case(input: &mut Input, memory: &mut Vec<u8>, tally: &mut Tally) -> Option<Vec<u8>> {
     let line = input.line()?;
     let words: Vec<&[u8]> = line.split(|byte| *byte == b' ').collect();
     let just_edited = tally.just_edited.take();
@@ -152,7 +164,7 @@ fn answer_case(input: &mut Input, tally: &mut Tally) -> Option<Vec<u8>> {
             answer_replace(room, length, day, input.lent(block)?, tally)
         }
         [b"write", ref numbers @ ..] => answer_write(input, numbers, tally),
-        _ => None,
+        _ => stores::answer_case(&words, input, memory, tally),
     }
 }
 
@@ -169,10 +181,7 @@ fn answer_day(file: &[u8], day: usize, places: usize, tally: &mut Tally) -> Opti
     let mut lists = OwnLists::new(places);
     let answer = read_day(file, day, lists.lend());
     tally.count(&answer);
-    Some(match answer {
-        Ok(read) => day_line(read, &lists),
-        Err(refusal) => refusal_line(refusal, lists.changed_from(0)),
-    })
+    Some(read_line(answer, &lists))
 }
 
 fn answer_total(file: &[u8], channel: usize, tally: &mut Tally) -> Option<Vec<u8>> {
@@ -186,7 +195,7 @@ fn answer_total(file: &[u8], channel: usize, tally: &mut Tally) -> Option<Vec<u8
 
 fn answer_block(block: &[u8], interval_length: u32, unit: u8, tally: &mut Tally) -> Option<Vec<u8>> {
     let answer = check_block(block, interval_length, unit);
-    tally.count_block(&answer);
+    tally.count_as(|tally| &mut tally.blocks, &answer);
     Some(match answer {
         Ok(read) => format!("{} {}\n", day_words(read.day), read.records).into_bytes(),
         Err(refusal) => refusal_line(refusal, false),
@@ -195,7 +204,7 @@ fn answer_block(block: &[u8], interval_length: u32, unit: u8, tally: &mut Tally)
 
 fn answer_find(file: &[u8], day: usize, tally: &mut Tally) -> Option<Vec<u8>> {
     let answer = find_day(file, day);
-    tally.count_find(&answer);
+    tally.count_as(|tally| &mut tally.finds, &answer);
     Some(match answer {
         Ok(DayFound { channel, nmi, suffix, unit, length, start, end }) => {
             format!("accepted {channel} {nmi} {suffix} {unit} {length} {start} {end}\n").into_bytes()
@@ -208,7 +217,7 @@ fn answer_find(file: &[u8], day: usize, tally: &mut Tally) -> Option<Vec<u8>> {
 fn answer_replace(lent: &[u8], length: usize, day: usize, block: &[u8], tally: &mut Tally) -> Option<Vec<u8>> {
     let mut room = lent.to_vec();
     let answer = replace_day(&mut room, length, day, block);
-    tally.count_replacement(&answer);
+    tally.count_as(|tally| &mut tally.replacements, &answer);
     Some(match answer {
         Ok(new_length) => {
             tally.just_edited = Some(room[..new_length].to_vec());
@@ -222,39 +231,14 @@ fn answer_replace(lent: &[u8], length: usize, day: usize, block: &[u8], tally: &
 }
 
 fn answer_write(input: &mut Input, words: &[&[u8]], tally: &mut Tally) -> Option<Vec<u8>> {
-    let [date, length, update, load, unit, room, list_lengths @ .., text_length] = words else {
+    let [date, length, update, load, unit, room, lengths @ ..] = words else {
         return None;
     };
-    let [values, flags, methods, reasons, starts, lengths] = list_lengths else {
-        return None;
-    };
-    let head = DayHead {
-        date: number(date, u64::from(u32::MAX))? as u32,
-        length: number(length, u64::from(u32::MAX))? as u32,
-        update: number(update, u64::MAX)?,
-        load: number(load, u64::MAX)?,
-        unit: number(unit, u64::from(u8::MAX))? as u8,
-    };
+    let head = head_of([date, length, update, load, unit])?;
     let room_length = number(room, LARGEST_ROOM)? as usize;
-    let text_length = number(text_length, LONGEST_TEXT)? as usize;
-    let values = input.list(values, u64::MAX)?;
-    let flags: Vec<u8> = narrow(input.list(flags, u64::from(u8::MAX))?, |number| number as u8);
-    let methods: Vec<u8> = narrow(input.list(methods, u64::from(u8::MAX))?, |number| number as u8);
-    let reasons: Vec<u16> = narrow(input.list(reasons, u64::from(u16::MAX))?, |number| number as u16);
-    let starts: Vec<usize> = narrow(input.list(starts, usize::MAX as u64)?, |number| number as usize);
-    let lengths: Vec<usize> = narrow(input.list(lengths, usize::MAX as u64)?, |number| number as usize);
-    let text = input.announced(text_length)?;
-    let lists = DayLists {
-        values: &values,
-        flags: &flags,
-        methods: &methods,
-        reasons: &reasons,
-        starts: &starts,
-        lengths: &lengths,
-        text,
-    };
+    let day = ToldDay::read(input, lengths)?;
     let mut room = vec![LENT_BYTE; room_length];
-    let answer = write_day(head, lists, &mut room);
+    let answer = write_day(head, day.lists(), &mut room);
     tally.count(&answer);
     Some(match answer {
         Ok(block) => {
@@ -266,6 +250,59 @@ fn answer_write(input: &mut Input, words: &[&[u8]], tally: &mut Tally) -> Option
         }
         Err(refusal) => refusal_line(refusal, room.iter().any(|byte| *byte != LENT_BYTE)),
     })
+}
+
+// --- Days that a case tells ---
+
+/// Date, interval length, update time, load time and unit.
+fn head_of([date, length, update, load, unit]: [&[u8]; 5]) -> Option<DayHead> {
+    Some(DayHead {
+        date: number(date, u64::from(u32::MAX))? as u32,
+        length: number(length, u64::from(u32::MAX))? as u32,
+        update: number(update, u64::MAX)?,
+        load: number(load, u64::MAX)?,
+        unit: number(unit, u64::from(u8::MAX))? as u8,
+    })
+}
+
+struct ToldDay<'a> {
+    values: Vec<u64>,
+    flags: Vec<u8>,
+    methods: Vec<u8>,
+    reasons: Vec<u16>,
+    starts: Vec<usize>,
+    lengths: Vec<usize>,
+    text: &'a [u8],
+}
+
+impl<'a> ToldDay<'a> {
+    /// Reads six lists and a text of the lengths that these words say, and the LF that ends the case.
+    fn read(input: &mut Input<'a>, words: &[&[u8]]) -> Option<ToldDay<'a>> {
+        let [values, flags, methods, reasons, starts, lengths, text] = words else {
+            return None;
+        };
+        Some(ToldDay {
+            values: input.list(values, u64::MAX)?,
+            flags: narrow(input.list(flags, u64::from(u8::MAX))?, |number| number as u8),
+            methods: narrow(input.list(methods, u64::from(u8::MAX))?, |number| number as u8),
+            reasons: narrow(input.list(reasons, u64::from(u16::MAX))?, |number| number as u16),
+            starts: narrow(input.list(starts, usize::MAX as u64)?, |number| number as usize),
+            lengths: narrow(input.list(lengths, usize::MAX as u64)?, |number| number as usize),
+            text: input.announced(number(text, LONGEST_TEXT)? as usize)?,
+        })
+    }
+
+    fn lists(&self) -> DayLists<'_> {
+        DayLists {
+            values: &self.values,
+            flags: &self.flags,
+            methods: &self.methods,
+            reasons: &self.reasons,
+            starts: &self.starts,
+            lengths: &self.lengths,
+            text: self.text,
+        }
+    }
 }
 
 fn narrow<T>(numbers: Vec<u64>, narrow: impl Fn(u64) -> T) -> Vec<T> {
@@ -338,6 +375,14 @@ fn refusal_line(refusal: Refusal, changed: bool) -> Vec<u8> {
 fn day_words(read: DayRead) -> String {
     let DayRead { date, n, update, load, .. } = read;
     format!("accepted {date} {n} {update} {load}")
+}
+
+/// The line for a call that reads a day into these lists.
+fn read_line(answer: Result<DayRead, Refusal>, lists: &OwnLists) -> Vec<u8> {
+    match answer {
+        Ok(read) => day_line(read, lists),
+        Err(refusal) => refusal_line(refusal, lists.changed_from(0)),
+    }
 }
 
 fn day_line(read: DayRead, lists: &OwnLists) -> Vec<u8> {

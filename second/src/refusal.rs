@@ -25,13 +25,33 @@ pub const COVER_INCOMPLETE: u64 = 10;
 pub const DAY_ALL_ALIKE: u64 = 11;
 pub const READ_OUTSIDE_DAY: u64 = 12;
 pub const BYTES_AFTER_END: u64 = 13;
+/// Also a key that a store does not hold.
 pub const NO_SUCH_NUMBER: u64 = 14;
 pub const LENT_TOO_SHORT: u64 = 15;
-/// Also an interval length or a unit that is none, of a block on its own.
+/// Also an interval length or a unit that is none, of a block on its own, and a key that is none of a day to be kept.
 pub const DAY_UNFIT: u64 = 16;
+pub const DAY_NOT_NEWER: u64 = 18;
+pub const SLOTS_ALL_USED: u64 = 19;
+pub const ROOM_EXCEEDED: u64 = 20;
+pub const NO_STORE: u64 = 21;
 
 /// The highest refusal number. (17 was struck: no total of a file reaches 2^64.)
-pub const LAST: u64 = 16;
+pub const LAST: u64 = NO_STORE;
+
+/// The numbers of all refusals.
+pub fn numbers() -> impl Iterator<Item = u64> {
+    of_files().chain(DAY_NOT_NEWER..=NO_STORE)
+}
+
+/// Those that files, blocks and days to be written can get.
+pub fn of_files() -> impl Iterator<Item = u64> {
+    FILE_TOO_LONG..=DAY_UNFIT
+}
+
+/// Those that calls on a store can get.
+pub fn of_stores() -> impl Iterator<Item = u64> {
+    numbers().filter(|number| *number >= NO_SUCH_NUMBER)
+}
 
 impl Refusal {
     /// A refusal that means no place in the file: place, record and field are 0.

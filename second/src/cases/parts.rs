@@ -20,7 +20,7 @@ pub fn number<T: std::str::FromStr>(word: &str) -> T {
     word.parse().unwrap_or_else(|_| panic!("{word} is no such number"))
 }
 
-fn numbers<T: std::str::FromStr>(line: Option<&[u8]>) -> Vec<T> {
+pub fn numbers<T: std::str::FromStr>(line: Option<&[u8]>) -> Vec<T> {
     let line = std::str::from_utf8(line.expect("a line")).expect("numbers");
     line.split_terminator(' ').map(number).collect()
 }

@@ -15,16 +15,17 @@ const LONGEST_LIST: usize = 300;
 const LONGEST_TEXT: usize = 4_096;
 const LARGEST_ROOM: usize = 131_072;
 
-/// A day to be written, with its lent text.
-struct Draft {
-    head: DayHead,
-    values: Vec<u64>,
-    flags: Vec<u8>,
-    methods: Vec<u8>,
-    reasons: Vec<u16>,
-    starts: Vec<usize>,
-    lengths: Vec<usize>,
-    text: Vec<u8>,
+/// A day to be written or put, with its lent text.
+#[derive(Clone)]
+pub struct Draft {
+    pub head: DayHead,
+    pub values: Vec<u64>,
+    pub flags: Vec<u8>,
+    pub methods: Vec<u8>,
+    pub reasons: Vec<u16>,
+    pub starts: Vec<usize>,
+    pub lengths: Vec<usize>,
+    pub text: Vec<u8>,
 }
 
 /// What is said of one interval.
@@ -61,9 +62,7 @@ pub fn unfit(chance: &mut Chance) -> Vec<u8> {
 /// A day with each kind of null data in turn.
 pub fn with_null_data(chance: &mut Chance, turn: u64) -> Vec<u8> {
     let channel = some_channel(chance);
-    let mut text = Vec::new();
-    let sayings = sayings_with(chance, channel.n, &sweep::null_day(turn).notes, &mut text);
-    let draft = draft(chance, channel, &sayings, text);
+    let draft = draft_with(chance, channel, &sweep::null_day(turn).notes);
     case(chance, &draft)
 }
 
@@ -92,19 +91,24 @@ pub fn with_unit(chance: &mut Chance, turn: u64) -> Vec<u8> {
 /// A day with several faults, so that the order of refusals counts.
 pub fn with_several_faults(chance: &mut Chance) -> Vec<u8> {
     let mut draft = fit_draft(chance);
+    spoil_by_several_faults(chance, &mut draft);
+    case(chance, &draft)
+}
+
+/// Mostly by several, sometimes by one or none.
+pub fn spoil_by_several_faults(chance: &mut Chance, draft: &mut Draft) {
     if chance.one_in(2) {
-        spoil_head(chance, &mut draft);
+        spoil_head(chance, draft);
     }
     if chance.one_in(2) {
-        spoil_interval(chance, &mut draft);
+        spoil_interval(chance, draft);
     }
     if chance.one_in(2) {
-        shorten_list(chance, &mut draft);
+        shorten_list(chance, draft);
     }
     if chance.one_in(3) {
-        spoil_interval_length(chance, &mut draft);
+        spoil_interval_length(chance, draft);
     }
-    case(chance, &draft)
 }
 
 // --- Fit days ---
@@ -117,6 +121,13 @@ fn fit_draft(chance: &mut Chance) -> Draft {
 fn fit_draft_in(chance: &mut Chance, channel: Channel) -> Draft {
     let mut text = Vec::new();
     let sayings = sayings(chance, channel.n, &mut text);
+    draft(chance, channel, &sayings, text)
+}
+
+/// A fit day whose stretches carry these notes.
+pub fn draft_with(chance: &mut Chance, channel: Channel, notes: &[NoteWords]) -> Draft {
+    let mut text = Vec::new();
+    let sayings = sayings_with(chance, channel.n, notes, &mut text);
     draft(chance, channel, &sayings, text)
 }
 
@@ -275,7 +286,7 @@ fn sayings_that_fill_most_room(chance: &mut Chance, n: usize, text: &mut Vec<u8>
 // --- Lists longer or shorter than n ---
 
 /// Lengthens some lists. What stands behind the n intervals counts for nothing, fit or not.
-fn lengthen_lists(chance: &mut Chance, draft: &mut Draft) {
+pub fn lengthen_lists(chance: &mut Chance, draft: &mut Draft) {
     let more = |chance: &mut Chance, length: usize| chance.between(0, LONGEST_LIST - length);
     for _ in 0..more(chance, draft.values.len()) {
         draft.values.push(chance.next());
@@ -297,7 +308,7 @@ fn lengthen_lists(chance: &mut Chance, draft: &mut Draft) {
     }
 }
 
-fn shorten_list(chance: &mut Chance, draft: &mut Draft) {
+pub fn shorten_list(chance: &mut Chance, draft: &mut Draft) {
     let n = draft.values.len();
     let keep = if chance.one_in(3) { chance.below(n) } else { n - 1 };
     match chance.below(6) {
@@ -312,11 +323,11 @@ fn shorten_list(chance: &mut Chance, draft: &mut Draft) {
 
 // --- Faults ---
 
-fn spoil_interval_length(chance: &mut Chance, draft: &mut Draft) {
+pub fn spoil_interval_length(chance: &mut Chance, draft: &mut Draft) {
     draft.head.length = words::no_interval_length(chance);
 }
 
-fn spoil_head(chance: &mut Chance, draft: &mut Draft) {
+pub fn spoil_head(chance: &mut Chance, draft: &mut Draft) {
     let head = &mut draft.head;
     match chance.below(7) {
         0..=1 => head.date = spoilt_date(chance),
@@ -336,7 +347,7 @@ fn spoilt_unit(chance: &mut Chance) -> u8 {
 }
 
 /// Mostly no date, though some are, at the edges.
-fn spoilt_date(chance: &mut Chance) -> u32 {
+pub fn spoilt_date(chance: &mut Chance) -> u32 {
     chance.pick(&[
         0, 1, 18991231, 19000229, 19000101, 19001301, 20000229, 20030001, 20030100, 20030132, 20030229, 20030431,
         20030631, 20030931, 20031131, 20040229, 21000229, 21991231, 22000101, 2003043, 200304300, 99991231, 4294967295,
@@ -356,7 +367,7 @@ fn spoilt_time(chance: &mut Chance) -> u64 {
 }
 
 /// Spoils what is said of one interval, by what is named or by any change near to it.
-fn spoil_interval(chance: &mut Chance, draft: &mut Draft) {
+pub fn spoil_interval(chance: &mut Chance, draft: &mut Draft) {
     let place = chance.place_among(draft.values.len());
     match chance.below(13) {
         0 => draft.values[place] = chance.pick(&[VALUE_LIMIT, VALUE_LIMIT + 1, u64::MAX, VALUE_LIMIT - 1]),
@@ -434,32 +445,56 @@ fn lay_bad_description(chance: &mut Chance, draft: &mut Draft, place: usize) {
 // --- The case ---
 
 fn case(chance: &mut Chance, draft: &Draft) -> Vec<u8> {
-    assert!(draft.text.len() <= LONGEST_TEXT, "a text that the probe takes");
     let DayHead { date, length, update, load, unit } = draft.head;
-    let mut case = format!("write {date} {length} {update} {load} {unit} {}", room(chance, draft));
-    let counts = [
-        draft.values.len(),
-        draft.flags.len(),
-        draft.methods.len(),
-        draft.reasons.len(),
-        draft.starts.len(),
-        draft.lengths.len(),
-        draft.text.len(),
-    ];
-    for count in counts {
-        case += &format!(" {count}");
+    let line = format!("write {date} {length} {update} {load} {unit} {}{}\n", room(chance, draft), draft.counts());
+    [line.as_bytes(), &draft.lists_and_text(), b"\n"].concat()
+}
+
+impl Draft {
+    /// The lengths of the lists and of the text, as they stand in a case's line with a space before each.
+    pub fn counts(&self) -> String {
+        assert!(self.text.len() <= LONGEST_TEXT, "a text that the probe takes");
+        let counts = [
+            self.values.len(),
+            self.flags.len(),
+            self.methods.len(),
+            self.reasons.len(),
+            self.starts.len(),
+            self.lengths.len(),
+            self.text.len(),
+        ];
+        counts.iter().map(|count| format!(" {count}")).collect()
     }
-    case.push('\n');
-    case += &list_line(&draft.values);
-    case += &list_line(&draft.flags);
-    case += &list_line(&draft.methods);
-    case += &list_line(&draft.reasons);
-    case += &list_line(&draft.starts);
-    case += &list_line(&draft.lengths);
-    let mut case = case.into_bytes();
-    case.extend(&draft.text);
-    case.push(b'\n');
-    case
+
+    /// The bytes that a case has for its lists and its text.
+    pub fn lists_and_text(&self) -> Vec<u8> {
+        let lists = [
+            list_line(&self.values),
+            list_line(&self.flags),
+            list_line(&self.methods),
+            list_line(&self.reasons),
+            list_line(&self.starts),
+            list_line(&self.lengths),
+        ];
+        [lists.concat().as_bytes(), &self.text].concat()
+    }
+
+    pub fn lists(&self) -> DayLists<'_> {
+        DayLists {
+            values: &self.values,
+            flags: &self.flags,
+            methods: &self.methods,
+            reasons: &self.reasons,
+            starts: &self.starts,
+            lengths: &self.lengths,
+            text: &self.text,
+        }
+    }
+
+    /// Its block, if it is fit.
+    pub fn block(&self) -> Option<Vec<u8>> {
+        compose(self.head, self.lists()).ok().map(|(block, _)| block)
+    }
 }
 
 fn list_line<T: ToString>(numbers: &[T]) -> String {
@@ -470,7 +505,7 @@ fn list_line<T: ToString>(numbers: &[T]) -> String {
 
 /// Room by the block's own length: enough, just enough, or a byte too little.
 fn room(chance: &mut Chance, draft: &Draft) -> usize {
-    let block = compose(draft.head, draft.lists()).map_or(200, |(block, _)| block.len());
+    let block = draft.block().map_or(200, |block| block.len());
     match chance.below(8) {
         0 => block - 1,
         1 => 0,
@@ -478,20 +513,6 @@ fn room(chance: &mut Chance, draft: &Draft) -> usize {
         3 => LARGEST_ROOM,
         4 => block + chance.between(1, 2_000),
         _ => block,
-    }
-}
-
-impl Draft {
-    fn lists(&self) -> DayLists<'_> {
-        DayLists {
-            values: &self.values,
-            flags: &self.flags,
-            methods: &self.methods,
-            reasons: &self.reasons,
-            starts: &self.starts,
-            lengths: &self.lengths,
-            text: &self.text,
-        }
     }
 }
 
