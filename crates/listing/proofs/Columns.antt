@@ -6,9 +6,10 @@ use native.Mathlib.Nat.{add-zero, add-assoc}
 use lib.ListN.{length, length-append}
 use Rattle.page.specs.Filled.{Filled}
 use Rattle.page.proofs.Filling.{filled-then, filled-as}
-use Rattle.phrase.specs.Phrases.{beside, cellText, dateText, rightText, pointText, blank}
+use Rattle.phrase.specs.Phrases.{beside, cellText, dateText, timeText, rightText, pointText, blank}
 use Rattle.phrase.proofs.Chained.{filled-beside}
 use Rattle.listing.specs.Lines.{columns, countColumns, rowText}
+use Rattle.listing.specs.Slots.{slotText}
 use Rattle.measures.specs.declared.counts.Counts.{Counts}
 
 -- the last column
@@ -43,9 +44,10 @@ joined : (fs gs : List (ℕ → List ℕ)) {p₀ p₁ p₂ : List ℕ} {at i j :
     → Filled p₀ at (columns (fs ++ gs) at) j p₂
 joined fs gs {at = at} a b = filled-as (filled-beside (columns gs) a b) (columns-beside fs gs at)
 
-pub date-put : (d : ℕ) {p₀ p₁ p₂ : List ℕ} {at i j : ℕ} → Filled p₀ at (cellText 37 [] at) i p₁ → Filled p₁ i (dateText d) j p₂ → Filled p₀ at (cellText 37 (dateText d) at) j p₂
+-- a text that is put behind the spaces before its column
+pub text-put : (to : ℕ) (t : List ℕ) {p₀ p₁ p₂ : List ℕ} {at i j : ℕ} → Filled p₀ at (cellText to [] at) i p₁ → Filled p₁ i t j p₂ → Filled p₀ at (cellText to t at) j p₂
 unfolding cellText
-date-put d {at = at} a b = filled-then (filled-as a (append-nil (blank (37 - at)))) b
+text-put to t {at = at} a b = filled-then (filled-as a (append-nil (blank (to - at)))) b
 
 module _ (c : Counts) {p₀ p₁ p₂ : List ℕ} {at i j : ℕ} where
   pub counts-put : Filled p₀ at (columns (rightText 87 (c .actual) ∷ rightText 97 (c .estimated) ∷ []) at) i p₁
@@ -67,3 +69,15 @@ module _ (day channel : ℕ) (nmi suffix : List ℕ) (date minutes sum : ℕ) (u
       (joined (rightText 6 day ∷ rightText 15 channel ∷ cellText 17 nmi ∷ cellText 29 suffix ∷ cellText 37 (dateText date) ∷ []) (rightText 56 minutes ∷ pointText 67 sum ∷ cellText 75 unit ∷ [])
       (joined (rightText 6 day ∷ rightText 15 channel ∷ []) (cellText 17 nmi ∷ cellText 29 suffix ∷ cellText 37 (dateText date) ∷ []) a b) c)
       d
+
+module _ (slot : ℕ) (nmi suffix : List ℕ) (date minutes : ℕ) (unit : List ℕ) (update size : ℕ) {p₀ p₁ p₂ p₃ : List ℕ} {at i j k : ℕ} where
+  pub slot-put : Filled p₀ at (columns (rightText 4 slot ∷ cellText 6 nmi ∷ cellText 18 suffix ∷ []) at) i p₁
+      → Filled p₁ i (columns (cellText 26 (dateText date) ∷ rightText 45 minutes ∷ cellText 47 unit ∷ []) i) j p₂
+      → Filled p₂ j (columns (cellText 54 (timeText update) ∷ rightText 80 size ∷ []) j) k p₃
+      → Filled p₀ at (slotText slot nmi suffix date minutes unit update size at) k p₃
+  unfolding slotText
+  slot-put a b c =
+      joined (rightText 4 slot ∷ cellText 6 nmi ∷ cellText 18 suffix ∷ cellText 26 (dateText date) ∷ rightText 45 minutes ∷ cellText 47 unit ∷ [])
+      (cellText 54 (timeText update) ∷ rightText 80 size ∷ [])
+      (joined (rightText 4 slot ∷ cellText 6 nmi ∷ cellText 18 suffix ∷ []) (cellText 26 (dateText date) ∷ rightText 45 minutes ∷ cellText 47 unit ∷ []) a b)
+      c

@@ -1,2 +1,3 @@
-// The days of a file as a table, a line for each day.
+// The days of a file and the slots of a store as tables, a line for each.
 pub mod lines;
+pub mod slots;

@@ -1,53 +1,16 @@
 // One day as a table, a line for each interval.
-use day_rows::interval;
 use day_rows::minutes;
 use day_rows::refused;
-use day_rows::top;
+use day_table::write_table;
 use format::DayHead;
 use format::DayRead;
-use outward::DONE;
 use outward::REFUSED;
 use outward::warn;
-use outward::write;
 use reading::read_day::read_day;
 use wanted::Wanted;
 use wanted::wanted_day;
 
 const MOST: usize = 288;
-
-fn intervals(
-    page: &mut [u8],
-    file: &[u8],
-    n: usize,
-    values: &[u64],
-    flags: &[u8],
-    methods: &[u8],
-    reasons: &[u16],
-    starts: &[usize],
-    lengths: &[usize],
-) -> u8 {
-    let mut i: usize = 0;
-    while i < n {
-        let p = interval(
-            page,
-            file,
-            i,
-            n,
-            values,
-            flags,
-            methods,
-            reasons,
-            starts,
-            lengths,
-        );
-        let status = write(page, p);
-        if status != DONE {
-            return status;
-        }
-        i += 1;
-    }
-    DONE
-}
 
 fn table(
     page: &mut [u8],
@@ -75,11 +38,10 @@ fn table(
                 load,
                 unit,
             };
-            let p = top(page, day, n);
-            write(page, p);
-            intervals(
+            write_table(
                 page,
                 file,
+                day,
                 n,
                 values,
                 flags,

@@ -51,7 +51,8 @@ fn by_number(page: &mut [u8]) -> Wanted {
 
 // ---- by NMI, suffix and date
 
-fn no_date(page: &mut [u8], word: &[u8]) {
+// The word is no date.
+pub fn no_date(page: &mut [u8], word: &[u8]) {
     let p = put(page, 0, b"nem: ");
     let q = quoted(page, p, word);
     let r = put(page, q, b" is no date; write it as 2003-12-19 or 20031219");

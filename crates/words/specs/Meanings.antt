@@ -1,4 +1,5 @@
--- What a refusal's number means: 01, Refusal numbers, in words for a person. 02 struck 17 (request 7) and mended 12 (request 1).
+-- What a refusal's number means: 01, Refusal numbers, in words for a person. 02 struck 17 (request 7), which means nothing, mended 12 (request 1), and brought 18
+-- to 21 (request 2).
 use Prim.Native.Nat.{ℕ}
 use mathlib.Core.List.{List, _++_}
 use Rattle.ground.specs.Text.{bytes}
@@ -22,7 +23,12 @@ meanings =
     ++ bytes "bytes behind the 900 record;"
     ++ bytes "no such day or channel;"
     ++ bytes "a lent list or the room is too short;"
-    ++ bytes "the day is not fit to be written"
+    ++ bytes "the day is not fit to be written;"
+    ++ bytes ";"
+    ++ bytes "the store holds this day with an update time that is equal or later;"
+    ++ bytes "every slot of the store is used, and the key is new;"
+    ++ bytes "the live bytes and the new block exceed the store's room;"
+    ++ bytes "the bytes lent are no store, no map or no index of that file"
 
 unfoldable pub meaningOf : ℕ → List ℕ
 meaningOf x = numbered x meanings

@@ -22,6 +22,11 @@ pub fn meaning(page: &mut [u8], at: usize, number: u64) -> usize
         bytes behind the 900 record;\
         no such day or channel;\
         a lent list or the room is too short;\
-        the day is not fit to be written";
+        the day is not fit to be written;\
+        ;\
+        the store holds this day with an update time that is equal or later;\
+        every slot of the store is used, and the key is new;\
+        the live bytes and the new block exceed the store's room;\
+        the bytes lent are no store, no map or no index of that file";
     put(page, at, text_at(meanings, number as usize))
 }

@@ -1,5 +1,5 @@
 -- `listing::lines::dated` meets its contract. Assumes nothing.
-use Rattle.listing.proofs.Columns.{date-put}
+use Rattle.listing.proofs.Columns.{text-put}
 use borrow.Author.Needs.{needs}
 use Rattle.listing.proofs.lines.dated.Statement.{statement}
 use Rattle.listing.proofs.lines.dated.Tie as tie
@@ -17,7 +17,7 @@ same-length : tie.Need-same-length
 same-length c = search needs
 
 returns : tie.Need-returns
-returns c = search date-put
+returns c = search text-put
 
 pub dated-spec : {M : Type 1} → statement M
 dated-spec =
