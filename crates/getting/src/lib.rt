@@ -18,7 +18,7 @@ ghost use Rattle.entries.specs.Keys.{key};
 ghost use Rattle.store.specs.Calls.{dayRows, getFrom, getOf};
 ghost use Rattle.getting.specs.Gets.{Readable};
 
-// The day of an entry. The block's end is where the memory is cut, so that no record behind it is taken for one of its own.
+// The day of an entry. The memory is cut at the block's end, as the block that was checked is what stands up to there.
 fn read_block(
     memory: &[u8],
     h: Header,
