@@ -24,6 +24,7 @@ use Rattle.passing.specs.Passes.{Passes, Leads, kindsOf, areUnder, Accepted, Co
 use Rattle.passing.specs.Sound.{isSound}
 use Rattle.passing.proofs.Fit.{fine-fit, head}
 use Rattle.passing.proofs.Steps.{runs-end, blockFound, days-more}
+use Rattle.passing.proofs.Rows.{cover-anywhere}
 use Rattle.passing.proofs.Counts.{counts-begun, counted}
 use Rattle.passing.proofs.Sound.{sound-each}
 use Rattle.passing.proofs.Files.{onto, lines-behind, runs-lines}
@@ -193,19 +194,11 @@ module _ (e b : ℕ) where
         (λ t. rw t (ap (replicate n) (tag-moved 300 k (n + 2) r) ∙ sym (map-replicate movedTag n (tagAt 300 (rowAt (e + k) r) (n + 2)))))
 
 -- what a day means doesn't go by its places
-cover-means : {X : Type 0} (f : List (List ℕ) → X) (p q : ℕ) (ls : Lines) → coverOf (λ x. f (x .cells)) (runsFrom p ls) ≡ coverOf (λ x. f (x .cells)) (runsFrom q ls)
-unfolding runsFrom coverOf
-cover-means f p q (rest t) = refl
-cover-means {X} f p q (line r ls) =
-    by (eqb (kindIn (fields r)) 400)
-    (λ t. rw t (ap (λ (xs : List X). replicate (lastIn (fields r) + 1 - firstIn (fields r)) (f (fields r)) ++ xs) (cover-means f (p + length r + 2) (q + length r + 2) ls)))
-    (λ t. rw t)
-
 day-means : (p q n u : ℕ) (r : List ℕ) (ls : Lines) → dayOf (blockFound p r ls n u) ≡ dayOf (blockFound q r ls n u)
 unfolding dayOf marksOf eachOf valuesOf
 day-means p q n u r ls =
     by (isVaried n (fields r))
-    (λ t. rw t (rw (cover-means (λ fs. markAt 400 3 fs) (p + length r + 2) (q + length r + 2) ls)))
+    (λ t. rw t (rw (cover-anywhere (λ fs. markAt 400 3 fs) (p + length r + 2) (q + length r + 2) ls)))
     (λ t. rw t)
 
 -- what a reading of the day x leaves, where it says these of the intervals

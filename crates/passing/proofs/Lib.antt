@@ -9,3 +9,5 @@ pub mod Blocks
 pub mod Alone
 pub mod Refused
 pub mod Parts
+pub mod Rows
+pub mod Writes

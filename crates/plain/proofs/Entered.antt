@@ -20,7 +20,7 @@ use Rattle.store.specs.Calls.{entryFor}
 use Rattle.slots.proofs.Back.{EntryFits}
 use Rattle.shortest.specs.Writer.{Writable}
 use Rattle.stored.proofs.Keys.{good}
-use Rattle.plain.proofs.Written.{known}
+use Rattle.shortest.proofs.Theorems.{unit-known}
 
 key-long : (k : ℕ) (s : List ℕ) → areAll isAlnum k k s ≡ true → length s ≡ k
 unfolding areAll
@@ -46,7 +46,7 @@ entry-fits x g start size e w l r =
       suffix = length-map (x .suffix) capital ∙ key-long 2 (x .suffix) (k .suffix);
       date = omega (arith, date-below (x .date) (k .date));
       minutes = minutes-small (g .head .length) (w .length-known);
-      unit = omega (arith, known-small (g .head .unit) (known g w));
+      unit = omega (arith, known-small (g .head .unit) (unit-known g w));
       start = l;
       size = r;
     }

@@ -2,53 +2,29 @@
 use Prim.Native.Nat.{ℕ, suc, _+_, _-_, _<_}
 use mathlib.Core.Path.{_≡_, refl, sym, ap, ap₂, _∙_}
 use mathlib.Core.Bool.{cond}
-use mathlib.Core.List.{List, [], _∷_, _++_, map, map-append}
+use mathlib.Core.List.{List, [], _∷_, map}
 use native.Mathlib.Omega.{arith}
-use lib.ListN.{length, take, drop, getD, replicate, length-take, length-drop, length-map, List·getD-append, List·getD-map}
+use lib.ListN.{length, take, drop, getD, length-take, length-drop, length-map, List·getD-append, List·getD-map}
 use lib.Seq.{take-at, take-take}
 use Rattle.ground.specs.Lists.{from}
 use Rattle.ground.proofs.Cases.{by, split}
-use Rattle.ground.proofs.Lists.{map-replicate}
 use Rattle.ground.proofs.Spans.{drop-take}
 use Rattle.format.specs.Quality.{Mark}
 use Rattle.format.specs.Numbers.{intervalsOf}
 use Rattle.format.specs.Cut.{lines}
-use Rattle.format.specs.Records.{firstIn, lastIn, markAt}
-use Rattle.format.specs.Order.{isVaried}
 use Rattle.format.specs.Answers.{accepted, refusal}
 use Rattle.format.specs.File.{blockCheckOf}
-use Rattle.format.specs.Day.{Row, BlockRows, coverOf, eachOf, tagAt, tagsOf, valuesOf, marksOf, dayOf, Five, over, overFive, roomFor, readInto}
+use Rattle.format.specs.Day.{BlockRows, tagAt, tagsOf, valuesOf, marksOf, dayOf, Five, over, overFive, roomFor, readInto}
 use Rattle.format.specs.declared.Tag.{Tag}
 use Rattle.format.proofs.Cut.{bytesOf, bytes-lines}
 use Rattle.entries.specs.Little.{piece}
 use Rattle.store.specs.Calls.{rowsAt, getFrom}
 use Rattle.passing.proofs.Sound.{sound-each, sound-values}
+use Rattle.passing.proofs.Rows.{tags-lengths}
 use Rattle.shortest.specs.Blocks.{markOf}
 use Rattle.shortest.proofs.Tags.{tags-marks}
 use Rattle.plain.specs.Plain.{said, saw, markLeft, dayLeft, seenOf, gotBy}
 use Rattle.stored.proofs.Blocks.{block, rows-are, rows-sound}
-
--- ---- what is said of each interval, and of what is said
-
-cover-map : {X Y : Type 0} (g : X → Y) (f : Row → X) (xs : List Row) → map g (coverOf f xs) ≡ coverOf (λ x. g (f x)) xs
-unfolding coverOf
-cover-map g f [] = refl
-cover-map {X} {Y} g f (x ∷ xs) =
-    let k : ℕ = lastIn (x .cells) + 1 - firstIn (x .cells) in
-    map-append g (replicate k (f x)) (coverOf f xs) ∙ ap₂ (λ (a b : List Y). a ++ b) (map-replicate g k (f x)) (cover-map g f xs)
-
-each-map : {X Y : Type 0} (g : X → Y) (f : ℕ → Row → ℕ → X) (d : BlockRows) → map g (eachOf f d) ≡ eachOf (λ k x i. g (f k x i)) d
-unfolding eachOf
-each-map g f d =
-    by (isVaried (d .n) (d .top .cells))
-    (λ t. rw t (cover-map g (λ x. f 400 x 3) (d .runs)))
-    (λ t. rw t (map-replicate g (d .n) (f 300 (d .top) (d .n + 2))))
-
--- a tag's length is that of the mark's description
-tag-lengths : (d : BlockRows) → map (λ (t : Tag). t .length) (tagsOf d) ≡ map (λ (k : Mark). length (k .text)) (marksOf d)
-unfolding tagsOf marksOf tagAt markAt
-tag-lengths d =
-    each-map (λ (t : Tag). t .length) tagAt d ∙ sym (each-map (λ (k : Mark). length (k .text)) (λ k x i. markAt k i (x .cells)) d)
 
 -- ---- descriptions in memory
 
@@ -128,7 +104,7 @@ module _ (m : List ℕ) (minutes y p : ℕ) (b xs : List ℕ) (e : blockCheckOf 
       let q : map (markOf (take (p + length b) m)) (tagsOf rows) ≡ marksOf rows =
       rw (rows-are minutes y b xs e p)
       (tags-marks (take (p + length b) m) p (intervalsOf minutes) y (w .first) (w .others) (there ∙ sym (bytes-lines b) ∙ ap bytesOf (w .is))) in
-      tags-within m (p + length b) (tagsOf rows) (marksOf rows) q (tag-lengths rows)
+      tags-within m (p + length b) (tagsOf rows) (marksOf rows) q (tags-lengths rows)
 
   day-left : (vs : List ℕ) (ms : Five) → gotBy m (readInto rows vs ms) .seen ≡ saw (dayOf rows)
   unfolding readInto seenOf dayLeft dayOf tagsOf

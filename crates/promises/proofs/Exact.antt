@@ -1,17 +1,16 @@
 -- What a reading of an accepted file answers and leaves is what the grammar has it answer and leave: each day, each total, and nothing else. Assumes nothing.
 use Prim.Native.Nat.{ℕ, zero, suc, _+_, _-_, _^_, _≤_, _<_}
-use mathlib.Core.Path.{_≡_, refl, sym, ap, ap₂, _∙_, subst}
+use mathlib.Core.Path.{_≡_, refl, sym, ap, _∙_, subst}
 use mathlib.Core.Logic.{_⊎_, inl, inr}
 use mathlib.Core.Bool.{true, false, cond, true≢false}
-use mathlib.Core.List.{List, [], _∷_, _++_, map, map-append}
+use mathlib.Core.List.{List, [], _∷_, map}
 use native.Mathlib.Omega.{arith}
 use lib.ListN.{length, drop, replicate, length-take, length-drop, drop-of-length-le}
 use lib.Dec.{eqb}
-use Rattle.ground.proofs.Lists.{map-replicate}
 use Rattle.ground.proofs.Cases.{split, same-or, by}
 use Rattle.format.specs.Quality.{Mark}
 use Rattle.format.specs.Cut.{Lines, line, rest, lines, fields}
-use Rattle.format.specs.Records.{kindIn, unitIn, intervalsIn, firstIn, lastIn, markAt}
+use Rattle.format.specs.Records.{kindIn, unitIn, intervalsIn, firstIn, lastIn}
 use Rattle.format.specs.Order.{isVaried}
 use Rattle.format.specs.Answers.{Answer, accepted, refused, refusal}
 use Rattle.format.specs.File.{checkOf}
@@ -20,6 +19,7 @@ use Rattle.format.specs.Total.{totalsFrom, totalFirst, totalAfter, totalOf}
 use Rattle.format.specs.declared.Tag.{Tag}
 use Rattle.format.proofs.Cut.{bytesOf, bytes-lines}
 use Rattle.passing.proofs.Steps.{days-more, days-skip}
+use Rattle.passing.proofs.Rows.{tags-lengths}
 use Rattle.theorems.specs.Grammar.{Each, InFormat}
 use Rattle.theorems.specs.Days.{meant, totals}
 use Rattle.theorems.proofs.Lists.{each-append, each-drop}
@@ -33,21 +33,6 @@ use Rattle.shortest.proofs.Tags.{next-at, tags-marks}
 use Rattle.promises.specs.Exact.{Points, ReadExactly, TotalExactly}
 
 -- ---- what is said of each interval
-
-module _ {X Y : Type 0} (g : X → Y) where
-  map-cover : (f : Row → X) (rs : List Row) → map g (coverOf f rs) ≡ coverOf (λ r. g (f r)) rs
-  unfolding coverOf
-  map-cover f [] = refl
-  map-cover f (r ∷ rs) =
-      let k : ℕ = lastIn (r .cells) + 1 - firstIn (r .cells) in
-      map-append g (replicate k (f r)) (coverOf f rs) ∙ ap₂ (λ (x y : List Y). x ++ y) (map-replicate g k (f r)) (map-cover f rs)
-
-  map-each : (f : ℕ → Row → ℕ → X) (d : BlockRows) → map g (eachOf f d) ≡ eachOf (λ k x i. g (f k x i)) d
-  unfolding eachOf
-  map-each f d =
-      by (isVaried (d .n) (d .top .cells))
-      (λ t. rw t (map-cover (λ x. f 400 x 3) (d .runs)))
-      (λ t. rw t (map-replicate g (d .n) (f 300 (d .top) (d .n + 2))))
 
 module _ {X : Type 0} (P : X → Type 0) where
   each-replicate : (k : ℕ) (x : X) → P x → Each P (replicate k x)
@@ -79,12 +64,6 @@ started k r i e = rw e
 tags-started : (d : BlockRows) → Each Started (tagsOf d)
 unfolding tagsOf
 tags-started d = each-each Started tagAt started d
-
--- a length is that of the description
-tags-lengths : (d : BlockRows) → map (λ (t : Tag). t .length) (tagsOf d) ≡ map (λ (m : Mark). length (m .text)) (marksOf d)
-unfolding tagsOf marksOf tagAt markAt
-tags-lengths d =
-    map-each (λ (t : Tag). t .length) tagAt d ∙ sym (map-each (λ (m : Mark). length (m .text)) (λ k x i. markAt k i (x .cells)) d)
 
 -- ---- a day
 

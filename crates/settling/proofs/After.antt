@@ -8,6 +8,7 @@ use lib.ListN.{length, take, drop, getD, length-append, take-append-drop}
 use lib.Seq.{sets, length-sets, drop-drop, drop-at, take-length}
 use Rattle.ground.specs.Lists.{sum}
 use Rattle.ground.proofs.Cases.{by}
+use Rattle.ground.proofs.From.{from-list}
 use Rattle.entries.specs.Little.{piece}
 use Rattle.entries.specs.declared.Entry.{Entry}
 use Rattle.store.specs.Used.{used}
@@ -24,7 +25,7 @@ use Rattle.ranges.proofs.Laws.{laid-wide}
 use Rattle.packing.specs.Packing.{packOf}
 use Rattle.packing.proofs.Theorems.{stretch-first, block-in, laid-again, free-place}
 use Rattle.settling.specs.Settling.{Settles}
-use Rattle.settling.proofs.Slots.{from-list, length-starts, length-sizes, start-used, start-free, size-used, size-free}
+use Rattle.settling.proofs.Slots.{length-starts, length-sizes, start-used, start-free, size-used, size-free}
 use Rattle.settling.proofs.Blocks.{length-new, laid-room, blocks-long, live-most, new-ends}
 
 -- the slots in use stand before the room, whose offsets fit four bytes, and their blocks are not empty

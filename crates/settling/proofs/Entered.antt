@@ -9,7 +9,7 @@ use lib.ListN.{length, getD, set, length-append, length-set}
 use lib.Seq.{sets, length-sets, getD-set-same, getD-set-other}
 use Rattle.ground.specs.Lists.{from}
 use Rattle.ground.proofs.Cases.{same-or}
-use Rattle.ground.proofs.From.{length-from}
+use Rattle.ground.proofs.From.{from-here, from-list, length-from}
 use Rattle.entries.specs.Little.{piece}
 use Rattle.entries.specs.Keys.{Key}
 use Rattle.entries.specs.Entries.{entryBytes}
@@ -25,7 +25,6 @@ use Rattle.little.proofs.Numbers.{length-in}
 use Rattle.slots.proofs.Back.{EntryFits, key-kept, entry-kept, key-back, entry-back}
 use Rattle.ranges.specs.Laid.{Laid}
 use Rattle.ranges.proofs.Laws.{laid-wide, laid-set}
-use Rattle.settling.proofs.Slots.{from-here, from-list}
 use Rattle.settling.proofs.Blocks.{length-new}
 use Rattle.settling.proofs.After.{Sound, length-after, key-after, size-after, sizes-after, starts-after, laid-after, block-after, block-new}
 

@@ -14,8 +14,7 @@ use Rattle.store.specs.Ranges.{slotPlace, slotOf, starts, sizes}
 use Rattle.store.specs.Store.{slotKey, blockIn}
 use Rattle.store.specs.declared.Header.{Header}
 use Rattle.slots.proofs.Back.{HeaderFits, header-back, header-outside, key-outside, entry-outside}
-use Rattle.ground.proofs.From.{length-from}
-use Rattle.settling.proofs.Slots.{from-here, from-list}
+use Rattle.ground.proofs.From.{from-here, from-list, length-from}
 
 -- the memory with that header
 abbrev pub headed : List ℕ → Header → ℕ → ℕ → List ℕ

@@ -1,36 +1,13 @@
 -- The ranges of a store's slots as lists: what stands at each place. Assumes nothing.
-use Prim.Native.Nat.{ℕ, zero, suc, _+_, _<_}
-use mathlib.Core.Path.{_≡_, sym, ap, _∙_}
+use Prim.Native.Nat.{ℕ, _<_}
+use mathlib.Core.Path.{_≡_, _∙_}
 use mathlib.Core.List.{List}
 use mathlib.Core.Bool.{true, false, cond}
-use native.Mathlib.Nat.{add-zero}
-use native.Mathlib.Omega.{arith}
 use lib.ListN.{length, getD}
-use lib.Seq.{ext-getD}
-use Rattle.ground.specs.Lists.{from}
-use Rattle.ground.proofs.From.{length-from}
+use Rattle.ground.proofs.From.{length-from, from-here}
 use Rattle.store.specs.Used.{used}
 use Rattle.store.specs.Ranges.{slotOf, starts, sizes}
 use Rattle.store.specs.declared.Header.{Header}
-
--- ---- a list of what a function gives
-
-from-at : (f : ℕ → ℕ) (i k j : ℕ) → j < k → getD (from f i k) j 0 ≡ f (i + j)
-unfolding from
-from-at f i zero j h = absurd (omega arith)
-from-at f i (suc k) zero h = ap f (sym (add-zero i))
-from-at f i (suc k) (suc j) h = from-at f (suc i) k j (omega arith) ∙ ap f (let e : suc i + j ≡ i + suc j = omega arith in e)
-
--- the first k of them, by their places
-pub from-here : (f : ℕ → ℕ) (k j : ℕ) → j < k → getD (from f 0 k) j 0 ≡ f j
-from-here f k j h = from-at f 0 k j h ∙ ap f (let z : 0 + j ≡ j = omega arith in z)
-
--- a list is made of what stands in it
-pub from-list : (l : List ℕ) (f : ℕ → ℕ) (k : ℕ) → length l ≡ k → ((j : ℕ) → j < k → f j ≡ getD l j 0) → from f 0 k ≡ l
-from-list l f k e h =
-    ext-getD 0 (from f 0 k) l (length-from f 0 k ∙ sym e) (λ j a.
-    let b : j < k = omega (arith, length-from f 0 k) in
-    from-here f k j b ∙ h j b)
 
 -- ---- a slot's range
 

@@ -59,7 +59,7 @@ module _ (g : Given) (w : Writable g) where
   known : intervalsOf (g .head .length) ≢ 0
   known = intervals-some (g .head .length) (w .length-known)
 
-  unit-known : isUnit (g .head .unit) ≡ true
+  pub unit-known : isUnit (g .head .unit) ≡ true
   unfolding dayGiven
   unit-known = parts (dayGiven g) (whole g w .fit) .unit
 

@@ -3,43 +3,35 @@
 use Prim.Native.Nat.{ℕ, _+_, _-_, _≤_}
 use mathlib.Core.Path.{_≡_, refl, sym, ap, _∙_}
 use mathlib.Core.Bool.{true}
-use mathlib.Core.List.{List, [], _∷_, _++_}
+use mathlib.Core.List.{List, [], _∷_}
 use native.Mathlib.Omega.{arith}
-use lib.ListN.{length, getD, replicate}
-use lib.Dec.{eqb}
+use lib.ListN.{length, getD}
 use Rattle.ground.proofs.Cases.{by}
 use Rattle.format.specs.Numbers.{intervalsOf}
 use Rattle.format.specs.Units.{decimalsOf}
 use Rattle.format.specs.Cut.{Lines, line, rest, lines, fields}
-use Rattle.format.specs.Records.{kindIn, dateIn, updateIn, firstIn, lastIn, markAt}
+use Rattle.format.specs.Records.{dateIn, updateIn, markAt}
 use Rattle.format.specs.Order.{Due, isVaried}
 use Rattle.format.specs.Answers.{accepted}
 use Rattle.format.specs.File.{behind200, topSays, blockCheckOf}
-use Rattle.format.specs.Day.{runsFrom, coverOf, eachOf, valuesOf, marksOf, dayOf}
+use Rattle.format.specs.Day.{eachOf, valuesOf, marksOf, dayOf}
 use Rattle.store.specs.Calls.{rowsAt}
 use Rattle.passing.specs.Sound.{isSound}
 use Rattle.passing.proofs.Fit.{free-of}
 use Rattle.passing.proofs.Steps.{blockFound}
+use Rattle.passing.proofs.Rows.{cover-anywhere}
 use Rattle.passing.proofs.Days.{sound-block}
 use Rattle.passing.proofs.Blocks.{headed}
 use Rattle.passing.proofs.Alone.{accepted-alone}
 
 -- ---- another place
 
-cover-moved : {X : Type 0} (f : List (List ℕ) → X) (p q : ℕ) (ls : Lines) → coverOf (λ x. f (x .cells)) (runsFrom p ls) ≡ coverOf (λ x. f (x .cells)) (runsFrom q ls)
-unfolding runsFrom coverOf
-cover-moved f p q (rest t) = refl
-cover-moved {X} f p q (line r ls) =
-    by (eqb (kindIn (fields r)) 400)
-    (λ t. rw t (ap (λ (xs : List X). replicate (lastIn (fields r) + 1 - firstIn (fields r)) (f (fields r)) ++ xs) (cover-moved f (p + length r + 2) (q + length r + 2) ls)))
-    (λ t. rw t)
-
 pub day-moved : (n u p q : ℕ) (ls : Lines) → dayOf (rowsAt n u p ls) ≡ dayOf (rowsAt n u q ls)
 unfolding rowsAt dayOf marksOf eachOf valuesOf
 day-moved n u p q (rest t) = refl
 day-moved n u p q (line r ls) =
     by (isVaried n (fields r))
-    (λ t. rw t (rw (cover-moved (λ fs. markAt 400 3 fs) (p + length r + 2) (q + length r + 2) ls)))
+    (λ t. rw t (rw (cover-anywhere (λ fs. markAt 400 3 fs) (p + length r + 2) (q + length r + 2) ls)))
     (λ t. rw t)
 
 -- ---- a block that is accepted
