@@ -4,7 +4,7 @@ use mathlib.Core.Path.{_≡_, refl, sym, ap, _∙_}
 use mathlib.Core.List.{List, [], _∷_, _++_}
 use mathlib.Core.Bool.{Bool, true, false, not, _&&_, _||_, false≢true}
 use native.Mathlib.Omega.{arith}
-use lib.ListN.{length, drop, length-drop, drop-of-length-le}
+use lib.ListN.{length, drop, length-drop}
 use lib.Seq.{drop-length}
 use lib.Dec.{leb, ltb, eqb}
 use borrow.Author.Tests.{ne-eqb, lt-ltb, le-ltb, not-true, not-false}
@@ -27,11 +27,11 @@ use Rattle.format.specs.declared.Fault.the-variants.{Fine, Stop}
 use Rattle.format.proofs.Numbers.{intervals-most}
 use Rattle.lines.specs.Places.{LineEnd, Looked}
 use Rattle.lines.specs.declared.Found.{Found}
-use Rattle.lines.proofs.Ends.{line-none, line-more, line-long}
+use Rattle.lines.proofs.Ends.{line-more, line-long, line-room}
 use Rattle.walker.specs.Handed.{recordAt}
 use Rattle.walker.specs.declared.Record.{Record}
 use Rattle.walker.specs.declared.Record.the-variants.{At, None}
-use Rattle.walker.proofs.Handed.{handed-none, handed-looked, handed-inside, handed-order, handed-room}
+use Rattle.walker.proofs.Handed.{handed-none, handed-looked, handed-inside}
 use Rattle.order.specs.declared.State.{State}
 use Rattle.order.specs.declared.Step.{Step}
 use Rattle.order.specs.declared.Step.the-variants as step
@@ -46,7 +46,7 @@ use Rattle.alone.specs.declared.BlockEnd.{BlockEnd}
 use Rattle.alone.specs.declared.BlockEnd.the-variants as blockEnd
 use Rattle.alone.specs.declared.Walked.{Walked}
 use Rattle.alone.specs.declared.Walked.the-variants as walked
-use Rattle.alone.specs.Walk.{onFrom, leftOf, wholeOf, isForeignHere, firstWalk, dateSaid, Walking, Turned, Ended, Entire, IsBlock, WalkedAs}
+use Rattle.alone.specs.Walk.{onFrom, leftOf, wholeOf, isForeignHere, firstWalk, dateSaid, Walking, Stands, Turned, Ended, Entire, IsBlock, WalkedAs}
 
 -- ---- a record's fault in a block
 
@@ -124,71 +124,77 @@ module _ (memory : List ℕ) (st : State) (k : ℕ) {b : Bool} where
 -- ---- the walk on its way
 
 module _ (memory : List ℕ) (start n d : ℕ) (t : BlockWalk) (q : t ≡ firstWalk start n d) where
-  pub walking-first : (e : ℕ) → LineEnd memory start e → n ≤ 288 → d ≤ 6 → Walking memory start t
-  walking-first e h s l =
+  pub walking-first : {f : Found} → Stands memory start f → n ≤ 288 → d ≤ 6 → Walking memory start t
+  walking-first g s l =
       rw q
       (record {
         order = omega arith;
-        within = omega (arith, h .order, h .within);
+        within = omega (arith, g .looked .ends .order, g .looked .ends .within);
         few = omega arith;
         kept = record { known = omega arith; begun = λ z. absurd (let y : ⊥ = omega arith in y); within = omega arith; small = s; few = l; channels = omega arith; days = omega arith };
       })
+
+  pub stands-first : {f : Found} → Stands memory start f → Stands memory (t .at) f
+  stands-first g = rw q g
 
   pub walked-first : (xs : List ℕ) → wholeOf memory start n d xs ≡ leftOf memory start xs t
   unfolding expectedAs
   walked-first xs = rw q
 
-module _ (memory : List ℕ) (start : ℕ) (t : BlockWalk) (g : Walking memory start t) (r : Record) (is : r ≡ recordAt memory (t .at)) where
-  pub turned-end : r ≡ None → Turned memory start t turn.End
-  turned-end h = handed-none memory (t .at) r is h
+-- what a record that was handed out is
+pub stands : (memory : List ℕ) (at : ℕ) {r : Record} {p : ℕ} {f : Found} → r ≡ recordAt memory at → r ≡ At p f → Stands memory at f
+stands memory at {r} {p} {f} is h = record { looked = handed-looked memory at r is p f h; more = handed-inside memory at r is p f h }
 
-  module _ (p : ℕ) (f : Found) (h : r ≡ At p f) where
-    abbrev here : List ℕ
-    here = part memory (t .at) (f .end)
+module _ (memory : List ℕ) (start : ℕ) (t : BlockWalk) (g : Walking memory start t) (f : Found) (k : Stands memory (t .at) f) where
+  abbrev here : List ℕ
+  here = part memory (t .at) (f .end)
 
-    abbrev st : Due
-    st = seen memory (t .state)
+  abbrev st : Due
+  st = seen memory (t .state)
 
-    abbrev ends : LineEnd memory (t .at) (f .end)
-    ends = handed-looked memory (t .at) r is p f h .ends
+  abbrev ends : LineEnd memory (t .at) (f .end)
+  ends = k .looked .ends
 
-    -- the fault, and the walk behind it, by the record's line
-    pub turned-fault : (x o i : ℕ) → blockFaultOf st here ≡ Stop x o i → (xs : List ℕ) → leftOf memory start xs t ≡ refused x (t .at - start + o) (t .records) i
-    unfolding blockWalkOf
-    turned-fault x o i q xs = rw (line-more memory (t .at) (f .end) ends (handed-inside memory (t .at) r is p f h), q)
+  pub over-room : f .end + 2 ≤ length memory
+  over-room = line-room memory (t .at) (f .end) ends (k .more)
 
-    behind : t .at - start + length here + 2 ≡ f .end + 2 - start
-    behind = omega (arith, line-long memory (t .at) (f .end) ends, ends .order, g .order)
+  -- the fault, and the walk behind it, by the record's line
+  pub turned-fault : (x o i : ℕ) → blockFaultOf st here ≡ Stop x o i → (xs : List ℕ) → leftOf memory start xs t ≡ refused x (t .at - start + o) (t .records) i
+  unfolding blockWalkOf
+  turned-fault x o i q xs = rw (line-more memory (t .at) (f .end) ends (k .more), q)
 
-    turned-fine : blockFaultOf st here ≡ Fine → (xs : List ℕ) → leftOf memory start xs t ≡ onFrom memory start xs (after st here) (f .end + 2) (t .records + 1)
-    unfolding blockWalkOf
-    turned-fine q xs = rw (line-more memory (t .at) (f .end) ends (handed-inside memory (t .at) r is p f h), q, behind)
+  behind : t .at - start + length here + 2 ≡ f .end + 2 - start
+  behind = omega (arith, line-long memory (t .at) (f .end) ends, ends .order, g .order)
 
-    pub turned-4 : {b : Bool} → b ≡ isForeignHere st here → b ≡ true → (xs : List ℕ) → leftOf memory start xs t ≡ refused 4 (t .at - start) (t .records) 0
-    turned-4 eb y xs =
-        let z : t .at - start + 0 ≡ t .at - start = omega arith in
-        turned-fault 4 0 0 (foreign-fault st here (sym eb ∙ y)) xs ∙ rw z
+  turned-fine : blockFaultOf st here ≡ Fine → (xs : List ℕ) → leftOf memory start xs t ≡ onFrom memory start xs (after st here) (f .end + 2) (t .records + 1)
+  unfolding blockWalkOf
+  turned-fine q xs = rw (line-more memory (t .at) (f .end) ends (k .more), q, behind)
 
-    module _ {b : Bool} (eb : b ≡ isForeignHere st here) (no : b ≡ false) (w : Step) (ew : stepAs memory w ≡ nextOf st here) where
-      pub turned-stop : (x o i : ℕ) → w ≡ step.Stop x o i → (xs : List ℕ) → leftOf memory start xs t ≡ refused x (t .at - start + o) (t .records) i
-      unfolding nextOf
-      turned-stop x o i q = turned-fault x o i (own-fault st here (sym eb ∙ no) ∙ stopped (faultOf st here) (after st here) x o i (sym (rw q at ew)))
+  pub turned-4 : {b : Bool} → b ≡ isForeignHere st here → b ≡ true → (xs : List ℕ) → leftOf memory start xs t ≡ refused 4 (t .at - start) (t .records) 0
+  turned-4 eb y xs =
+      let z : t .at - start + 0 ≡ t .at - start = omega arith in
+      turned-fault 4 0 0 (foreign-fault st here (sym eb ∙ y)) xs ∙ rw z
 
-      pub turned-on : Holds memory (t .at) (f .end) w → (s : State) → w ≡ step.On s
-          → Turned memory start t (turn.On (record { at = f .end + 2; records = t .records + 1; state = s }))
-      unfolding nextOf
-      turned-on hw s q =
-          let b = gone (faultOf st here) (after st here) (seen memory s) (sym (rw q at ew)) in
-          let o = handed-order memory (t .at) r is p f h in (
-            record {
-              order = omega (arith, o, g .order);
-              within = handed-room memory (t .at) r is p f h;
-              few = omega (arith, o, g .few);
-              kept = kept-on memory (t .at) (f .end) w hw s q;
-            },
-            omega (arith, o),
-            λ xs. rw (b .1) (turned-fine (own-fault st here (sym eb ∙ no) ∙ b .0) xs),
-          )
+  module _ {b : Bool} (eb : b ≡ isForeignHere st here) (no : b ≡ false) (w : Step) (ew : stepAs memory w ≡ nextOf st here) where
+    pub turned-stop : (x o i : ℕ) → w ≡ step.Stop x o i → (xs : List ℕ) → leftOf memory start xs t ≡ refused x (t .at - start + o) (t .records) i
+    unfolding nextOf
+    turned-stop x o i q = turned-fault x o i (own-fault st here (sym eb ∙ no) ∙ stopped (faultOf st here) (after st here) x o i (sym (rw q at ew)))
+
+    pub turned-on : Holds memory (t .at) (f .end) w → (s : State) → w ≡ step.On s
+        → Turned memory start t (turn.On (record { at = f .end + 2; records = t .records + 1; state = s }))
+    unfolding nextOf
+    turned-on hw s q =
+        let b = gone (faultOf st here) (after st here) (seen memory s) (sym (rw q at ew)) in
+        let o = ends .order in (
+          record {
+            order = omega (arith, o, g .order);
+            within = over-room;
+            few = omega (arith, o, g .few);
+            kept = kept-on memory (t .at) (f .end) w hw s q;
+          },
+          omega (arith, o),
+          λ xs. rw (b .1) (turned-fine (own-fault st here (sym eb ∙ no) ∙ b .0) xs),
+        )
 
 -- ---- turn after turn
 
@@ -200,21 +206,18 @@ module _ (memory : List ℕ) (start : ℕ) (t : BlockWalk) (w : BlockTurn) (g : 
     pub turned-walking : Walking memory start u
     turned-walking = turned .0
 
-    pub turned-left : (n d : ℕ) → ((xs : List ℕ) → wholeOf memory start n d xs ≡ leftOf memory start xs t) → (xs : List ℕ) → wholeOf memory start n d xs ≡ leftOf memory start xs u
-    turned-left n d e xs = e xs ∙ turned .2 xs
+    pub turned-left : (s : BlockWalk) → ((xs : List ℕ) → leftOf memory start xs s ≡ leftOf memory start xs t) → (xs : List ℕ) → leftOf memory start xs s ≡ leftOf memory start xs u
+    turned-left s e xs = e xs ∙ turned .2 xs
 
     pub turned-less : length memory - u .at < length memory - t .at
     turned-less = omega (arith, turned .1, turned .0 .within)
 
-  pub turned-refused : (x : Refusal) → w ≡ turn.Stop x → (n d : ℕ) → ((xs : List ℕ) → wholeOf memory start n d xs ≡ leftOf memory start xs t) → (xs : List ℕ) → wholeOf memory start n d xs ≡ refusedAs x
-  turned-refused x h n d e xs = let z : Turned memory start t (turn.Stop x) = rw h at g in e xs ∙ z xs
-
-  pub turned-over : w ≡ turn.End → lines (drop (t .at) memory) ≡ rest (drop (t .at) memory)
-  turned-over h = rw h at g
+  pub turned-refused : (x : Refusal) → w ≡ turn.Stop x → (s : BlockWalk) → ((xs : List ℕ) → leftOf memory start xs s ≡ leftOf memory start xs t) → (xs : List ℕ) → leftOf memory start xs s ≡ refusedAs x
+  turned-refused x h s e xs = let z : Turned memory start t (turn.Stop x) = rw h at g in e xs ∙ z xs
 
 -- ---- where no CR LF is left
 
-module _ (memory : List ℕ) (start : ℕ) (t : BlockWalk) (g : Walking memory start t) (no : Turned memory start t turn.End) where
+module _ (memory : List ℕ) (start : ℕ) (t : BlockWalk) (g : Walking memory start t) (no : lines (drop (t .at) memory) ≡ rest (drop (t .at) memory)) where
   abbrev at-end : Due
   at-end = seen memory (t .state)
 
@@ -247,10 +250,19 @@ module _ (memory : List ℕ) (start : ℕ) (t : BlockWalk) (g : Walking memory s
         end-block w xs = rw (all-read, ← ei, not-false i h, ← eo, w)
 
 -- what the end is, the walk is
-module _ (memory : List ℕ) (start n d : ℕ) (t : BlockWalk) (e : (xs : List ℕ) → wholeOf memory start n d xs ≡ leftOf memory start xs t) where
-  pub entire : (r : BlockEnd) → Ended memory start t r → Entire memory start n d r
-  entire (blockEnd.Whole k) h = λ xs. e xs ∙ h xs
-  entire (blockEnd.Stopped x) h = λ xs. e xs ∙ h xs
+module _ (memory : List ℕ) (start : ℕ) (s t : BlockWalk) (e : (xs : List ℕ) → leftOf memory start xs s ≡ leftOf memory start xs t) where
+  pub ended : (r : BlockEnd) → Ended memory start t r → Ended memory start s r
+  ended (blockEnd.Whole k) h = λ xs. e xs ∙ h xs
+  ended (blockEnd.Stopped x) h = λ xs. e xs ∙ h xs
+
+-- and with the first record before it
+module _ (memory : List ℕ) (start n d : ℕ) (t : BlockWalk) (q : t ≡ firstWalk start n d) (w : BlockTurn) (g : Turned memory start t w) where
+  pub entire-stopped : {x : Refusal} → w ≡ turn.Stop x → Entire memory start n d (blockEnd.Stopped x)
+  entire-stopped {x} h xs = let z : Turned memory start t (turn.Stop x) = rw h at g in walked-first memory start n d t q xs ∙ z xs
+
+  pub entire-on : {u : BlockWalk} → w ≡ turn.On u → (r : BlockEnd) → Ended memory start u r → Entire memory start n d r
+  entire-on {u} h (blockEnd.Whole k) e = λ xs. walked-first memory start n d t q xs ∙ turned memory start t w g u h .2 xs ∙ e xs
+  entire-on {u} h (blockEnd.Stopped x) e = λ xs. walked-first memory start n d t q xs ∙ turned memory start t w g u h .2 xs ∙ e xs
 
 -- ---- the whole block
 
@@ -272,13 +284,9 @@ module _ (memory : List ℕ) (start m n unit : ℕ) (en : n ≡ intervalsOf m) w
     unfolding blockCheckOf blockWalkOf
     none-there z = rw (← en, ne-eqb n 0 some, ← eb, not-false b h, z)
 
-    pub whole-behind : {x : Refusal} → refusedAs x ≡ refused 2 0 0 0 → length memory < start → blockCheckOf m unit (drop start memory) ≡ refusedAs x
-    unfolding lines
-    whole-behind q l = none-there (rw (drop-of-length-le memory {i = start} (omega arith))) ∙ sym q
-
-    module _ (e : ℕ) (s : LineEnd memory start e) where
-      pub whole-none : {x : Refusal} → refusedAs x ≡ refused 2 0 0 0 → e ≡ length memory → blockCheckOf m unit (drop start memory) ≡ refusedAs x
-      whole-none q z = none-there (line-none memory start e s z) ∙ sym q
+    module _ {r : Record} (er : r ≡ recordAt memory start) where
+      pub whole-none : {x : Refusal} → refusedAs x ≡ refused 2 0 0 0 → r ≡ None → blockCheckOf m unit (drop start memory) ≡ refusedAs x
+      whole-none q z = none-there (handed-none memory start r er z) ∙ sym q
 
       module _ {d : ℕ} (ed : d ≡ decimalsOf unit) where
         whole-walk : blockCheckOf m unit (drop start memory) ≡ wholeOf memory start n d (topSays (intervalsOf m) (lines (drop start memory)))
@@ -289,8 +297,10 @@ module _ (memory : List ℕ) (start m n unit : ℕ) (en : n ≡ intervalsOf m) w
           pub whole-stopped : {x : Refusal} → w ≡ blockEnd.Stopped x → blockCheckOf m unit (drop start memory) ≡ refusedAs x
           whole-stopped {x} q = whole-walk ∙ (rw q at k) (topSays (intervalsOf m) (lines (drop start memory)))
 
-          pub whole-block : {j : ℕ} → w ≡ blockEnd.Whole j → (e ≡ length memory → ⊥) → IsBlock memory start m unit j e
-          whole-block q go = record { line = s; more = go; is = whole-walk ∙ (rw q at k) (topSays (intervalsOf m) (lines (drop start memory))) }
+          pub whole-block : {p j : ℕ} {f : Found} → r ≡ At p f → w ≡ blockEnd.Whole j → IsBlock memory start m unit j (f .end)
+          whole-block h q =
+              let g = stands memory start er h in
+              record { line = g .looked .ends; more = g .more; is = whole-walk ∙ (rw q at k) (topSays (intervalsOf m) (lines (drop start memory))) }
 
 -- ---- what a caller is told
 

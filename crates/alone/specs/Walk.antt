@@ -7,7 +7,7 @@ use lib.ListN.{length, drop, getD}
 use lib.Dec.{ltb}
 use Rattle.ground.specs.Lists.{spanOf}
 use Rattle.format.specs.Bytes.{plain}
-use Rattle.format.specs.Cut.{rest, lines, fields}
+use Rattle.format.specs.Cut.{lines, fields}
 use Rattle.format.specs.Records.{kindIn}
 use Rattle.format.specs.Order.{Due}
 use Rattle.format.specs.Faults.{isOpen}
@@ -16,11 +16,12 @@ use Rattle.format.specs.Numbers.{intervalsOf}
 use Rattle.format.specs.File.{behind200, isForeign, blockWalkOf, topSays, blockCheckOf}
 use Rattle.format.specs.declared.Number.{Number}
 use Rattle.format.specs.declared.Number.the-variants.{Is, Bad}
-use Rattle.lines.specs.Places.{LineEnd}
+use Rattle.lines.specs.Places.{LineEnd, Looked}
+use Rattle.lines.specs.declared.Found.{Found}
 use Rattle.order.specs.State.{seen, closed, Kept}
 use Rattle.alone.specs.declared.BlockWalk.{BlockWalk}
 use Rattle.alone.specs.declared.BlockTurn.{BlockTurn}
-use Rattle.alone.specs.declared.BlockTurn.the-variants.{On, Stop, End}
+use Rattle.alone.specs.declared.BlockTurn.the-variants.{On, Stop}
 use Rattle.alone.specs.declared.BlockEnd.{BlockEnd}
 use Rattle.alone.specs.declared.BlockEnd.the-variants.{Whole}
 use Rattle.alone.specs.declared.BlockEnd.the-variants as blockEnd
@@ -64,13 +65,17 @@ pub record Walking (memory : List ℕ) (start : ℕ) (t : BlockWalk) : Type 0 wh
   pub few : t .records ≤ t .at
   pub kept : Kept memory (t .at) (t .state)
 
--- behind a record it is on its way, and further, and what is left of the answer is a walk from there; or its refusal is the answer; or no CR LF is left
+-- at place p stands a record, which was looked at
+pub record Stands (memory : List ℕ) (p : ℕ) (f : Found) : Type 0 where
+  pub looked : Looked memory p (f .end) (f .bad) (f .commas)
+  pub more : f .end ≡ length memory → ⊥
+
+-- behind a record it is on its way, and further, and what is left of the answer is a walk from there; or its refusal is the answer
 abbrev pub Turned : List ℕ → ℕ → BlockWalk → BlockTurn → Type 0
 Turned memory start t (On u) = Walking memory start u × (t .at < u .at) × ((xs : List ℕ) → leftOf memory start xs t ≡ leftOf memory start xs u)
 Turned memory start t (Stop x) = (xs : List ℕ) → leftOf memory start xs t ≡ refusedAs x
-Turned memory start t End = lines (drop (t .at) memory) ≡ rest (drop (t .at) memory)
 
--- where no CR LF is left, whatever the 300 says: the block is whole, with so many records, or its refusal is the answer
+-- at the end, whatever the 300 says: the block is whole, with so many records, or its refusal is the answer
 abbrev pub Ended : List ℕ → ℕ → BlockWalk → BlockEnd → Type 0
 Ended memory start t (Whole k) = (xs : List ℕ) → leftOf memory start xs t ≡ accepted (xs ++ k ∷ [])
 Ended memory start t (blockEnd.Stopped x) = (xs : List ℕ) → leftOf memory start xs t ≡ refusedAs x

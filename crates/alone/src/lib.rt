@@ -9,7 +9,6 @@ use format::BlockChecked;
 use format::Number;
 use format::Refusal;
 use lines::Found;
-use lines::line_end;
 use number_rules::intervals;
 use order::State;
 use order::Step;
@@ -23,15 +22,14 @@ ghost use lib.ListN.{length, drop};
 ghost use lib.Dec.{eqb};
 ghost use Rattle.ground.specs.Lists.{part};
 ghost use Rattle.format.specs.Records.{dateIn, updateIn, loadIn};
-ghost use Rattle.format.specs.Cut.{fields};
+ghost use Rattle.format.specs.Cut.{rest, lines, fields};
 ghost use Rattle.format.specs.Order.{inDay};
 ghost use Rattle.format.specs.Answers.{refusedAs, blockCheckedAs};
 ghost use Rattle.format.specs.File.{blockCheckOf};
-ghost use Rattle.lines.specs.Places.{LineEnd, Looked};
+ghost use Rattle.lines.specs.Places.{Looked};
 ghost use Rattle.follows.specs.Tests.{expectedAs};
 ghost use Rattle.order.specs.State.{seen};
-ghost use Rattle.alone.specs.Walk.{refusedAt, isForeignHere, firstWalk, dateSaid, Walking, Turned, Ended, Entire, WalkedAs};
-ghost use Rattle.alone.specs.declared.BlockTurn.the-variants.{End};
+ghost use Rattle.alone.specs.Walk.{refusedAt, isForeignHere, firstWalk, dateSaid, Walking, Stands, Turned, Ended, Entire, WalkedAs};
 
 // The walk over a block before a record: where that starts in the memory, how many records are behind, and the state.
 pub struct BlockWalk {
@@ -40,11 +38,10 @@ pub struct BlockWalk {
     pub state: State,
 }
 
-// What comes of a record: the walk behind it, the refusal that ends it, or that no CR LF is left.
+// What comes of a record: the walk behind it, or the refusal that ends it.
 pub enum BlockTurn {
     On(BlockWalk),
     Stop(Refusal),
-    End,
 }
 
 // What the walk comes to: how many records the block has, or the refusal that ends it.
@@ -124,16 +121,12 @@ impl BlockWalk {
         }
     }
 
-    // Over the record at which the walk stands.
-    fn turn(self, memory: &[u8], start: usize) -> BlockTurn
-        requires { ⌜ Walking (now memory) start self ⌝ }
+    // Over the record at which the walk stands, as it was looked at.
+    fn over(self, memory: &[u8], start: usize, found: Found) -> BlockTurn
+        requires { ⌜ Walking (now memory) start self × Stands (now memory) (self .at) found ⌝ }
         ensures { λ r. ⌜ Turned (now (memory .entry)) start self r ⌝ }
     {
         let at = self.at;
-        let handed = record_at(memory, at);
-        let Record::At(_, found) = handed else {
-            return BlockTurn::End;
-        };
         let e = found.end;
         let behind = e + 2;
         let passed = self.records + 1;
@@ -165,7 +158,7 @@ impl BlockWalk {
 
     // Where no CR LF is left: the memory has to end here, with a day that may end.
     fn end(self, memory: &[u8], start: usize) -> BlockEnd
-        requires { ⌜ Walking (now memory) start self × Turned (now memory) start self End ⌝ }
+        requires { ⌜ Walking (now memory) start self × (lines (drop (self .at) (now memory)) ≡ rest (drop (self .at) (now memory))) ⌝ }
         ensures { λ r. ⌜ Ended (now (memory .entry)) start self r ⌝ }
     {
         let st = self.state;
@@ -195,21 +188,37 @@ fn refusal_at(number: u64, place: usize, record: usize) -> Refusal
     }
 }
 
-// The block from `start` to the memory's end, behind a 200 of n intervals whose values have at most so many decimals, where it has a record, which ends at e.
-fn walk_block(memory: &[u8], start: usize, e: usize, n: usize, decimals: usize) -> BlockEnd
-    requires { ⌜ LineEnd (now memory) start e × (n ≤ 288) × (decimals ≤ 6) ⌝ }
-    ensures { λ r. ⌜ Entire (now (memory .entry)) start n decimals r ⌝ }
+// From the record on at which the walk stands.
+fn walk_from(memory: &[u8], start: usize, first: BlockWalk) -> BlockEnd
+    requires { ⌜ Walking (now memory) start first ⌝ }
+    ensures { λ r. ⌜ Ended (now (memory .entry)) start first r ⌝ }
 {
-    let mut t = BlockWalk::new(start, n, decimals);
+    let mut t = first;
     loop {
-        let turn = t.turn(memory, start);
+        let handed = record_at(memory, t.at);
+        let Record::At(_, found) = handed else {
+            return t.end(memory, start);
+        };
+        let turn = t.over(memory, start, found);
         match turn {
             BlockTurn::On(next) => {
                 t = next;
             }
             BlockTurn::Stop(x) => return BlockEnd::Stopped(x),
-            BlockTurn::End => return t.end(memory, start),
         }
+    }
+}
+
+// The block from `start` to the memory's end, behind a 200 of n intervals whose values have at most so many decimals, where it has a record, which was looked at.
+fn walk_block(memory: &[u8], start: usize, found: Found, n: usize, decimals: usize) -> BlockEnd
+    requires { ⌜ Stands (now memory) start found × (n ≤ 288) × (decimals ≤ 6) ⌝ }
+    ensures { λ r. ⌜ Entire (now (memory .entry)) start n decimals r ⌝ }
+{
+    let t = BlockWalk::new(start, n, decimals);
+    let turn = t.over(memory, start, found);
+    match turn {
+        BlockTurn::On(next) => walk_from(memory, start, next),
+        BlockTurn::Stop(x) => BlockEnd::Stopped(x),
     }
 }
 
@@ -224,18 +233,14 @@ fn walk_bytes(memory: &[u8], start: usize, minutes: u32, unit: u8) -> Walked
     if !units::is_unit(unit) {
         return Walked::Stopped(refusal_at(16, 0, 0));
     }
-    let long = memory.len();
-    if long < start {
+    let handed = record_at(memory, start);
+    let Record::At(_, found) = handed else {
         return Walked::Stopped(refusal_at(2, 0, 0));
-    }
-    let e = line_end(memory, start);
-    if e == long {
-        return Walked::Stopped(refusal_at(2, 0, 0));
-    }
-    let end = walk_block(memory, start, e, n, units::decimals(unit));
+    };
+    let end = walk_block(memory, start, found, n, units::decimals(unit));
     match end {
         BlockEnd::Stopped(x) => Walked::Stopped(x),
-        BlockEnd::Whole(records) => Walked::Block(records, e),
+        BlockEnd::Whole(records) => Walked::Block(records, found.end),
     }
 }
 
