@@ -7,8 +7,8 @@ use native.Mathlib.Omega.{arith}
 use lib.ListN.{length, getD}
 use mir.Val.{Fits}
 use mir.Syntax.{w32}
-use lib.Dec.{leb, ltb}
-use borrow.Author.Tests.{leb-true, ltb-true, le-leb, lt-leb, lt-ltb, le-ltb}
+use lib.Dec.{leb, ltb, eqb}
+use borrow.Author.Tests.{leb-true, ltb-true, eqb-true, le-leb, lt-leb, lt-ltb, le-ltb}
 use borrow.Author.Count.{below-more}
 use Rattle.ground.proofs.Tests.{and-true}
 use Rattle.ground.proofs.Cases.{split}
@@ -26,6 +26,27 @@ pub near-is : (n o p least : ℕ) → (n ≡ 0 → ⊥) → p ≤ o → ltb o le
 near-is n o p least e h = let g : 0 < n = omega arith in rw (lt-ltb 0 n g, le-leb p o h)
 
 pub ruleset nears = (near-empty, near-before, near-is)
+
+pub at-empty : (n o p : ℕ) → n ≡ 0 → false ≡ (ltb 0 n && eqb o p)
+at-empty n o p e = rw (le-ltb 0 n (omega arith))
+
+pub at-is : (n o p : ℕ) → (n ≡ 0 → ⊥) → eqb o p ≡ (ltb 0 n && eqb o p)
+at-is n o p e = let g : 0 < n = omega arith in rw (lt-ltb 0 n g)
+
+pub ruleset ats = (at-empty, at-is)
+
+-- block i lies at p itself: none is nearer
+pub next-at : (os ns : List ℕ) (p i : ℕ) {b : Bool} → i < length os → b ≡ (ltb 0 (getD ns i 0) && eqb (getD os i 0) p) → b ≡ true → Next os ns p i
+next-at os ns p i l e t =
+    let z = and-true (ltb 0 (getD ns i 0)) (eqb (getD os i 0) p) (sym e ∙ t) in
+    let y = eqb-true (getD os i 0) p (z .1) in
+    record {
+      within = omega arith;
+      block = λ g. ltb-true 0 (getD ns i 0) (z .0);
+      behind = λ g. omega arith;
+      some = λ j a c d. l;
+      least = λ j a c d. omega arith;
+    }
 
 -- ---- all of them
 

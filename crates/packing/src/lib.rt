@@ -3,7 +3,7 @@ use moving::move_bytes;
 ghost use mathlib.Core.Path.{_≡_};
 ghost use mathlib.Core.Bool.{_&&_};
 ghost use lib.ListN.{length};
-ghost use lib.Dec.{leb, ltb};
+ghost use lib.Dec.{leb, ltb, eqb};
 ghost use Rattle.ranges.specs.Laid.{Laid};
 ghost use Rattle.packing.specs.Packing.{packed, packOf};
 ghost use Rattle.packing.specs.Steps.{Next};
@@ -47,6 +47,29 @@ fn next_block(places: &[u32], lengths: &[u32], p: usize) -> usize
     best
 }
 
+// A block of n bytes at place o, which is p.
+fn is_at(n: u32, o: u32, p: usize) -> bool
+    ensures { λ r. ⌜ r ≡ (ltb 0 n && eqb o p) ⌝ }
+{
+    if n == 0 {
+        return false;
+    }
+    o as usize == p
+}
+
+// The same. Where range i is a block at p, as it is behind the last one moved while blocks lie side by side in the order of their slots, no other is looked at.
+fn next_from(places: &[u32], lengths: &[u32], p: usize, i: usize) -> usize
+    requires { ⌜ length (now places) ≡ length (now lengths) ⌝ }
+    ensures { λ r. ⌜ Next (now (places .entry)) (now (lengths .entry)) p r ⌝ }
+{
+    if i < places.len() {
+        if is_at(lengths[i], places[i], p) {
+            return i;
+        }
+    }
+    next_block(places, lengths, p)
+}
+
 // Moves the blocks down, in the order in which they lie, and writes their new places; how many bytes they have.
 pub fn pack(room: &mut [u8], places: &mut [u32], lengths: &[u32]) -> usize
     requires { ⌜ Laid (now places) (now lengths) (length (now room)) ⌝ }
@@ -54,8 +77,9 @@ pub fn pack(room: &mut [u8], places: &mut [u32], lengths: &[u32]) -> usize
 {
     let mut p: usize = 0;
     let mut q: usize = 0;
+    let mut guess: usize = 0;
     loop {
-        let i = next_block(places, lengths, p);
+        let i = next_from(places, lengths, p, guess);
         if i >= places.len() {
             return q;
         }
@@ -65,5 +89,6 @@ pub fn pack(room: &mut [u8], places: &mut [u32], lengths: &[u32]) -> usize
         places[i] = q as u32;
         q += n;
         p = o + n;
+        guess = i + 1;
     }
 }

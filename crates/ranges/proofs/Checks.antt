@@ -5,9 +5,9 @@ use mathlib.Core.List.{List, [], _∷_}
 use mathlib.Core.Bool.{Bool, true, false, not, _&&_, false≢true}
 use native.Mathlib.Omega.{arith}
 use lib.ListN.{length, drop, getD, drop-of-length-le}
-use lib.Dec.{leb}
+use lib.Dec.{leb, eqb}
 use borrow.Author.Tests.{le-leb, lt-leb, eq-eqb, ne-eqb, not-true, not-false}
-use Rattle.ground.proofs.Tests.{and-true, or-true, refuted}
+use Rattle.ground.proofs.Tests.{and-true, or-true, or-false, refuted}
 use Rattle.ground.proofs.Lists.{rest}
 use Rattle.store.specs.Ranges.{inside, apart, clear, laid}
 
@@ -17,17 +17,17 @@ pub apart-empty : (o n p k : ℕ) → n ≡ 0 → true ≡ apart o n p k
 unfolding apart
 apart-empty o n p k e = simp (eq-eqb n 0 e)
 
-pub apart-none : (o n p k : ℕ) → k ≡ 0 → true ≡ apart o n p k
-unfolding apart
-apart-none o n p k e = simp (eq-eqb k 0 e, or-true)
-
 pub apart-before : (o n p k : ℕ) → o + n ≤ p → true ≡ apart o n p k
 unfolding apart
 apart-before o n p k h = simp (le-leb (o + n) p h, or-true)
 
-pub apart-else : (o n p k : ℕ) → (n ≡ 0 → ⊥) → (k ≡ 0 → ⊥) → p < o + n → leb (p + k) o ≡ apart o n p k
+pub apart-behind : (o n p k : ℕ) → p + k ≤ o → true ≡ apart o n p k
 unfolding apart
-apart-else o n p k a b h = simp (ne-eqb n 0 a, ne-eqb k 0 b, lt-leb (o + n) p h)
+apart-behind o n p k h = simp (le-leb (p + k) o h, or-true)
+
+pub apart-else : (o n p k : ℕ) → p < o + n → o < p + k → (n ≡ 0 → ⊥) → eqb k 0 ≡ apart o n p k
+unfolding apart
+apart-else o n p k h g a = simp (ne-eqb n 0 a, lt-leb (o + n) p h, lt-leb (p + k) o g, or-false)
 
 pub inside-none : (m o n : ℕ) → n ≡ 0 → true ≡ inside m o n
 unfolding inside
@@ -37,7 +37,7 @@ pub inside-some : (m o n : ℕ) → (n ≡ 0 → ⊥) → leb (o + n) m ≡ insi
 unfolding inside
 inside-some m o n e = simp (ne-eqb n 0 e)
 
-pub ruleset one = (apart-empty, apart-none, apart-before, apart-else, inside-none, inside-some)
+pub ruleset one = (apart-empty, apart-before, apart-behind, apart-else, inside-none, inside-some)
 
 -- ---- a range against those behind it: j is the next
 

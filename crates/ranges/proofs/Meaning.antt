@@ -5,24 +5,25 @@ use mathlib.Core.List.{List, [], _∷_}
 use mathlib.Core.Bool.{true, _&&_, false≢true}
 use native.Mathlib.Omega.{arith}
 use lib.ListN.{length, getD}
-use borrow.Author.Tests.{leb-true, le-leb}
+use borrow.Author.Tests.{leb-true, le-leb, eqb-true, eq-eqb}
 use Rattle.ground.proofs.Tests.{and-true}
 use Rattle.ground.proofs.Cases.{split, same-or, both}
 use Rattle.store.specs.Ranges.{inside, apart, clear, laid}
 use Rattle.ranges.specs.Laid.{Laid}
-use Rattle.ranges.proofs.Checks.{apart-empty, apart-none, apart-before, apart-else, inside-none, inside-some}
+use Rattle.ranges.proofs.Checks.{apart-empty, apart-before, apart-behind, apart-else, inside-none, inside-some}
 
 -- ---- two ranges
 
 apart-tells : (o n p k : ℕ) → apart o n p k ≡ true → 0 < n → 0 < k → p < o + n → p + k ≤ o
-apart-tells o n p k t a b h = leb-true (p + k) o (apart-else o n p k (omega arith) (omega arith) h ∙ t)
+apart-tells o n p k t a b h =
+    split (p + k) o (λ g. g) (λ g. absurd (omega (arith, eqb-true k 0 (apart-else o n p k h g (omega arith) ∙ t))))
 
 apart-told : (o n p k : ℕ) → (0 < n → 0 < k → p < o + n → p + k ≤ o) → apart o n p k ≡ true
 apart-told o n p k f =
-    same-or n 0 (λ e. sym (apart-empty o n p k e)) (λ a.
-    same-or k 0 (λ e. sym (apart-none o n p k e)) (λ b.
     split (o + n) p (λ h. sym (apart-before o n p k h)) (λ h.
-    sym (apart-else o n p k a b h) ∙ le-leb (p + k) o (f (omega arith) (omega arith) h))))
+    split (p + k) o (λ g. sym (apart-behind o n p k g)) (λ g.
+    same-or n 0 (λ e. sym (apart-empty o n p k e)) (λ a.
+    same-or k 0 (λ e. sym (apart-else o n p k h g a) ∙ eq-eqb k 0 e) (λ b. absurd (omega (arith, f (omega arith) (omega arith) h))))))
 
 inside-tells : (m o n : ℕ) → inside m o n ≡ true → 0 < n → o + n ≤ m
 inside-tells m o n t a = leb-true (o + n) m (inside-some m o n (omega arith) ∙ t)

@@ -16,19 +16,20 @@ fn inside(m: usize, o: u32, n: u32) -> bool
     o as usize + n as usize <= m
 }
 
+// Most often one lies before the other, so that is asked first.
 fn apart(o: u32, n: u32, p: u32, k: u32) -> bool
     ensures { λ r. ⌜ r ≡ Ranges·apart o n p k ⌝ }
 {
-    if n == 0 {
-        return true;
-    }
-    if k == 0 {
-        return true;
-    }
     if o as u64 + n as u64 <= p as u64 {
         return true;
     }
-    p as u64 + k as u64 <= o as u64
+    if p as u64 + k as u64 <= o as u64 {
+        return true;
+    }
+    if n == 0 {
+        return true;
+    }
+    k == 0
 }
 
 // Range i has no byte in common with those behind it.

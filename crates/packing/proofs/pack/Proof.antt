@@ -9,10 +9,10 @@ use Rattle.packing.proofs.pack.Statement.{statement}
 use Rattle.packing.proofs.pack.Tie as tie
 
 abbrev Inv-loop : tie.InvT-loop
-Inv-loop room₀ places₀ lengths p₀ q₀ room places p q = Packing room₀ places₀ lengths room places p q
+Inv-loop room₀ places₀ lengths p₀ q₀ guess₀ room places p q guess = Packing room₀ places₀ lengths room places p q
 
 abbrev μ-loop : tie.MeasureT-loop
-μ-loop room₀ places₀ lengths p₀ q₀ room places p q = length room₀ - p
+μ-loop room₀ places₀ lengths p₀ q₀ guess₀ room places p q guess = length room₀ - p
 
 -- there are as many places as there were
 many : (c : tie.At-loop Inv-loop μ-loop) → length (c .loop .places) ≡ length (c .before .before .before .before .args .places .now)
@@ -21,8 +21,8 @@ many c = search as-many
 loop-holds : tie.Need-loop-holds Inv-loop μ-loop
 loop-holds c = search packing-none
 
-next-block-requires : tie.Need-next-block-requires Inv-loop μ-loop
-next-block-requires c κs = search even
+next-from-requires : tie.Need-next-from-requires Inv-loop μ-loop
+next-from-requires c κs = search even
 
 same-length : tie.Need-same-length Inv-loop μ-loop
 same-length c = search as-long
@@ -61,7 +61,7 @@ here : (c : tie.After-wide2 Inv-loop μ-loop)
     (c .before .before .before .before .before .before .before .loop .places)
     (c .before .before .before .before .before .before .before .loop .p)
     (c .before .before .before .before .before .before .before .loop .q)
-    (c .before .before .before .before .before .next-block .result)
+    (c .before .before .before .before .before .next-from .result)
     (c .before .before .wide .result)
     (c .wide2 .result)
 here c = search turn
@@ -72,7 +72,7 @@ move-bytes-requires c κs = here (c .before) .within
 cast-places : tie.Need-cast-places Inv-loop μ-loop
 cast-places c =
     let u = here (c .before .before .before .before) in
-    omega (arith, c .before .before .before .before .before .before .before .slice-known3 .given (c .before .before .before .before .before .before .before .before .before .next-block .result))
+    omega (arith, c .before .before .before .before .before .before .before .slice-known3 .given (c .before .before .before .before .before .before .before .before .before .next-from .result))
 
 mul-places : tie.Need-mul-places Inv-loop μ-loop
 mul-places c = omega (arith, many (c .before .before .before .before .before .before .before .before .before .before .before))
@@ -85,6 +85,9 @@ add-q c = let u = here (c .before .before .before .before) in omega arith
 
 add-p : tie.Need-add-p Inv-loop μ-loop
 add-p c = let u = here (c .before .before .before .before) in omega arith
+
+add-guess : tie.Need-add-guess Inv-loop μ-loop
+add-guess c = omega (arith, many (c .before .before .before .before .before .before .before .before .before .before .before))
 
 loop-less : tie.Need-loop-less Inv-loop μ-loop
 loop-less c = let u = here (c .before .before .before .before) in omega arith
@@ -99,7 +102,7 @@ pack-spec =
     Inv-loop
     μ-loop
     loop-holds
-    next-block-requires
+    next-from-requires
     same-length
     same-length-2
     returns
@@ -115,5 +118,6 @@ pack-spec =
     slice-write-places
     add-q
     add-p
+    add-guess
     loop-less
     loop-again)
