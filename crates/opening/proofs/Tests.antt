@@ -1,16 +1,17 @@
 -- The ways out of the tests of a store. Assumes nothing.
 use Prim.Native.Nat.{ℕ, _≤_, _<_}
-use mathlib.Core.Path.{_≡_, refl}
+use mathlib.Core.Path.{_≡_, refl, sym, _∙_}
 use mathlib.Core.Bool.{Bool, true, false, not, _&&_}
 use mathlib.Core.List.{List}
 use lib.ListN.{length}
-use borrow.Author.Tests.{lt-leb, le-leb, not-true, not-false}
+use lib.Dec.{leb}
+use borrow.Author.Tests.{lt-leb, le-leb, leb-true, not-true, not-false}
 use Rattle.ground.specs.Lists.{all}
-use Rattle.ground.proofs.Tests.{and-false, and-all}
-use Rattle.store.specs.Used.{used}
+use Rattle.ground.proofs.Tests.{and-true, and-false, and-all}
+use Rattle.store.specs.Used.{nonePast}
 use Rattle.store.specs.Head.{headerOf}
 use Rattle.store.specs.Ranges.{starts, sizes, laid}
-use Rattle.store.specs.Store.{usedSlots, holdsDay, pairwise, otherKey, rangesLaid, isStoreOf, isStore}
+use Rattle.store.specs.Store.{slotted, counted, inOrder, usedFit, usedSlots, holdsDay, pairwise, otherKey, rangesLaid, isStoreOf, isStore}
 use Rattle.store.specs.declared.Header.{Header}
 use Rattle.frames.specs.Frames.{framed}
 use Rattle.opening.specs.Opens.{openedOf}
@@ -29,6 +30,15 @@ in-order m h = refl
 module _ (m : List ℕ) (h : Header) {a : Bool} (ea : a ≡ framed h (length m)) where
   pub not-framed : not a ≡ true → false ≡ isStoreOf m h
   not-framed t = rw (in-order m h, ← ea, not-true a t)
+
+  pub few-slots : not a ≡ false → h .slots ≤ 64
+  unfolding framed slotted
+  few-slots t =
+      let y = and-true (slotted (h .slots) && counted h && nonePast (h .map) (h .slots) && inOrder h (length m)) (usedFit h) (sym ea ∙ not-false a t) in
+      let x = and-true (slotted (h .slots) && counted h && nonePast (h .map) (h .slots)) (inOrder h (length m)) (y .0) in
+      let w = and-true (slotted (h .slots) && counted h) (nonePast (h .map) (h .slots)) (x .0) in
+      let v = and-true (slotted (h .slots)) (counted h) (w .0) in
+      leb-true (h .slots) 64 (and-true (leb 1 (h .slots)) (leb (h .slots) 64) (v .0) .1)
 
   module _ (ta : not a ≡ false) {b : Bool} (eb : b ≡ rangesLaid m h) where
     pub not-laid : not b ≡ true → false ≡ isStoreOf m h

@@ -17,12 +17,14 @@ ghost use Rattle.entries.specs.Entries.{entryAt, entryBytes};
 ghost use Rattle.store.specs.Head.{headerOf, headerBytes};
 ghost use Rattle.store.specs.Ranges.{slotPlace, starts, sizes};
 ghost use Rattle.store.specs.Moves.{offsetPut, offsetsPut};
-ghost use Rattle.slots.specs.Fields.{numbersOf, fieldOf};
+ghost use Rattle.slots.specs.Fields.{numbersOf, fieldOf, dates};
 
 // How many slots a used map has a bit for.
 const SLOTS: u32 = 64;
 
-// Where an entry has the offset of its block, and its length.
+// Where an entry has its date, the offset of its block, and its length.
+const DATE: usize = 12;
+
 const START: usize = 18;
 
 const SIZE: usize = 22;
@@ -152,6 +154,14 @@ pub fn read_sizes(m: &[u8], h: Header, map: u64, out: &mut [u32])
     ensures { λ _. ⌜ now (out .exit) ≡ sizes (now (m .entry)) h map ⌝ }
 {
     read_fields(m, h, map, SIZE, out);
+}
+
+// And the dates of the days.
+pub fn read_dates(m: &[u8], h: Header, map: u64, out: &mut [u32])
+    requires { ⌜ length (now out) ≡ 64 ⌝ }
+    ensures { λ _. ⌜ now (out .exit) ≡ dates (now (m .entry)) h map ⌝ }
+{
+    read_fields(m, h, map, DATE, out);
 }
 
 // The offset of slot i's block, where the slot is in use.

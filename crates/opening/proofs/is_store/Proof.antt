@@ -1,5 +1,5 @@
 -- `opening::is_store` meets its contract. Assumes nothing.
-use Rattle.opening.proofs.Tests.{not-framed, not-laid, not-own, all-hold}
+use Rattle.opening.proofs.Tests.{not-framed, few-slots, not-laid, not-own, all-hold}
 use borrow.Author.Needs.{needs}
 use Rattle.opening.proofs.is_store.Statement.{statement}
 use Rattle.opening.proofs.is_store.Tie as tie
@@ -17,7 +17,7 @@ returns-2 : tie.Need-returns-2
 returns-2 c = search not-laid
 
 all-own-keys-requires : tie.Need-all-own-keys-requires
-all-own-keys-requires c κs = search needs
+all-own-keys-requires c κs = search few-slots
 
 returns-3 : tie.Need-returns-3
 returns-3 c = search not-own
