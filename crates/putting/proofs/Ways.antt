@@ -13,19 +13,15 @@ use Rattle.format.specs.Bytes.{areAll}
 use Rattle.format.specs.Texts.{isNmi, isSuffix}
 use Rattle.format.specs.Numbers.{isLength}
 use Rattle.format.specs.Answers.{Answer, accepted, refusal, refusedAs, writtenAs}
-use Rattle.format.specs.Block.{Given, dayGiven, recordsOf, writeOf}
+use Rattle.format.specs.Block.{Given}
 use Rattle.format.specs.declared.Refusal.{Refusal}
 use Rattle.format.specs.declared.Written.{Written}
 use Rattle.format.specs.declared.Written.the-variants as written
-use Rattle.passing.proofs.Walk.{not-accepted}
+use Rattle.passing.proofs.Writes.{written-length, written-answer}
 use Rattle.entries.specs.Keys.{Key, goodKey}
-use Rattle.entries.specs.Entries.{entryAt}
-use Rattle.entries.specs.declared.Entry.{Entry}
 use Rattle.store.specs.Used.{taken, freed, held, freeFrom}
-use Rattle.store.specs.Ranges.{slotPlace}
-use Rattle.store.specs.Store.{blockSays}
 use Rattle.store.specs.Moves.{live}
-use Rattle.store.specs.Calls.{Left, left, seek, isThere, updateSaid, updateOf, slotFor, keyGiven, writeAnswer, putInto, putFit, putOf}
+use Rattle.store.specs.Calls.{Left, left, seek, isThere, updateOf, slotFor, keyGiven, writeAnswer, putInto, putFit, putOf}
 use Rattle.store.specs.declared.Header.{Header}
 use Rattle.used_map.proofs.Slots.{freed-fewer}
 use Rattle.settling.specs.Settling.{Settles}
@@ -37,23 +33,8 @@ use Rattle.opening.proofs.Ways.{opened-store, opened-header, opened-not}
 use Rattle.stored.proofs.Keys.{good}
 use Rattle.stored.proofs.Whole.{Whole, whole, slot-within}
 use Rattle.stored.proofs.Settle.{slot-before, settles-without}
-use Rattle.putting.proofs.Adds.{writes}
-use Rattle.putting.specs.Steps.{blockGiven, Addable, Enterable, Opens, Puttable}
-
--- ---- 18 and the slot
-
-pub not-kept : (m : List ℕ) (h : Header) (i update : ℕ) → h .slots ≤ i → false ≡ ltb i (h .slots) && leb update (updateOf m h i)
-not-kept m h i update l = rw (le-ltb i (h .slots) l)
-
-pub kept-since : (m : List ℕ) (h : Header) (i update : ℕ) → i < h .slots → {a u : ℕ} {e : Entry} → a ≡ slotPlace h i → e ≡ entryAt m a → u ≡ updateSaid (blockSays m h e)
-    → leb update u ≡ ltb i (h .slots) && leb update (updateOf m h i)
-kept-since m h i update l ea ee eu = rw (lt-ltb i (h .slots) l, ← ea, ← ee, ← eu)
-
-pub slot-known : (h : Header) (i : ℕ) → i < h .slots → i ≡ cond (ltb i (h .slots)) i (freeFrom (h .map) 0 (h .slots))
-slot-known h i l = rw (lt-ltb i (h .slots) l)
-
-pub slot-new : (h : Header) (i : ℕ) → h .slots ≤ i → {s : ℕ} → s ≡ freeFrom (h .map) 0 (h .slots) → s ≡ cond (ltb i (h .slots)) i (freeFrom (h .map) 0 (h .slots))
-slot-new h i l e = rw (le-ltb i (h .slots) l) e
+use Rattle.entering.specs.Enters.{Enterable}
+use Rattle.putting.specs.Steps.{blockGiven, Addable, Opens, Puttable}
 
 -- ---- a day whose block has so many bytes
 
@@ -81,11 +62,10 @@ length-small n e =
     (λ b. omega (arith, eqb-true n 15 b))
     (λ b. omega (arith, eqb-true n 30 (rw (a, b) at e))))
 
-length-known : (g : Given) (xs : List ℕ) → writeAnswer g ≡ accepted xs → isLength (g .head .length) ≡ true
-unfolding writeOf
-length-known g xs e = by (isLength (g .head .length)) (λ a. a) (λ a. not-accepted 16 0 0 0 xs (rw a at e))
+module _ {m : List ℕ} {h : Header} {x : Key} {g : Given} {bytes records : ℕ} (p : Puttable m h x g bytes records) where
+  pub bytes-are : bytes ≡ length (blockGiven g)
+  bytes-are = let z = written-answer g (length (blockGiven g)) (bytes ∷ records ∷ []) (p .answer) in cc
 
-module _ {m : List ℕ} {h : Header} {x : Key} {g : Given} {bytes : ℕ} (p : Puttable m h x g bytes) where
   is-whole : Whole m h
   is-whole = rw (p .opens .header) (whole m (p .opens .store))
 
@@ -114,7 +94,7 @@ module _ {m : List ℕ} {h : Header} {x : Key} {g : Given} {bytes : ℕ} (p : Pu
         live-within = omega (arith, en, live-most m h map settles)
 
         sum-is : n + bytes ≡ live m h (freed (h .map) (seek m h x)) + length (blockGiven g)
-        sum-is = rw (← ei, ← em, ← en, p .bytes-are) refl
+        sum-is = rw (← ei, ← em, ← en, bytes-are) refl
 
         pub put-20 : h .size - n < bytes → {a : Answer} → a ≡ refusal 20 → left a m ≡ putFit m h x g (blockGiven g)
         unfolding putFit
@@ -123,14 +103,13 @@ module _ {m : List ℕ} {h : Header} {x : Key} {g : Given} {bytes : ℕ} (p : Pu
             rw (sym same ∙ t, ← slot-is, lt-ltb s (h .slots) l, lt-leb _ (h .size) z, q)
 
         module _ (k : bytes ≤ h .size - n) where
-          pub addable : Addable m h map g
+          pub addable : Addable m h map g records
           addable =
               record {
                 settles = settles;
                 before = λ j f u. slot-before m h is-whole j (slot-within (h .map) (h .slots) j (is-whole .past) (freed-fewer (h .map) i j (rw em at u)));
-                fits = omega (arith, live-within, en, p .bytes-are);
-                numbers = p .numbers;
-                answer = p .answer;
+                fits = omega (arith, live-within, en, bytes-are);
+                answer = p .answer ∙ ap (λ (n : ℕ). accepted (n ∷ records ∷ [])) (bytes-are);
               }
 
           pub enterable : h .size < 4294967296 → Enterable (length m) h s (x .nmi) (x .suffix) (g .head .length) (live m h map) bytes
@@ -142,7 +121,7 @@ module _ {m : List ℕ} {h : Header} {x : Key} {g : Given} {bytes : ℕ} (p : Pu
                 within = omega (arith, slot-before m h w s l, w .inside);
                 nmi-long = long-nmi (x .nmi) (y .nmi);
                 suffix-long = long-suffix (x .suffix) (y .suffix);
-                short = length-small (g .head .length) (length-known g (p .numbers) (p .answer));
+                short = length-small (g .head .length) (written-length g (length (blockGiven g)) (bytes ∷ records ∷ []) (p .answer));
                 small = omega (arith, live-within, en);
               }
 
@@ -169,11 +148,8 @@ module _ {m : List ℕ} {h : Header} (o : Opens m h) (nmi suffix : List ℕ) (g 
         is : writeAnswer g ≡ accepted (n ∷ k ∷ [])
         is = sym ew ∙ ap writtenAs q
 
-        pub puttable : {x : Key} → x ≡ keyGiven nmi suffix g → Puttable m h x g n
-        puttable ex =
-            let z : accepted (n ∷ k ∷ []) ≡ accepted (length (blockGiven g) ∷ recordsOf (dayGiven g) ∷ []) =
-            sym is ∙ writes g (length (blockGiven g)) (n ∷ k ∷ []) is (omega arith) in
-            record { opens = o; good = rw ex (sym eb ∙ not-false b t); numbers = n ∷ k ∷ []; answer = is; bytes-are = cc }
+        pub puttable : {x : Key} → x ≡ keyGiven nmi suffix g → Puttable m h x g n k
+        puttable ex = record { opens = o; good = rw ex (sym eb ∙ not-false b t); answer = is }
 
         pub put-fit : {x : Key} {r : Left} → x ≡ keyGiven nmi suffix g → r ≡ putFit m h x g (blockGiven g) → r ≡ putOf m nmi suffix g
         unfolding putOf

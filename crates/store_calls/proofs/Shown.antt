@@ -12,25 +12,13 @@ use Rattle.page.specs.Filled.{Filled}
 use Rattle.page.proofs.Filling.{filled-then, filled-as}
 use Rattle.answer_lines.specs.Lines.{lineOf}
 use Rattle.calls.specs.Kept.{ending}
-use Rattle.store.specs.Head.{headerOf}
 use Rattle.store.specs.Calls.{Left, left, madeAs, keptAs, slotReadAs}
-use Rattle.store.specs.declared.Header.{Header}
 use Rattle.store.specs.declared.Made.{Made}
 use Rattle.store.specs.declared.Kept.{Kept}
-use Rattle.store.specs.declared.Kept.the-variants as kept
 use Rattle.store.specs.declared.SlotRead.{SlotRead}
 use Rattle.store.specs.declared.SlotRead.the-variants as slotRead
-use Rattle.store_calls.specs.Lines.{keptFrom, leftText, usedEnd, makeText, changeText, slotText}
-
-pub used-is : (m : List ℕ) {h : Header} → h ≡ headerOf m → h .room + h .used ≡ usedEnd m
-unfolding usedEnd
-used-is m e = rw e
-
-pub from-days : (m : List ℕ) {x : Kept} {n r : ℕ} → x ≡ kept.Days n → r ≡ usedEnd m → r ≡ keptFrom (keptAs x) (usedEnd m)
-from-days m e q = rw e q
-
-pub from-refused : (m : List ℕ) {x : Kept} {y : Refusal} → x ≡ kept.Refused y → 0 ≡ keptFrom (keptAs x) (usedEnd m)
-from-refused m e = rw e
+use Rattle.kept_bytes.specs.Kept.{keptFrom, usedEnd}
+use Rattle.store_calls.specs.Lines.{leftText, makeText, changeText, slotText}
 
 module _ {p₀ p₁ p₂ : List ℕ} {at i j : ℕ} where
   text-put : (l : Left) (place from : ℕ) (was : List ℕ) {k : Bool} → from ≡ keptFrom (l .answer) place → k ≡ same (drop from (l .memory)) (drop from was)

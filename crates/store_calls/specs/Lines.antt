@@ -7,21 +7,12 @@ use Rattle.ground.specs.Text.{bytes}
 use Rattle.format.specs.Answers.{Answer, accepted, refused}
 use Rattle.answer_lines.specs.Lines.{lineOf}
 use Rattle.calls.specs.Kept.{ending}
-use Rattle.store.specs.Head.{headerOf}
 use Rattle.store.specs.Calls.{Left}
-
--- from where on memory has to be as it was: from a place behind an accepted call, all of it behind a refusal
-abbrev pub keptFrom : Answer → ℕ → ℕ
-keptFrom (accepted xs) place = place
-keptFrom (refused x p k i) place = 0
+use Rattle.kept_bytes.specs.Kept.{keptFrom, usedEnd}
 
 -- the answer, and whether memory is kept
 unfoldable pub leftText : Left → ℕ → List ℕ → List ℕ
 leftText l place m = lineOf (l .answer) ++ ending (same (drop (keptFrom (l .answer) place) (l .memory)) (drop (keptFrom (l .answer) place) m))
-
--- where the used bytes end
-unfoldable pub usedEnd : List ℕ → ℕ
-usedEnd m = headerOf m .room + headerOf m .used
 
 -- a making writes the header, a put and a delete nothing behind the bytes that are used then
 abbrev pub makeText : Left → List ℕ → List ℕ

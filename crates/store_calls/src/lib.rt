@@ -13,11 +13,12 @@ use deleting::delete_day;
 use edit_calls::is_kept;
 use format::DayHead;
 use getting::get_day;
+use kept_bytes::changed_from;
+use kept_bytes::made_from;
 use making::make_store;
 use page::texts::part;
 use putting::put_day;
 use slot_reading::read_slot;
-use slots::read_header;
 use store::Kept;
 use store::Made;
 use text::bytes::put_bytes;
@@ -29,34 +30,8 @@ ghost use Rattle.format.specs.Block.{given};
 ghost use Rattle.page.specs.Filled.{Filled};
 ghost use Rattle.calls.specs.Lines.{dayText, lentValues, lentMarks};
 ghost use Rattle.entries.specs.Keys.{key};
-ghost use Rattle.store.specs.Calls.{left, madeAs, keptAs, makeOf, putOf, deleteOf, getOf, readSlotOf};
-ghost use Rattle.store_calls.specs.Lines.{keptFrom, usedEnd, makeText, changeText, slotText};
-
-// From where on memory has to be as it was.
-fn made_from(x: Made) -> usize
-    ensures { λ r. ⌜ r ≡ keptFrom (madeAs x) 32 ⌝ }
-{
-    match x {
-        Made::Room(_) => 32,
-        Made::Refused(_) => 0,
-    }
-}
-
-fn used_end(memory: &[u8]) -> usize
-    ensures { λ r. ⌜ r ≡ usedEnd (now (memory .entry)) ⌝ }
-{
-    let h = read_header(memory);
-    h.room as usize + h.used as usize
-}
-
-fn changed_from(x: Kept, memory: &[u8]) -> usize
-    ensures { λ r. ⌜ r ≡ keptFrom (keptAs x) (usedEnd (now (memory .entry))) ⌝ }
-{
-    match x {
-        Kept::Days(_) => used_end(memory),
-        Kept::Refused(_) => 0,
-    }
-}
+ghost use Rattle.store.specs.Calls.{left, keptAs, makeOf, putOf, deleteOf, getOf, readSlotOf};
+ghost use Rattle.store_calls.specs.Lines.{makeText, changeText, slotText};
 
 // The line of a put or a delete.
 fn changed(page: &mut [u8], at: usize, x: Kept, memory: &[u8], was: &[u8]) -> usize

@@ -1,7 +1,7 @@
 -- Each way out of the writer: the answer that the meaning gives there, and what it leaves of the room. Assumes nothing.
 use Prim.Native.Nat.{ℕ, _≤_, _<_}
-use mathlib.Core.Path.{_≡_, refl, sym, ap₂, _∙_}
-use mathlib.Core.Bool.{Bool, true, false, cond, not, _&&_}
+use mathlib.Core.Path.{_≡_, refl, sym, ap, ap₂, _∙_}
+use mathlib.Core.Bool.{Bool, true, false, cond, not, _&&_, true≢false}
 use mathlib.Core.List.{List, [], _∷_}
 use native.Mathlib.Omega.{arith}
 use lib.ListN.{length, take}
@@ -15,12 +15,13 @@ use Rattle.ground.proofs.Room.{sets-front}
 use Rattle.format.specs.Numbers.{intervalsOf}
 use Rattle.format.specs.Units.{decimalsOf}
 use Rattle.format.specs.Answers.{Answer, accepted, refusal, writtenAs}
-use Rattle.format.specs.Day.{Five, five, Day, enoughFor}
-use Rattle.format.specs.Block.{given, intervalsGiven, markGiven, dayGiven, fitMark, fitValue, fitDay, isInside, fitGiven, valuesText, blockOf, enough, writeOf, roomOf}
+use Rattle.format.specs.Day.{Five, five, Day, over, enoughFor}
+use Rattle.format.specs.Block.{given, intervalsGiven, markGiven, dayGiven, fitMark, fitValue, fitDay, isInside, fitGiven, valuesText, blockOf, recordsOf, enough, writeOf, roomOf}
 use Rattle.format.specs.declared.DayHead.{DayHead}
 use Rattle.format.specs.declared.Written.{Written}
 use Rattle.format.specs.declared.Written.the-variants.{Block}
 use Rattle.format.proofs.Numbers.{intervals-most, intervals-known}
+use Rattle.passing.proofs.Writes.{written-length, written-lists, written-fit, written-room, written-answer}
 use Rattle.text.specs.Inside.{inside}
 use Rattle.fit.specs.Tags.{tagFrom, markOf, marksFrom, tagInside, insideAt, fitMarks}
 use Rattle.value_texts.specs.declared.Measured.{Measured}
@@ -191,3 +192,33 @@ module _ (h : DayHead) (vs fs ms rs ss ls text : List ℕ) {n : ℕ} (e : n ≡ 
         pub day-left : after ≡ roomOf (given h vs fs ms rs ss ls text) room
         unfolding roomOf
         day-left = rw (← answered (length room), same-day) (x .left)
+
+  -- a day that was measured
+  module _ {b records : ℕ} (k : ℕ) (w : writeOf (given h vs fs ms rs ss ls text) k ≡ accepted (b ∷ records ∷ [])) where
+    measured-some : n ≡ 0 → ⊥
+    measured-some z = true≢false (sym (written-length (given h vs fs ms rs ss ls text) k (b ∷ records ∷ []) w) ∙ intervals-known (h .length) ∙ rw (← e, z))
+
+    measured-long : true ≡ enoughFor n (length vs) (length fs) (length ms) (length rs) (length ss) (length ls)
+    unfolding enough intervalsGiven
+    measured-long = rw e (sym (written-lists (given h vs fs ms rs ss ls text) k (b ∷ records ∷ []) w))
+
+    pub measured-cut : n ≡ length (take n vs)
+    measured-cut = values-cut n vs fs ms rs ss ls measured-long refl
+
+    pub measured-fit : FitDay h n (take n vs) (five fs ms rs ss ls) text
+    measured-fit =
+        record {
+          ready = lists-ready n vs fs ms rs ss ls measured-long refl (h .length) e measured-some;
+          fit = sym same-fit ∙ written-fit (given h vs fs ms rs ss ls text) k (b ∷ records ∷ []) w;
+        }
+
+    pub measured-records : records ≡ recordsOf (dayWith h n (take n vs) (five fs ms rs ss ls) text)
+    measured-records = let z = written-answer (given h vs fs ms rs ss ls text) k (b ∷ records ∷ []) w in let y : records ≡ recordsOf (dayGiven (given h vs fs ms rs ss ls text)) = cc in y ∙ ap recordsOf same-day
+
+    pub measured-room : length (blockOf (dayWith h n (take n vs) (five fs ms rs ss ls) text)) ≤ k
+    measured-room = rw (← same-day) (written-room (given h vs fs ms rs ss ls text) k (b ∷ records ∷ []) w)
+
+    pub measured-put : {p : ℕ} {room after : List ℕ} → k ≡ length room → Put room 0 (blockOf (dayWith h n (take n vs) (five fs ms rs ss ls) text)) p after
+        → after ≡ over (blockOf (dayGiven (given h vs fs ms rs ss ls text))) room
+    measured-put {p} {room} ek x =
+        x .room ∙ sets-front room (blockOf (dayWith h n (take n vs) (five fs ms rs ss ls) text)) (omega (arith, measured-room)) ∙ ap (λ (d : Day). over (blockOf d) room) (sym same-day)

@@ -9,9 +9,10 @@ use lists::enough;
 use number_rules::intervals;
 use value_texts::Measured;
 ghost use mathlib.Core.Path.{_≡_};
+ghost use mathlib.Core.List.{[], _∷_};
 ghost use lib.ListN.{length};
-ghost use Rattle.format.specs.Answers.{writtenAs};
-ghost use Rattle.format.specs.Day.{five};
+ghost use Rattle.format.specs.Answers.{accepted, writtenAs};
+ghost use Rattle.format.specs.Day.{five, over};
 ghost use Rattle.format.specs.Block.{given, dayGiven, valuesText, blockOf, writeOf, roomOf};
 ghost use Rattle.block.specs.Pieces.{dayWith, fitWith, Ready, FitDay};
 ghost use Rattle.writing.specs.Layers.{placedOf, answeredOf, measuredOf, Writes};
@@ -246,4 +247,36 @@ pub fn measure_day(
         text,
         n,
     )
+}
+
+// Writes the block of a day that measure_day has answered for, and asks nothing again.
+pub fn write_measured(
+    day: DayHead,
+    values: &[u64],
+    flags: &[u8],
+    methods: &[u8],
+    reasons: &[u16],
+    starts: &[usize],
+    lengths: &[usize],
+    text: &[u8],
+    room: &mut [u8],
+    records: usize,
+)
+    requires { ⌜ writeOf (given day (now values) (now flags) (now methods) (now reasons) (now starts) (now lengths) (now text)) (length (now room)) ≡ accepted (length (blockOf (dayGiven (given day (now values) (now flags) (now methods) (now reasons) (now starts) (now lengths) (now text)))) ∷ records ∷ []) ⌝ }
+    ensures { λ _. ⌜ now (room .exit) ≡ over (blockOf (dayGiven (given day (now (values .entry)) (now (flags .entry)) (now (methods .entry)) (now (reasons .entry)) (now (starts .entry)) (now (lengths .entry)) (now (text .entry))))) (now (room .entry)) ⌝ }
+{
+    let n = intervals(day.length as u64);
+    put_block(
+        room,
+        day,
+        &values[..n],
+        flags,
+        methods,
+        reasons,
+        starts,
+        lengths,
+        text,
+        n,
+        records,
+    );
 }

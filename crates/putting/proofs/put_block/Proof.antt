@@ -1,5 +1,5 @@
 -- `putting::put_block` meets its contract. Assumes nothing.
-use Rattle.putting.proofs.Ways.{put-18, put-19, live-within, put-20, addable, enterable, put-done}
+use Rattle.putting.proofs.Ways.{put-18, put-19, live-within, put-20, addable, enterable, put-done, bytes-are}
 use borrow.Author.Needs.{needs}
 use Rattle.putting.proofs.put_block.Statement.{statement}
 use Rattle.putting.proofs.put_block.Tie as tie
@@ -53,7 +53,7 @@ returns-3 : tie.Need-returns-3
 returns-3 c = put-20 (c .before .before .before .before .before .before .before .before .before .before .before .before .before .before .before .before .before .before .before .before .before .before .before .before .pre) (c .before .before .before .before .before .before .before .before .before .before .before .before .find-slot .ensures) (c .before .before .before .before .before .before .before .before .before .before .is-kept-since .ensures) (c .before .before .before .before .before .before .before .before .before .if1 .left) (c .before .before .before .before .before .before .before .before .slot-for .ensures) (c .before .before .before .before .before .before .if2 .left) (c .before .before .before .before .before .set-free .ensures) (c .before .before .before .live-bytes .ensures) (c .before .if3 .taken) (c .bare3 .ensures)
 
 put-there-requires : tie.Need-put-there-requires
-put-there-requires c κs = (addable (c .before .before .before .before .before .before .before .before .before .before .before .before .before .before .before .before .before .before .before .before .before .before .before .before .pre) (c .before .before .before .before .before .before .before .before .before .before .before .before .find-slot .ensures) (c .before .before .before .before .before .before .before .before .before .before .is-kept-since .ensures) (c .before .before .before .before .before .before .before .before .before .if1 .left) (c .before .before .before .before .before .before .before .before .slot-for .ensures) (c .before .before .before .before .before .before .if2 .left) (c .before .before .before .before .before .set-free .ensures) (c .before .before .before .live-bytes .ensures) (c .before .if3 .left), c .before .before .before .before .before .before .before .before .before .before .before .before .before .before .before .before .before .before .before .before .before .before .before .before .pre .bytes-are, enterable (c .before .before .before .before .before .before .before .before .before .before .before .before .before .before .before .before .before .before .before .before .before .before .before .before .pre) (c .before .before .before .before .before .before .before .before .before .before .before .before .find-slot .ensures) (c .before .before .before .before .before .before .before .before .before .before .is-kept-since .ensures) (c .before .before .before .before .before .before .before .before .before .if1 .left) (c .before .before .before .before .before .before .before .before .slot-for .ensures) (c .before .before .before .before .before .before .if2 .left) (c .before .before .before .before .before .set-free .ensures) (c .before .before .before .live-bytes .ensures) (c .before .if3 .left) (search needs))
+put-there-requires c κs = (addable (c .before .before .before .before .before .before .before .before .before .before .before .before .before .before .before .before .before .before .before .before .before .before .before .before .pre) (c .before .before .before .before .before .before .before .before .before .before .before .before .find-slot .ensures) (c .before .before .before .before .before .before .before .before .before .before .is-kept-since .ensures) (c .before .before .before .before .before .before .before .before .before .if1 .left) (c .before .before .before .before .before .before .before .before .slot-for .ensures) (c .before .before .before .before .before .before .if2 .left) (c .before .before .before .before .before .set-free .ensures) (c .before .before .before .live-bytes .ensures) (c .before .if3 .left), bytes-are (c .before .before .before .before .before .before .before .before .before .before .before .before .before .before .before .before .before .before .before .before .before .before .before .before .pre), enterable (c .before .before .before .before .before .before .before .before .before .before .before .before .before .before .before .before .before .before .before .before .before .before .before .before .pre) (c .before .before .before .before .before .before .before .before .before .before .before .before .find-slot .ensures) (c .before .before .before .before .before .before .before .before .before .before .is-kept-since .ensures) (c .before .before .before .before .before .before .before .before .before .if1 .left) (c .before .before .before .before .before .before .before .before .slot-for .ensures) (c .before .before .before .before .before .before .if2 .left) (c .before .before .before .before .before .set-free .ensures) (c .before .before .before .live-bytes .ensures) (c .before .if3 .left) (search needs))
 
 same-length-4 : tie.Need-same-length-4
 same-length-4 c = search needs

@@ -1,8 +1,8 @@
--- `store_calls::changed_from` meets its contract. Assumes nothing.
-use Rattle.store_calls.proofs.Shown.{from-days, from-refused}
+-- `kept_bytes::changed_from` meets its contract. Assumes nothing.
+use Rattle.kept_bytes.proofs.Ways.{from-days, from-refused}
 use borrow.Author.Needs.{needs}
-use Rattle.store_calls.proofs.changed_from.Statement.{statement}
-use Rattle.store_calls.proofs.changed_from.Tie as tie
+use Rattle.kept_bytes.proofs.changed_from.Statement.{statement}
+use Rattle.kept_bytes.proofs.changed_from.Tie as tie
 
 enum-told : tie.Need-enum-told
 enum-told c = search needs

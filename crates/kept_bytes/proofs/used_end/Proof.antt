@@ -1,8 +1,8 @@
--- `store_calls::used_end` meets its contract. Assumes nothing.
-use Rattle.store_calls.proofs.Shown.{used-is}
+-- `kept_bytes::used_end` meets its contract. Assumes nothing.
+use Rattle.kept_bytes.proofs.Ways.{used-is}
 use borrow.Author.Needs.{needs}
-use Rattle.store_calls.proofs.used_end.Statement.{statement}
-use Rattle.store_calls.proofs.used_end.Tie as tie
+use Rattle.kept_bytes.proofs.used_end.Statement.{statement}
+use Rattle.kept_bytes.proofs.used_end.Tie as tie
 
 read-header-requires : tie.Need-read-header-requires
 read-header-requires c κs = search needs

@@ -1,8 +1,8 @@
--- `putting::enter_day` meets its contract. Assumes nothing.
-use Rattle.putting.proofs.Enters.{entry-within, entered}
+-- `entering::enter_day` meets its contract. Assumes nothing.
+use Rattle.entering.proofs.Enters.{entry-within, entered}
 use borrow.Author.Needs.{needs}
-use Rattle.putting.proofs.enter_day.Statement.{statement}
-use Rattle.putting.proofs.enter_day.Tie as tie
+use Rattle.entering.proofs.enter_day.Statement.{statement}
+use Rattle.entering.proofs.enter_day.Tie as tie
 
 place-requires : tie.Need-place-requires
 place-requires c κs = search needs

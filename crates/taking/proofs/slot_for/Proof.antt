@@ -1,8 +1,8 @@
--- `putting::slot_for` meets its contract. Assumes nothing.
-use Rattle.putting.proofs.Ways.{slot-known, slot-new}
+-- `taking::slot_for` meets its contract. Assumes nothing.
+use Rattle.taking.proofs.Ways.{slot-known, slot-new}
 use borrow.Author.Needs.{needs}
-use Rattle.putting.proofs.slot_for.Statement.{statement}
-use Rattle.putting.proofs.slot_for.Tie as tie
+use Rattle.taking.proofs.slot_for.Statement.{statement}
+use Rattle.taking.proofs.slot_for.Tie as tie
 
 returns : tie.Need-returns
 returns c = search slot-known

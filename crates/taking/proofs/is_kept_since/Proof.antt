@@ -1,8 +1,8 @@
--- `putting::is_kept_since` meets its contract. Assumes nothing.
-use Rattle.putting.proofs.Ways.{not-kept, kept-since}
+-- `taking::is_kept_since` meets its contract. Assumes nothing.
+use Rattle.taking.proofs.Ways.{not-kept, kept-since}
 use borrow.Author.Needs.{needs}
-use Rattle.putting.proofs.is_kept_since.Statement.{statement}
-use Rattle.putting.proofs.is_kept_since.Tie as tie
+use Rattle.taking.proofs.is_kept_since.Statement.{statement}
+use Rattle.taking.proofs.is_kept_since.Tie as tie
 
 returns : tie.Need-returns
 returns c = search not-kept
