@@ -75,7 +75,7 @@ abbrev pub Turned : List ℕ → ℕ → BlockWalk → BlockTurn → Type 0
 Turned memory start t (On u) = Walking memory start u × (t .at < u .at) × ((xs : List ℕ) → leftOf memory start xs t ≡ leftOf memory start xs u)
 Turned memory start t (Stop x) = (xs : List ℕ) → leftOf memory start xs t ≡ refusedAs x
 
--- at the end, whatever the 300 says: the block is whole, with so many records, or its refusal is the answer
+-- what the walk from t on comes to, whatever the 300 says: the block is whole, with so many records, or its refusal is the answer
 abbrev pub Ended : List ℕ → ℕ → BlockWalk → BlockEnd → Type 0
 Ended memory start t (Whole k) = (xs : List ℕ) → leftOf memory start xs t ≡ accepted (xs ++ k ∷ [])
 Ended memory start t (blockEnd.Stopped x) = (xs : List ℕ) → leftOf memory start xs t ≡ refusedAs x

@@ -57,7 +57,8 @@ fn is_at(n: u32, o: u32, p: usize) -> bool
     o as usize == p
 }
 
-// The same. Where range i is a block at p, as it is behind the last one moved while blocks lie side by side in the order of their slots, no other is looked at.
+// What `next_block` answers. Where range i is a block at p no other is looked at: behind the last block that moved it is the next range's, as long as blocks lie side by
+// side in the order of their slots.
 fn next_from(places: &[u32], lengths: &[u32], p: usize, i: usize) -> usize
     requires { ⌜ length (now places) ≡ length (now lengths) ⌝ }
     ensures { λ r. ⌜ Next (now (places .entry)) (now (lengths .entry)) p r ⌝ }

@@ -1,4 +1,4 @@
--- The offsets and the lengths of the used slots' blocks, read into a list, and the offsets written: as loops meet them. Assumes nothing.
+-- A number of each used slot, the offset of its block, the length or the date, read into a list, and the offsets written: as loops meet them. Assumes nothing.
 use Prim.Native.Nat.{ℕ, _+_, _-_, _≤_, _<_}
 use mathlib.Core.Path.{_≡_, refl, sym, ap, _∙_}
 use mathlib.Core.List.{List, _++_, append-nil}

@@ -20,10 +20,10 @@ enum-known-turn-2 : tie.Need-enum-known-turn-2
 enum-known-turn-2 c = search needs
 
 returns : tie.Need-returns
-returns c = search (entire-on, entire-stopped)
+returns c = search entire-on
 
 returns-2 : tie.Need-returns-2
-returns-2 c = search (entire-on, entire-stopped)
+returns-2 c = search entire-stopped
 
 pub walk-block-spec : {M : Type 1} → statement M
 walk-block-spec = tie.close (tie.spec new-requires over-requires enum-known-turn walk-from-requires enum-known-turn-2 returns returns-2)

@@ -50,10 +50,10 @@ enum-known-end-2 : tie.Need-enum-known-end-2
 enum-known-end-2 c = search needs
 
 returns-4 : tie.Need-returns-4
-returns-4 c = search (whole-stopped, whole-block)
+returns-4 c = search whole-stopped
 
 returns-5 : tie.Need-returns-5
-returns-5 c = search (whole-stopped, whole-block)
+returns-5 c = search whole-block
 
 pub walk-bytes-spec : {M : Type 1} → statement M
 walk-bytes-spec =

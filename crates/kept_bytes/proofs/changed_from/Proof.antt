@@ -14,10 +14,10 @@ enum-told-2 : tie.Need-enum-told-2
 enum-told-2 c = search needs
 
 returns : tie.Need-returns
-returns c = search (from-days, from-refused)
+returns c = search from-days
 
 returns-2 : tie.Need-returns-2
-returns-2 c = search (from-days, from-refused)
+returns-2 c = search from-refused
 
 pub changed-from-spec : {M : Type 1} → statement M
 changed-from-spec = tie.close (tie.spec enum-told used-end-requires enum-told-2 returns returns-2)
