@@ -9,7 +9,8 @@ use Rattle.format.specs.Answers.{Answer, accepted, refusal}
 use Rattle.entries.specs.Keys.{Key}
 use Rattle.store.specs.Used.{freed, held}
 use Rattle.store.specs.Head.{headerOf, headerBytes, headerWith}
-use Rattle.store.specs.Calls.{Left, left, seek, deleteFrom, deleteOf}
+use Rattle.entries.specs.Left.{Left, left}
+use Rattle.store.specs.Calls.{seek, deleteFrom, deleteOf}
 use Rattle.store.specs.declared.Header.{Header}
 use Rattle.settling.specs.Settling.{Settles, Settled}
 use Rattle.opening.specs.Opens.{openedOf}

@@ -11,7 +11,8 @@ use used_map::count;
 use used_map::set_free;
 ghost use mathlib.Core.Path.{_≡_};
 ghost use Rattle.entries.specs.Keys.{key};
-ghost use Rattle.store.specs.Calls.{left, keptAs, deleteFrom, deleteOf};
+ghost use Rattle.entries.specs.Left.{left};
+ghost use Rattle.store.specs.Calls.{keptAs, deleteFrom, deleteOf};
 ghost use Rattle.settling.specs.Settling.{Settles};
 
 // The blocks of the slots that the map has in use move down, and the header says so.

@@ -19,7 +19,7 @@ use Rattle.whose.proofs.find_day.Reads as find-reads
 use Rattle.replacing.specs.Replace.{Left}
 use Rattle.replacing.proofs.replace_day.Kinds as replace-kinds
 use Rattle.replacing.proofs.replace_day.Reads as replace-reads
-use Rattle.store.specs.Calls as Calls
+use Rattle.entries.specs.Left as Lent
 use Rattle.making.proofs.make_store.Kinds as make-kinds
 use Rattle.making.proofs.make_store.Reads as make-reads
 use Rattle.putting.proofs.put_day.Kinds as put-kinds
@@ -77,16 +77,16 @@ one-replace κs a x y e f p q = let o = p ∙ sym q in (replaced-one x y (ap (λ
 -- `make_store`: the answer, and every byte of memory
 pub one-make : (κs : Lfts 1) (a : Dens κs make-kinds.ps) (x y : resT make-kinds.r κs .Denot) (e f : AtExit (endedOf 1 make-kinds.ps make-kinds.r) κs)
     → make-reads.Learnt κs a x e → make-reads.Learnt κs a y f → (x ≡ y) × (now (e .0) ≡ now (f .0))
-one-make κs a x y e f p q = let o = p ∙ sym q in (made-one x y (ap (λ (u : Calls.Left). u .answer) o), ap (λ (u : Calls.Left). u .memory) o)
+one-make κs a x y e f p q = let o = p ∙ sym q in (made-one x y (ap (λ (u : Lent.Left). u .answer) o), ap (λ (u : Lent.Left). u .memory) o)
 
 -- `put_day` and `delete_day` likewise
 pub one-put : (κs : Lfts 10) (a : Dens κs put-kinds.ps) (x y : resT put-kinds.r κs .Denot) (e f : AtExit (endedOf 10 put-kinds.ps put-kinds.r) κs)
     → put-reads.Learnt κs a x e → put-reads.Learnt κs a y f → (x ≡ y) × (now (e .0) ≡ now (f .0))
-one-put κs a x y e f p q = let o = p ∙ sym q in (kept-one x y (ap (λ (u : Calls.Left). u .answer) o), ap (λ (u : Calls.Left). u .memory) o)
+one-put κs a x y e f p q = let o = p ∙ sym q in (kept-one x y (ap (λ (u : Lent.Left). u .answer) o), ap (λ (u : Lent.Left). u .memory) o)
 
 pub one-delete : (κs : Lfts 3) (a : Dens κs delete-kinds.ps) (x y : resT delete-kinds.r κs .Denot) (e f : AtExit (endedOf 3 delete-kinds.ps delete-kinds.r) κs)
     → delete-reads.Learnt κs a x e → delete-reads.Learnt κs a y f → (x ≡ y) × (now (e .0) ≡ now (f .0))
-one-delete κs a x y e f p q = let o = p ∙ sym q in (kept-one x y (ap (λ (u : Calls.Left). u .answer) o), ap (λ (u : Calls.Left). u .memory) o)
+one-delete κs a x y e f p q = let o = p ∙ sym q in (kept-one x y (ap (λ (u : Lent.Left). u .answer) o), ap (λ (u : Lent.Left). u .memory) o)
 
 -- `get_day`: the answer, the values, and the five lists of marks
 pub one-get : (κs : Lfts 9) (a : Dens κs get-kinds.ps) (x y : resT get-kinds.r κs .Denot) (e f : AtExit (endedOf 9 get-kinds.ps get-kinds.r) κs)

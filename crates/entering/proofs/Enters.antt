@@ -12,7 +12,7 @@ use Rattle.entries.specs.Entries.{entryBytes}
 use Rattle.store.specs.Used.{taken, held}
 use Rattle.store.specs.Head.{headerBytes, headerWith}
 use Rattle.store.specs.Ranges.{slotPlace}
-use Rattle.store.specs.Calls.{left}
+use Rattle.entries.specs.Left.{left}
 use Rattle.store.specs.declared.Header.{Header}
 use Rattle.entering.specs.Enters.{Enterable, enteredOf}
 

@@ -11,7 +11,7 @@ use Rattle.entries.specs.Entries.{entryBytes}
 use Rattle.store.specs.Used.{taken, held}
 use Rattle.store.specs.Head.{headerBytes, headerWith}
 use Rattle.store.specs.Ranges.{slotPlace}
-use Rattle.store.specs.Calls.{Left, left}
+use Rattle.entries.specs.Left.{Left, left}
 use Rattle.store.specs.declared.Header.{Header}
 
 -- slot s can be written for a block of so many bytes at that offset

@@ -11,7 +11,8 @@ use used_map::set_used;
 ghost use mathlib.Core.Path.{_≡_};
 ghost use lib.ListN.{length};
 ghost use Rattle.entries.specs.Keys.{key};
-ghost use Rattle.store.specs.Calls.{left, keptAs};
+ghost use Rattle.entries.specs.Left.{left};
+ghost use Rattle.store.specs.Calls.{keptAs};
 ghost use Rattle.entering.specs.Enters.{Enterable, enteredOf};
 
 // Writes slot s for the day, whose block of so many bytes lies at that offset, and the header.

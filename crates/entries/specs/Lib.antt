@@ -1,3 +1,4 @@
 pub mod Little
 pub mod Keys
 pub mod Entries
+pub mod Left

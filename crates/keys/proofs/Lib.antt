@@ -1,2 +1,3 @@
-mod Letters
+pub mod Letters
+pub mod Capitals
 mod Keys

@@ -1,7 +1,10 @@
-// Keys: whether one is good, whether one is as it is kept, and whether a kept one is that of an NMI, a suffix and a date.
+// Keys: whether one is good, whether one is as it is kept, whether a kept one is that of an NMI, a suffix and a date; and letters written as they are kept.
 use date_rules::calendar::is_date;
 use units::capital;
 ghost use mathlib.Core.Path.{_≡_};
+ghost use Prim.Native.Nat.{_+_, _≤_};
+ghost use lib.ListN.{length};
+ghost use lib.Seq.{sets};
 ghost use lib.Dec.{eqb};
 ghost use Rattle.ground.specs.Lists.{same};
 ghost use Rattle.format.specs.Bytes.{capital as Bytes·capital};
@@ -75,4 +78,16 @@ pub fn is_key(
         return false;
     }
     same_capitals(suffix, kept_suffix)
+}
+
+// Writes bytes from place `at` on, small letters as capitals.
+pub fn put_capitals(m: &mut [u8], at: usize, s: &[u8])
+    requires { ⌜ at + length (now s) ≤ length (now m) ⌝ }
+    ensures { λ _. ⌜ now (m .exit) ≡ sets (now (m .entry)) at (capitals (now (s .entry))) ⌝ }
+{
+    let mut i: usize = 0;
+    while i < s.len() {
+        m[at + i] = capital(s[i]);
+        i += 1;
+    }
 }

@@ -12,7 +12,8 @@ use Rattle.format.specs.Answers.{Answer, accepted, refusal}
 use Rattle.format.specs.File.{most}
 use Rattle.store.specs.Head.{headerBytes}
 use Rattle.store.specs.Store.{slotted}
-use Rattle.store.specs.Calls.{left, roomAt, newHeader, makeOf}
+use Rattle.entries.specs.Left.{left}
+use Rattle.store.specs.Calls.{roomAt, newHeader, makeOf}
 
 -- b is what `is_slotted` answers
 module _ (n : ℕ) {b : Bool} (e : b ≡ slotted n) where

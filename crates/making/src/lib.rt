@@ -9,7 +9,8 @@ ghost use mathlib.Core.Bool.{true};
 ghost use Prim.Native.Nat.{min, _≤_};
 ghost use Rattle.format.specs.File.{most};
 ghost use Rattle.store.specs.Store.{slotted};
-ghost use Rattle.store.specs.Calls.{left, madeAs, makeOf};
+ghost use Rattle.entries.specs.Left.{left};
+ghost use Rattle.store.specs.Calls.{madeAs, makeOf};
 
 // The most that a room has.
 const MOST: usize = 1048576;

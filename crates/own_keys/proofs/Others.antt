@@ -42,7 +42,7 @@ module _ (m : List ℕ) (h : Header) (i j : ℕ) {a b : ℕ} (ea : a ≡ slotPla
 
 module _ (m : List ℕ) (h : Header) {l : List ℕ} (w : Dated m h l) where
   date-at : (i : ℕ) → i < h .slots → getD l i 0 ≡ fieldOf m h (h .map) 12 i
-  date-at i a = ap (λ (z : List ℕ). getD z i 0) (w .are) ∙ from-here (fieldOf m h (h .map) 12) 64 i (omega (arith, w .few))
+  date-at i a = ap (λ (z : List ℕ). getD z i 0) (w .are) ∙ from-here (fieldOf m h (h .map) 12) 0 64 i (omega (arith, w .few))
 
   pub dates-long : h .slots ≤ length l
   dates-long = omega (arith, w .few, ap length (w .are), length-from (fieldOf m h (h .map) 12) 0 64)

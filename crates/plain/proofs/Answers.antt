@@ -13,7 +13,8 @@ use Rattle.entries.specs.Keys.{Key}
 use Rattle.store.specs.Used.{taken, held, freeFrom}
 use Rattle.store.specs.Ranges.{slotOf}
 use Rattle.store.specs.Moves.{live}
-use Rattle.store.specs.Calls.{Left, left, refuse, unless, seek, isThere, updateOf, slotFor, mapWithout, putInto, putFit, dayRows}
+use Rattle.entries.specs.Left.{Left, left, refuse, unless}
+use Rattle.store.specs.Calls.{seek, isThere, updateOf, slotFor, mapWithout, putInto, putFit, dayRows}
 use Rattle.store.specs.declared.Header.{Header}
 use Rattle.stored.proofs.Seek.{there}
 use Rattle.stored.proofs.Whole.{Whole}

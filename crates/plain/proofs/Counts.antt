@@ -1,6 +1,6 @@
 -- Slots in use counted: a slot is free exactly where fewer are held than there are. And the live bytes, with a slot more and without it. Assumes nothing.
 use Prim.Native.Nat.{ℕ, zero, suc, _+_, _-_, _≤_, _<_}
-use mathlib.Core.Path.{_≡_, refl, sym, ap, ap₂, _∙_}
+use mathlib.Core.Path.{_≡_, sym, ap, _∙_}
 use mathlib.Core.Bool.{true, false, cond, true≢false}
 use mathlib.Core.List.{List, [], _∷_}
 use native.Mathlib.Omega.{arith}
@@ -9,6 +9,7 @@ use lib.Dec.{ltb}
 use borrow.Author.Tests.{lt-ltb, le-ltb}
 use Rattle.ground.specs.Lists.{from, sum}
 use Rattle.ground.proofs.Cases.{split, same-or, by}
+use Rattle.ground.proofs.From.{from-same}
 use Rattle.store.specs.Used.{used, taken, usedFrom, held, freeFrom, nonePast}
 use Rattle.store.specs.Ranges.{slotOf}
 use Rattle.store.specs.Moves.{live}
@@ -55,11 +56,6 @@ free-some map n few past =
 
 -- ---- sums
 
-pub from-same : {X : Type 0} (f g : ℕ → X) (k n : ℕ) → ((i : ℕ) → k ≤ i → g i ≡ f i) → from g k n ≡ from f k n
-unfolding from
-from-same f g k zero h = refl
-from-same {X} f g k (suc n) h = ap₂ (λ (x : X) (xs : List X). x ∷ xs) (h k (omega arith)) (from-same f g (suc k) n (λ i l. h i (omega arith)))
-
 -- of two lists that differ at s only
 sum-more : (f g : ℕ → ℕ) (s v k n : ℕ) → k ≤ s → s < k + n → ((i : ℕ) → (i ≡ s → ⊥) → g i ≡ f i) → g s ≡ f s + v → sum (from g k n) ≡ sum (from f k n) + v
 unfolding from
@@ -68,7 +64,7 @@ sum-more f g s v k (suc n) l h o e =
     same-or k s
     (λ q.
     let a : g k ≡ f k + v = ap g q ∙ e ∙ ap (λ (i : ℕ). f i + v) (sym q) in
-    let b : sum (from g (suc k) n) ≡ sum (from f (suc k) n) = ap sum (from-same f g (suc k) n (λ i c. o i (λ d. let z : ⊥ = omega arith in z))) in
+    let b : sum (from g (suc k) n) ≡ sum (from f (suc k) n) = ap sum (from-same f g (suc k) n (λ i c e. o i (λ d. let z : ⊥ = omega arith in z))) in
     omega arith)
     (λ q. let r = sum-more f g s v (suc k) n (omega arith) (omega arith) o e in let a = o k q in omega arith)
 

@@ -20,7 +20,8 @@ use Rattle.store.specs.Head.{headerOf}
 use Rattle.store.specs.Ranges.{slotOf}
 use Rattle.store.specs.Moves.{live}
 use Rattle.store.specs.Store.{isStore}
-use Rattle.store.specs.Calls.{Left, unless, seek, isThere, updateOf, slotFor, mapWithout, putFit, orRefused, keyGiven, writeAnswer, putOf, dayRows}
+use Rattle.entries.specs.Left.{Left, unless}
+use Rattle.store.specs.Calls.{seek, isThere, updateOf, slotFor, mapWithout, putFit, orRefused, keyGiven, writeAnswer, putOf, dayRows}
 use Rattle.store.specs.declared.Header.{Header}
 use Rattle.passing.proofs.Walk.{not-accepted}
 use Rattle.plain.specs.Stays.{dayHeld}

@@ -12,6 +12,7 @@ use borrow.Author.Tests.{leb-true}
 use Rattle.ground.specs.Lists.{from, sum}
 use Rattle.ground.proofs.Tests.{and-true}
 use Rattle.ground.proofs.Cases.{by}
+use Rattle.ground.proofs.From.{from-same}
 use Rattle.format.specs.Answers.{accepted}
 use Rattle.entries.specs.Keys.{Key}
 use Rattle.store.specs.Used.{used, usedFrom, held}
@@ -27,7 +28,6 @@ use Rattle.settling.proofs.Slots.{length-starts, length-sizes, size-free}
 use Rattle.passing.proofs.Walk.{not-accepted}
 use Rattle.stored.proofs.Seek.{seek-none}
 use Rattle.stored.proofs.Whole.{Whole}
-use Rattle.plain.proofs.Counts.{from-same}
 use Rattle.plain.proofs.Again.{Small}
 
 -- the map of no slot
@@ -88,7 +88,7 @@ module _ (m : List ℕ) (n : ℕ) (some : 1 ≤ n) (few : n ≤ 64) (enough : ro
 
   pub made-live : live new h (h .map) ≡ 0
   unfolding live from newHeader
-  made-live = ap sum (from-same (λ i. 0) (λ i. cond (used 0 i) (slotOf new h i .size) 0) 0 64 (λ i l. rw (empty i)))
+  made-live = ap sum (from-same (λ i. 0) (λ i. cond (used 0 i) (slotOf new h i .size) 0) 0 64 (λ i l e. rw (empty i)))
 
 -- what a make that is accepted passed
 pub record Makes (m : List ℕ) (n r : ℕ) : Type 0 where

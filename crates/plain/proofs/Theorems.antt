@@ -10,7 +10,8 @@ use Rattle.entries.specs.Keys.{Key, capitalKey, sameKey}
 use Rattle.store.specs.Head.{headerOf}
 use Rattle.store.specs.Moves.{live}
 use Rattle.store.specs.Store.{isStore}
-use Rattle.store.specs.Calls.{left, mapWithout, keyGiven, makeOf, putOf, deleteOf}
+use Rattle.entries.specs.Left.{left}
+use Rattle.store.specs.Calls.{mapWithout, keyGiven, makeOf, putOf, deleteOf}
 use Rattle.slots.proofs.Back.{header-fits}
 use Rattle.plain.specs.Plain.{Call, put, get, delete, said, storeStep, seenByStore, seenByPlain, emptyPlain}
 use Rattle.plain.specs.Stays.{dayHeld, blockHeld, named, memoryAfter, AreBytes, StillPut, StillDelete}

@@ -18,7 +18,8 @@ use Rattle.store.specs.Head.{headerOf}
 use Rattle.store.specs.Ranges.{slotOf}
 use Rattle.store.specs.Moves.{live}
 use Rattle.store.specs.Store.{blockIn}
-use Rattle.store.specs.Calls.{Left, left, seek, isThere, slotFor, mapWithout, putInto, putFit, keyGiven, writeAnswer, putOf, deleteFrom, deleteOf, dayRows, getOf}
+use Rattle.entries.specs.Left.{Left, left}
+use Rattle.store.specs.Calls.{seek, isThere, slotFor, mapWithout, putInto, putFit, keyGiven, writeAnswer, putOf, deleteFrom, deleteOf, dayRows, getOf}
 use Rattle.store.specs.Calls as store
 use Rattle.store.specs.declared.Header.{Header}
 use Rattle.plain.specs.Plain.{Call, put, get, delete, Seen, said, Held, Plain, Turn, Step, storeStep, plainTurn, seenByStore, seenByPlain, dayFor, without, bytesOf, keeping, putPlace, putOver, putPlain, getPlain, deletePlain, stepBy, gotBy, seenOf}

@@ -14,7 +14,8 @@ use Rattle.store.specs.Used.{taken, held}
 use Rattle.store.specs.Head.{headerOf, headerBytes, headerWith}
 use Rattle.store.specs.Moves.{live, movedDown}
 use Rattle.store.specs.Store.{isStore}
-use Rattle.store.specs.Calls.{Left, left, unless, seek, isThere, updateOf, slotFor, mapWithout, putInto, putFit, orRefused, keyGiven, writeAnswer, putOf, deleteFrom, deleteOf}
+use Rattle.entries.specs.Left.{Left, left, unless}
+use Rattle.store.specs.Calls.{seek, isThere, updateOf, slotFor, mapWithout, putInto, putFit, orRefused, keyGiven, writeAnswer, putOf, deleteFrom, deleteOf}
 use Rattle.store.specs.declared.Header.{Header}
 use Rattle.passing.proofs.Walk.{not-accepted}
 

@@ -11,7 +11,8 @@ use Rattle.format.specs.Day.{Day, Five, Outcome, roomFor}
 use Rattle.format.specs.Block.{Given, dayGiven, blockOf}
 use Rattle.format.specs.Quality.{Mark}
 use Rattle.entries.specs.Keys.{Key, capitalKey, goodKey, sameKey}
-use Rattle.store.specs.Calls.{Left, keyGiven, writeAnswer, putOf, deleteOf, getOf}
+use Rattle.entries.specs.Left.{Left}
+use Rattle.store.specs.Calls.{keyGiven, writeAnswer, putOf, deleteOf, getOf}
 
 -- ---- calls, and what is seen of them
 

@@ -7,7 +7,8 @@ use Rattle.format.specs.Answers.{accepted}
 use Rattle.format.specs.Block.{Given}
 use Rattle.entries.specs.Keys.{Key}
 use Rattle.store.specs.Used.{taken, held}
-use Rattle.store.specs.Calls.{Left, left, entryFor, putInto}
+use Rattle.entries.specs.Left.{Left, left}
+use Rattle.store.specs.Calls.{entryFor, putInto}
 use Rattle.store.specs.declared.Header.{Header}
 use Rattle.entering.specs.Enters.{enteredOf}
 use Rattle.putting.specs.Steps.{blockGiven, Added}

@@ -21,7 +21,8 @@ use Rattle.passing.proofs.Writes.{written-length, written-answer}
 use Rattle.entries.specs.Keys.{Key, goodKey}
 use Rattle.store.specs.Used.{taken, freed, held, freeFrom}
 use Rattle.store.specs.Moves.{live}
-use Rattle.store.specs.Calls.{Left, left, seek, isThere, updateOf, slotFor, keyGiven, writeAnswer, putInto, putFit, putOf}
+use Rattle.entries.specs.Left.{Left, left}
+use Rattle.store.specs.Calls.{seek, isThere, updateOf, slotFor, keyGiven, writeAnswer, putInto, putFit, putOf}
 use Rattle.store.specs.declared.Header.{Header}
 use Rattle.used_map.proofs.Slots.{freed-fewer}
 use Rattle.settling.specs.Settling.{Settles}

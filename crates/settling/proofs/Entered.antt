@@ -94,7 +94,7 @@ module _ (m : List ℕ) (h : Header) (map more : ℕ) (block : List ℕ) (s : �
       (λ d. ap g d ∙ here ∙ sym (ap (λ (i : ℕ). getD (set l s v) i 0) d ∙ getD-set-same l s v 0 (omega (arith, z .slot))))
       (λ d.
       ap₂ (λ (b : Bool) (x : Entry). cond b (f x) 0) (z .added .others j d) (other-slot j d)
-      ∙ sym (getD-set-other l s j v 0 d ∙ from-here (λ i. cond (used map i) (f (slotOf moved h i)) 0) 64 j a)))
+      ∙ sym (getD-set-other l s j v 0 d ∙ from-here (λ i. cond (used map i) (f (slotOf moved h i)) 0) 0 64 j a)))
 
   pub starts-entered : starts (entered m h map block s k e) h more ≡ set (newStarts m h map) s (live m h map)
   starts-entered =

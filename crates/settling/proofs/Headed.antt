@@ -39,7 +39,7 @@ module _ (m : List ℕ) (h : Header) (map end : ℕ) where
     same x f =
         let g : ℕ → ℕ = λ i. cond (used x i) (f (slotOf m h i)) 0 in
         from-list (from g 0 64) (λ i. cond (used x i) (f (slotOf (headed m h map end) (headerWith h map end) i)) 0) 64 (length-from g 0 64) (λ j a.
-        ap (λ (e : Entry). cond (used x j) (f e) 0) (slot-headed j) ∙ sym (from-here g 64 j a))
+        ap (λ (e : Entry). cond (used x j) (f e) 0) (slot-headed j) ∙ sym (from-here g 0 64 j a))
 
     pub starts-headed : (x : ℕ) → starts (headed m h map end) (headerWith h map end) x ≡ starts m h x
     starts-headed x = same x (λ e. e .start)

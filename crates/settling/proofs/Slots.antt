@@ -20,10 +20,10 @@ module _ (m : List ℕ) (h : Header) (map : ℕ) where
 
   module _ (i : ℕ) (l : i < 64) where
     start-here : getD (starts m h map) i 0 ≡ cond (used map i) (slotOf m h i .start) 0
-    start-here = from-here (λ j. cond (used map j) (slotOf m h j .start) 0) 64 i l
+    start-here = from-here (λ j. cond (used map j) (slotOf m h j .start) 0) 0 64 i l
 
     size-here : getD (sizes m h map) i 0 ≡ cond (used map i) (slotOf m h i .size) 0
-    size-here = from-here (λ j. cond (used map j) (slotOf m h j .size) 0) 64 i l
+    size-here = from-here (λ j. cond (used map j) (slotOf m h j .size) 0) 0 64 i l
 
     pub start-used : used map i ≡ true → getD (starts m h map) i 0 ≡ slotOf m h i .start
     start-used t = start-here ∙ rw t

@@ -1,20 +1,19 @@
 -- The header and an entry as their numbers one by one: read, and written one behind the other. Assumes nothing.
-use Prim.Native.Nat.{ℕ, _+_, _≤_, _<_}
+use Prim.Native.Nat.{ℕ, _+_, _≤_}
 use mathlib.Core.Path.{_≡_, refl, sym, ap}
 use mathlib.Core.List.{List, _++_, append-assoc}
 use native.Mathlib.Omega.{arith}
-use lib.ListN.{length, set, getD, drop-of-length-le, length-map, List·getD-map}
+use lib.ListN.{length, drop-of-length-le}
 use lib.Seq.{sets, take-nil}
 use Rattle.ground.specs.Room.{Put}
 use Rattle.ground.proofs.Room.{put-then, put-as}
-use Rattle.format.specs.Bytes.{capital}
-use Rattle.text.proofs.Loops.{Copied, copied-more, copied-all}
 use Rattle.entries.specs.Little.{number, numberAt, inBytes}
 use Rattle.entries.specs.Keys.{key, capitals, capitalKey}
 use Rattle.entries.specs.Entries.{entryAt, entryBytes}
 use Rattle.entries.specs.declared.Entry.{Entry}
 use Rattle.store.specs.Head.{headerOf, headerBytes}
 use Rattle.store.specs.declared.Header.{Header}
+use Rattle.keys.proofs.Letters.{length-capitals}
 use Rattle.little.proofs.Numbers.{put-in}
 use Rattle.slots.specs.Fields.{numbersOf}
 
@@ -68,23 +67,6 @@ pub entry-there : (m : List ℕ) (a : ℕ) {x u b n : ℕ} → x ≡ numberAt m 
     → record { minutes = x; unit = u; start = b; size = n } ≡ entryAt m a
 unfolding entryAt
 entry-there m a e f g h = rw (e, f, g, h)
-
--- ---- capitals: i bytes of them are written
-
-length-capitals : (s : List ℕ) → length (capitals s) ≡ length s
-length-capitals s = length-map s capital
-
-capital-at : (s : List ℕ) (i : ℕ) → getD (capitals s) i 0 ≡ capital (getD s i 0)
-unfolding capital
-capital-at s i = List·getD-map capital s i 0
-
-module _ (l₀ : List ℕ) (at : ℕ) (s : List ℕ) where
-  pub capitals-more : (l : List ℕ) (i : ℕ) {b : ℕ} → i < length s → b ≡ capital (getD s i 0) → Copied l₀ at (capitals s) l i
-      → Copied l₀ at (capitals s) (set l (at + i) b) (i + 1)
-  capitals-more l i h e r = rw (e, ← capital-at s i) (copied-more l₀ at (capitals s) l i (omega (arith, length-capitals s)) r)
-
-  pub capitals-all : (l : List ℕ) (i : ℕ) → length s ≤ i → Copied l₀ at (capitals s) l i → l ≡ sets l₀ at (capitals s)
-  capitals-all l i h r = copied-all l₀ at (capitals s) l i (omega (arith, length-capitals s)) r .room
 
 -- ---- an entry, written
 

@@ -1,18 +1,18 @@
 // A store's header and its slots in lent memory, read and written. Reading is total: bytes that the memory lacks count as 0.
 use entries::Entry;
+use keys::put_capitals;
 use little::put_number;
 use little::u8_at;
 use little::u32_at;
 use little::u64_at;
 use store::Header;
-use units::capital;
 use used_map::is_used;
 ghost use mathlib.Core.Path.{_≡_};
 ghost use Prim.Native.Nat.{_+_, _≤_, _<_};
 ghost use lib.ListN.{length};
 ghost use lib.Seq.{sets};
 ghost use Rattle.ground.specs.Lists.{from};
-ghost use Rattle.entries.specs.Keys.{key, capitals, capitalKey};
+ghost use Rattle.entries.specs.Keys.{key, capitalKey};
 ghost use Rattle.entries.specs.Entries.{entryAt, entryBytes};
 ghost use Rattle.store.specs.Head.{headerOf, headerBytes};
 ghost use Rattle.store.specs.Ranges.{slotPlace, starts, sizes};
@@ -79,18 +79,6 @@ pub fn read_entry(m: &[u8], at: usize) -> Entry
         unit: u8_at(m, at + 17),
         start: u32_at(m, at + START),
         size: u32_at(m, at + SIZE),
-    }
-}
-
-// Writes bytes from place `at` on, small letters as capitals.
-pub fn put_capitals(m: &mut [u8], at: usize, s: &[u8])
-    requires { ⌜ at + length (now s) ≤ length (now m) ⌝ }
-    ensures { λ _. ⌜ now (m .exit) ≡ sets (now (m .entry)) at (capitals (now (s .entry))) ⌝ }
-{
-    let mut i: usize = 0;
-    while i < s.len() {
-        m[at + i] = capital(s[i]);
-        i += 1;
     }
 }
 

@@ -11,6 +11,7 @@ use Rattle.format.specs.Answers.{Answer, accepted, refused, refusal, refusedAs}
 use Rattle.format.specs.File.{most}
 use Rattle.format.specs.Day.{rowAt, BlockRows, runsFrom, Five, Outcome, outcome, roomFor, readInto}
 use Rattle.format.specs.Block.{Given, dayGiven, blockOf, writeOf}
+use Rattle.entries.specs.Left.{Left, left, unless}
 use Rattle.entries.specs.Keys.{Key, key, capitalKey, goodKey, sameKey}
 use Rattle.entries.specs.Entries.{keyAt, entryBytes}
 use Rattle.entries.specs.declared.Entry.{Entry}
@@ -27,14 +28,6 @@ use Rattle.store.specs.declared.Kept.the-variants as kept
 use Rattle.store.specs.declared.SlotRead.{SlotRead}
 use Rattle.store.specs.declared.SlotRead.the-variants as slotRead
 
--- what a call answers, and the memory that it leaves
-pub record Left : Type 0 where
-  pub answer : Answer
-  pub memory : List ℕ
-
-abbrev pub left : Answer → List ℕ → Left
-left a m = record { answer = a; memory = m }
-
 -- the room's length
 abbrev pub madeAs : Made → Answer
 madeAs (made.Room n) = accepted (n ∷ [])
@@ -44,14 +37,6 @@ madeAs (made.Refused x) = refusedAs x
 abbrev pub keptAs : Kept → Answer
 keptAs (kept.Days n) = accepted (n ∷ [])
 keptAs (kept.Refused x) = refusedAs x
-
--- a refusal leaves every byte of memory
-abbrev pub refuse : ℕ → List ℕ → Left
-refuse x m = left (refusal x) m
-
--- the refusal x unless the test holds
-abbrev pub unless : Bool → ℕ → List ℕ → Left → Left
-unless t x m l = cond t l (refuse x m)
 
 -- ---- make
 

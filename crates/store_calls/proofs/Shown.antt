@@ -12,7 +12,8 @@ use Rattle.page.specs.Filled.{Filled}
 use Rattle.page.proofs.Filling.{filled-then, filled-as}
 use Rattle.answer_lines.specs.Lines.{lineOf}
 use Rattle.calls.specs.Kept.{ending}
-use Rattle.store.specs.Calls.{Left, left, madeAs, keptAs, slotReadAs}
+use Rattle.entries.specs.Left.{Left, left}
+use Rattle.store.specs.Calls.{madeAs, keptAs, slotReadAs}
 use Rattle.store.specs.declared.Made.{Made}
 use Rattle.store.specs.declared.Kept.{Kept}
 use Rattle.store.specs.declared.SlotRead.{SlotRead}

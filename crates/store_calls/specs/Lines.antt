@@ -7,7 +7,7 @@ use Rattle.ground.specs.Text.{bytes}
 use Rattle.format.specs.Answers.{Answer, accepted, refused}
 use Rattle.answer_lines.specs.Lines.{lineOf}
 use Rattle.calls.specs.Kept.{ending}
-use Rattle.store.specs.Calls.{Left}
+use Rattle.entries.specs.Left.{Left}
 use Rattle.kept_bytes.specs.Kept.{keptFrom, usedEnd}
 
 -- the answer, and whether memory is kept

@@ -30,7 +30,8 @@ ghost use Rattle.format.specs.Block.{given};
 ghost use Rattle.page.specs.Filled.{Filled};
 ghost use Rattle.calls.specs.Lines.{dayText, lentValues, lentMarks};
 ghost use Rattle.entries.specs.Keys.{key};
-ghost use Rattle.store.specs.Calls.{left, keptAs, makeOf, putOf, deleteOf, getOf, readSlotOf};
+ghost use Rattle.entries.specs.Left.{left};
+ghost use Rattle.store.specs.Calls.{keptAs, makeOf, putOf, deleteOf, getOf, readSlotOf};
 ghost use Rattle.store_calls.specs.Lines.{makeText, changeText, slotText};
 
 // The line of a put or a delete.

@@ -1,13 +1,13 @@
--- `slots::put_capitals` meets its contract: i bytes of the capitals are written (`Copied`). Each place is inside by the contract. Assumes nothing.
+-- `keys::put_capitals` meets its contract: i bytes of the capitals are written (`Copied`). Each place is inside by the contract. Assumes nothing.
 use Prim.Native.Nat.{_≤_, _-_}
 use Rattle.entries.specs.Keys.{capitals}
-use Rattle.slots.proofs.Numbers.{capitals-more, capitals-all}
+use Rattle.keys.proofs.Letters.{capitals-more, capitals-all}
 use Rattle.text.proofs.Loops.{Copied, copied-none}
 use borrow.Author.Needs.{needs}
 use lib.ListN.{length}
 use native.Mathlib.Omega.{arith}
-use Rattle.slots.proofs.put_capitals.Statement.{statement}
-use Rattle.slots.proofs.put_capitals.Tie as tie
+use Rattle.keys.proofs.put_capitals.Statement.{statement}
+use Rattle.keys.proofs.put_capitals.Tie as tie
 
 abbrev Inv-loop : tie.InvT-loop
 Inv-loop m₀ at s i₀ m i = (i ≤ length s) × Copied m₀ at (capitals s) m i
