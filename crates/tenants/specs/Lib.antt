@@ -1,0 +1,3 @@
+pub mod Outputs
+pub mod Versions
+pub mod Calls
