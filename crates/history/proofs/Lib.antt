@@ -1,0 +1,6 @@
+mod Sound
+mod Fits
+mod Adds
+pub mod Dates
+pub mod Theorems
+pub mod Exactly
