@@ -9,9 +9,11 @@ mod damage;
 mod edited;
 mod edits;
 mod files;
+mod keys;
 mod length_sweep;
 #[cfg(test)]
 mod lengths;
+mod maps;
 #[cfg(test)]
 mod midnights;
 #[cfg(test)]
@@ -19,6 +21,7 @@ mod null_data;
 #[cfg(test)]
 mod parts;
 mod requests;
+mod scene;
 mod stores;
 mod sweep;
 mod table_sweep;
@@ -32,7 +35,8 @@ mod writes;
 
 use chance::Chance;
 
-pub use stores::sequence;
+pub use maps::sequence as map_sequence;
+pub use stores::sequence as store_sequence;
 pub use table_sweep::file;
 
 /// The cases with these numbers have files at the limit of length and above it. There are few, as they are large. They

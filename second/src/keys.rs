@@ -1,6 +1,11 @@
-//! Keys: an NMI, a suffix and a date, by which a day is known where no file is.
+//! Keys: an NMI, a suffix and a date, by which a day is known where no file is. Without a date they name a channel.
 
 use crate::fields::{is_real_date, Rule};
+
+/// Whether these are an NMI and a suffix, in letters of either case.
+pub fn names_channel(nmi: &[u8], suffix: &[u8]) -> bool {
+    Rule::Nmi.allows(nmi) && Rule::Suffix.allows(suffix)
+}
 
 /// A good key. Letters compare without case, so they are held as capitals.
 #[derive(Clone, Debug, PartialEq, Eq, Hash)]
@@ -13,7 +18,7 @@ pub struct Key {
 impl Key {
     /// The key that these name, in letters of either case. None if it is no good one.
     pub fn named(nmi: &[u8], suffix: &[u8], date: u32) -> Option<Key> {
-        let is_good = Rule::Nmi.allows(nmi) && Rule::Suffix.allows(suffix) && is_real_date(date);
+        let is_good = names_channel(nmi, suffix) && is_real_date(date);
         is_good.then(|| Key { nmi: nmi.to_ascii_uppercase(), suffix: suffix.to_ascii_uppercase(), date })
     }
 

@@ -20,6 +20,7 @@ mod replace;
 mod settled;
 mod store;
 mod table;
+mod tenants;
 mod total;
 mod units;
 mod walk;
@@ -32,7 +33,7 @@ use std::path::Path;
 use std::process::ExitCode;
 
 const USAGE: &str = "usage: second probe [--tally] | second cases SEED COUNT | second stores SEED COUNT | \
-                     second files SEED COUNT FOLDER | second csv FILE | second daily FILE";
+                     second maps SEED COUNT | second files SEED COUNT FOLDER | second csv FILE | second daily FILE";
 
 fn main() -> ExitCode {
     let arguments: Vec<String> = std::env::args().skip(1).collect();
@@ -45,7 +46,11 @@ fn main() -> ExitCode {
             _ => return usage(),
         },
         ["stores", seed, count] => match (seed.parse(), count.parse()) {
-            (Ok(seed), Ok(count)) => make_cases(cases::sequence, seed, count),
+            (Ok(seed), Ok(count)) => make_cases(cases::store_sequence, seed, count),
+            _ => return usage(),
+        },
+        ["maps", seed, count] => match (seed.parse(), count.parse()) {
+            (Ok(seed), Ok(count)) => make_cases(cases::map_sequence, seed, count),
             _ => return usage(),
         },
         ["files", seed, count, folder] => match (seed.parse(), count.parse()) {

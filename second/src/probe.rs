@@ -1,5 +1,6 @@
 //! The probe: cases in, answers out, line by line.
 
+mod maps;
 mod stores;
 
 use crate::block::check_block;
@@ -55,7 +56,7 @@ pub struct Tally {
     pub all: Counts,
     /// Those to `block` cases, which are among all too.
     pub blocks: Counts,
-    /// Likewise those to `find` and to `replace` cases, and to each kind of case about a store.
+    /// Likewise those to `find` and to `replace` cases, and to each kind of case about a store or a map.
     pub finds: Counts,
     pub replacements: Counts,
     pub makes: Counts,
@@ -63,6 +64,10 @@ pub struct Tally {
     pub gets: Counts,
     pub deletes: Counts,
     pub slots: Counts,
+    pub map_makes: Counts,
+    pub adds: Counts,
+    pub backs: Counts,
+    pub questions: Counts,
     /// The slots that were read and are free. They are not among those accepted.
     pub free_slots: u64,
     /// The accepted replacements behind which the edited file was checked at once, and accepted.
@@ -99,6 +104,11 @@ impl Tally {
             lines += &counts.lines(before, refusal::of_stores());
         }
         lines += &format!("slot free {}\n", self.free_slots);
+        for (before, counts) in
+            [("makemap ", &self.map_makes), ("add ", &self.adds), ("back ", &self.backs), ("on ", &self.questions)]
+        {
+            lines += &counts.lines(before, refusal::of_maps());
+        }
         if self.bad_case {
             lines += "bad case 1\n";
         }
@@ -109,7 +119,7 @@ impl Tally {
 /// Answers each case of the input in turn. The first bad case is answered too, and ends the run.
 pub fn run(input: &[u8], output: &mut impl Write) -> io::Result<Tally> {
     let mut tally = Tally::default();
-    // The one memory that is lent to all cases about stores.
+    // The one memory that is lent to all cases about stores and maps.
     let mut memory = Vec::new();
     let mut rest = Input { bytes: input };
     while !rest.bytes.is_empty() {
@@ -164,6 +174,7 @@ fn answer_case(input: &mut Input, memory: &mut Vec<u8>, tally: &mut Tally) -> Op
             answer_replace(room, length, day, input.lent(block)?, tally)
         }
         [b"write", ref numbers @ ..] => answer_write(input, numbers, tally),
+        [b"makemap" | b"add" | b"back" | b"on", ..] => maps::answer_case(&words, input, memory, tally),
         _ => stores::answer_case(&words, input, memory, tally),
     }
 }
@@ -401,6 +412,25 @@ fn day_line(read: DayRead, lists: &OwnLists) -> Vec<u8> {
     }
     end_line(&mut line, lists.changed_from(read.n));
     line
+}
+
+/// The line for a call that may change the memory and gives a number. After a refusal nothing may have changed, and
+/// after an accepted call nothing behind what it fills, which is so much of the memory as it is then.
+fn change_line(
+    answer: Result<usize, Refusal>,
+    before: &[u8],
+    after: &[u8],
+    filled: impl Fn(&[u8]) -> usize,
+) -> Vec<u8> {
+    match answer {
+        Ok(number) => {
+            let kept_from = filled(after);
+            let mut line = format!("accepted {number}").into_bytes();
+            end_line(&mut line, before[kept_from..] != after[kept_from..]);
+            line
+        }
+        Err(refusal) => refusal_line(refusal, before != after),
+    }
 }
 
 fn end_line(line: &mut Vec<u8>, changed: bool) {

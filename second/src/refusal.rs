@@ -25,7 +25,7 @@ pub const COVER_INCOMPLETE: u64 = 10;
 pub const DAY_ALL_ALIKE: u64 = 11;
 pub const READ_OUTSIDE_DAY: u64 = 12;
 pub const BYTES_AFTER_END: u64 = 13;
-/// Also a key that a store does not hold.
+/// Also a key that a store does not hold, and a date or a number for which a map has no version.
 pub const NO_SUCH_NUMBER: u64 = 14;
 pub const LENT_TOO_SHORT: u64 = 15;
 /// Also an interval length or a unit that is none, of a block on its own, and a key that is none of a day to be kept.
@@ -33,14 +33,19 @@ pub const DAY_UNFIT: u64 = 16;
 pub const DAY_NOT_NEWER: u64 = 18;
 pub const SLOTS_ALL_USED: u64 = 19;
 pub const ROOM_EXCEEDED: u64 = 20;
+/// Also memory that is no map.
 pub const NO_STORE: u64 = 21;
+pub const VERSIONS_ALL_USED: u64 = 23;
+/// Of a version's first date, also of one that is no date.
+pub const DATE_FALLS: u64 = 24;
+pub const ENTRY_UNFIT: u64 = 25;
 
-/// The highest refusal number. (17 was struck: no total of a file reaches 2^64.)
-pub const LAST: u64 = NO_STORE;
+/// The highest refusal number. (17 was struck: no total of a file reaches 2^64. Nothing here gives 22.)
+pub const LAST: u64 = ENTRY_UNFIT;
 
 /// The numbers of all refusals.
 pub fn numbers() -> impl Iterator<Item = u64> {
-    of_files().chain(DAY_NOT_NEWER..=NO_STORE)
+    of_files().chain(DAY_NOT_NEWER..=NO_STORE).chain(VERSIONS_ALL_USED..=ENTRY_UNFIT)
 }
 
 /// Those that files, blocks and days to be written can get.
@@ -50,7 +55,12 @@ pub fn of_files() -> impl Iterator<Item = u64> {
 
 /// Those that calls on a store can get.
 pub fn of_stores() -> impl Iterator<Item = u64> {
-    numbers().filter(|number| *number >= NO_SUCH_NUMBER)
+    numbers().filter(|number| (NO_SUCH_NUMBER..=NO_STORE).contains(number))
+}
+
+/// Those that calls on a tenant map can get.
+pub fn of_maps() -> impl Iterator<Item = u64> {
+    [NO_SUCH_NUMBER, LENT_TOO_SHORT, NO_STORE].into_iter().chain(VERSIONS_ALL_USED..=ENTRY_UNFIT)
 }
 
 impl Refusal {

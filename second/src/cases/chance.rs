@@ -21,6 +21,11 @@ impl Chance {
         Chance::for_case(seed ^ 0x6A09_E667_F3BC_C908, number)
     }
 
+    /// For the sequence of a map's calls of this number, likewise.
+    pub fn for_map_sequence(seed: u64, number: u64) -> Chance {
+        Chance::for_case(seed ^ 0xBB67_AE85_84CA_A73B, number)
+    }
+
     pub fn next(&mut self) -> u64 {
         self.state = self.state.wrapping_add(0x9E37_79B9_7F4A_7C15);
         let mut mixed = self.state;

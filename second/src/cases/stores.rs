@@ -16,13 +16,14 @@ mod scene;
 
 use super::chance::Chance;
 use super::files;
+use super::keys::{bad_key, ToldKey, BAD_KEYS};
+use super::scene::{background, Scene};
 use super::sweep::which;
 use super::writes::{self, Draft};
 use crate::store::layout::{HEADER_LENGTH, MOST_SLOTS, SLOT_LENGTH};
 use broken::{AT_THE_EDGE, BROKEN};
-use days::{bad_key, update_than, Than, ToldKey, BAD_KEYS};
-use hand::{background, Plan};
-use scene::Scene;
+use days::{update_than, Than};
+use hand::Plan;
 
 /// Sequences come in rounds of this many.
 pub const ROUND: u64 = 40;

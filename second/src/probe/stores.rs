@@ -1,7 +1,6 @@
 //! Cases about the lent memory: what it is, and the calls that make a store of it and use that.
 
-use super::{end_line, head_of, number, read_line, refusal_line, Input, OwnLists, Tally, ToldDay, LONGEST_LIST};
-use crate::refusal::Refusal;
+use super::{change_line, head_of, number, read_line, refusal_line, Input, OwnLists, Tally, ToldDay, LONGEST_LIST};
 use crate::store::{delete_day, end_of_blocks, get_day, make_store, put_day, read_slot, SlotRead, HEADER_LENGTH};
 use crate::write::DayHead;
 
@@ -105,25 +104,6 @@ fn answer_slot(memory: &[u8], slot: usize, tally: &mut Tally) -> Vec<u8> {
             format!("accepted {nmi} {suffix} {date} {length} {unit} {update} {start} {end}\n").into_bytes()
         }
         Err(refusal) => refusal_line(refusal, false),
-    }
-}
-
-/// The line for a call that may change the memory and gives a number. After a refusal nothing may have changed, and
-/// after an accepted call nothing behind what it fills, which is so much of the memory as it is then.
-fn change_line(
-    answer: Result<usize, Refusal>,
-    before: &[u8],
-    after: &[u8],
-    filled: impl Fn(&[u8]) -> usize,
-) -> Vec<u8> {
-    match answer {
-        Ok(number) => {
-            let kept_from = filled(after);
-            let mut line = format!("accepted {number}").into_bytes();
-            end_line(&mut line, before[kept_from..] != after[kept_from..]);
-            line
-        }
-        Err(refusal) => refusal_line(refusal, before != after),
     }
 }
 

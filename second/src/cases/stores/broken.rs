@@ -3,8 +3,8 @@
 use super::super::blocks;
 use super::super::chance::Chance;
 use super::super::files::{self, Channel, Draft};
+use super::super::keys::{self, ToldKey};
 use super::super::words;
-use super::days::{self, ToldKey};
 use super::hand::{self, Hand, Plan};
 use crate::block::check_block;
 use crate::store::layout::{Slot, HEADER_LENGTH, SLOT_LENGTH};
@@ -350,7 +350,7 @@ pub const BROKEN: [Lent; 62] = [
         let keys: Vec<u32> = hand.used.iter().map(|slot| hand.slots[*slot].date).collect();
         let slot = hand.any_used_slot(chance);
         slot.date = loop {
-            let date = if chance.one_in(2) { words::date(chance) } else { days::other_date(chance, slot.date) };
+            let date = if chance.one_in(2) { words::date(chance) } else { keys::other_date(chance, slot.date) };
             if !keys.contains(&date) {
                 break date;
             }

@@ -1,9 +1,9 @@
 //! For tests: the calls of a run, each with the memory before it, its answer, and the memory that it leaves.
 
+use super::super::keys::ToldKey;
 use super::super::parts::{number, numbers};
 use super::super::requests::words_and_bytes;
 use super::super::writes::Draft;
-use super::days::ToldKey;
 use super::sequence;
 use crate::day::{DayRead, LentLists};
 use crate::keys::Key;

@@ -5,7 +5,7 @@ use super::broken::{self, AT_THE_EDGE, BROKEN};
 use super::called::calls_of_run;
 use super::{AT_THE_EDGE_PER_ROUND, BAD_KEYS_PER_ROUND, BROKEN_PER_ROUND, LARGE, ROUND};
 use crate::block::{check_block, read_block};
-use crate::cases::stores::days::BAD_KEYS;
+use crate::cases::keys::BAD_KEYS;
 use crate::fields::is_real_date;
 use crate::store::layout::{Header, Slot, SLOT_LENGTH};
 use crate::store::reading::read_store;

@@ -3,10 +3,11 @@
 
 use super::super::chance::Chance;
 use super::super::files::{self, Channel, Draft};
-use super::days::{self, ToldKey};
+use super::super::keys::ToldKey;
+use super::super::scene::background;
+use super::days;
 use crate::store::layout::{Header, Slot, HEADER_LENGTH, SLOT_LENGTH};
 use crate::units::Unit;
-use std::iter;
 
 /// A day that a store is to hold.
 #[derive(Clone)]
@@ -198,15 +199,6 @@ fn free_slot(chance: &mut Chance, slots_of_days: &[(usize, Slot)]) -> Slot {
         0 if !slots_of_days.is_empty() => slots_of_days[chance.below(slots_of_days.len())].1.clone(),
         1 => Slot::read(&[chance.pick(b"\x00\xff"); SLOT_LENGTH], 0),
         _ => Slot::read(&background(chance, SLOT_LENGTH), 0),
-    }
-}
-
-/// So many bytes, any ones, all alike or such as stand in blocks.
-pub fn background(chance: &mut Chance, length: usize) -> Vec<u8> {
-    match chance.below(5) {
-        0 => vec![chance.pick(b"\x00\xff\xa5 "); length],
-        1 => b"300,20030501,1,A,,\r\n500,S,,,\r\n".iter().copied().cycle().take(length).collect(),
-        _ => iter::repeat_with(|| chance.below(256) as u8).take(length).collect(),
     }
 }
 

@@ -1,7 +1,7 @@
 //! Tests: a run has calls of every kind that the rules tell apart, and two refusals at once wherever their order counts.
 
+use super::super::keys::ToldKey;
 use super::called::{calls_of_run, Accepted, Call, Called, Interval};
-use super::days::ToldKey;
 use super::{sequence, LARGE};
 use crate::fields::{intervals_in_day, is_real_date, is_time};
 use crate::probe;

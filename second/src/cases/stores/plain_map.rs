@@ -2,9 +2,9 @@
 //! slots and the bytes of its room.
 
 use super::super::chance::Chance;
+use super::super::keys::ToldKey;
 use super::super::writes::Draft;
 use super::called::{calls_of, calls_of_run, Accepted, Call, Called, Interval};
-use super::days::ToldKey;
 use super::{made, some_call};
 use crate::day::DayRead;
 use crate::keys::Key;

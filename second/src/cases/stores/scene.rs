@@ -1,9 +1,9 @@
-//! A sequence in the making: its cases, and the memory as they leave it.
+//! The calls on a store, as cases of a scene and on its memory.
 
 use super::super::chance::Chance;
-use super::super::requests;
+use super::super::keys::ToldKey;
+use super::super::scene::Scene;
 use super::super::writes::Draft;
-use super::days::ToldKey;
 use crate::refusal::Refusal;
 use crate::store::reading::{read_store, Store};
 use crate::store::{delete_day, make_store, put_day};
@@ -12,32 +12,10 @@ use crate::write::DayHead;
 /// Behind calls on longer memories the bytes are asked for less often.
 const SHORT_MEMORY: usize = 2_500;
 
-#[derive(Default)]
-pub struct Scene {
-    pub memory: Vec<u8>,
-    pub cases: Vec<Vec<u8>>,
-}
-
 impl Scene {
-    /// A scene that begins with this memory.
-    pub fn on(memory: Vec<u8>) -> Scene {
-        let mut scene = Scene::default();
-        scene.lend(memory);
-        scene
-    }
-
-    pub fn lend(&mut self, memory: Vec<u8>) {
-        self.cases.push(requests::case("memory", &memory));
-        self.memory = memory;
-    }
-
     /// The store that the memory is then, if it is one.
     pub fn store(&self) -> Option<Store<'_>> {
         read_store(&self.memory).ok()
-    }
-
-    pub fn bytes(&mut self) {
-        self.cases.push(b"bytes\n\n".to_vec());
     }
 
     pub fn make(&mut self, chance: &mut Chance, slots: u32) {
@@ -81,14 +59,6 @@ impl Scene {
         if is_asked {
             self.bytes();
         }
-    }
-
-    /// The cases, at whose end the bytes are asked for.
-    pub fn end(mut self) -> Vec<Vec<u8>> {
-        if self.cases.last().is_none_or(|last| last != b"bytes\n\n") {
-            self.bytes();
-        }
-        self.cases
     }
 }
 
