@@ -24,6 +24,9 @@ use Rattle.store.specs.declared.Kept.{Kept}
 use Rattle.store.specs.declared.Kept.the-variants as kept
 use Rattle.store.specs.declared.SlotRead.{SlotRead}
 use Rattle.store.specs.declared.SlotRead.the-variants as slotRead
+use Rattle.tenants.specs.Calls.{versionedAs}
+use Rattle.tenants.specs.declared.Versioned.{Versioned}
+use Rattle.tenants.specs.declared.Versioned.the-variants as versioned
 
 refusal-is : (n p r f : ℕ) → Refusal
 refusal-is n p r f = record { number = n; place = p; «record» = r; field = f }
@@ -96,3 +99,9 @@ slot-read-one (slotRead.Used a b c d g h q r) (slotRead.Refused y) e = cc
 slot-read-one (slotRead.Refused x) slotRead.Free e = cc
 slot-read-one (slotRead.Refused x) (slotRead.Used i j k l m n o p) e = cc
 slot-read-one (slotRead.Refused x) (slotRead.Refused y) e = ap slotRead.Refused (refusal-one x y e)
+
+pub versioned-one : (x y : Versioned) → versionedAs x ≡ versionedAs y → x ≡ y
+versioned-one (versioned.Version a) (versioned.Version b) e = cc
+versioned-one (versioned.Version a) (versioned.Refused y) e = cc
+versioned-one (versioned.Refused x) (versioned.Version b) e = cc
+versioned-one (versioned.Refused x) (versioned.Refused y) e = ap versioned.Refused (refusal-one x y e)

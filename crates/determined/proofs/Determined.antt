@@ -30,7 +30,16 @@ use Rattle.getting.proofs.get_day.Kinds as get-kinds
 use Rattle.getting.proofs.get_day.Reads as get-reads
 use Rattle.slot_reading.proofs.read_slot.Kinds as slot-kinds
 use Rattle.slot_reading.proofs.read_slot.Reads as slot-reads
-use Rattle.determined.proofs.Answers.{checked-one, day-read-one, totalled-one, written-one, found-one, replaced-one, made-one, kept-one, slot-read-one}
+use Rattle.tenants.specs.Calls.{Mapped}
+use Rattle.tenant_map.proofs.make_map.Kinds as make-map-kinds
+use Rattle.tenant_map.proofs.make_map.Reads as make-map-reads
+use Rattle.tenant_map.proofs.add_version.Kinds as add-kinds
+use Rattle.tenant_map.proofs.add_version.Reads as add-reads
+use Rattle.tenant_map.proofs.back_to.Kinds as back-kinds
+use Rattle.tenant_map.proofs.back_to.Reads as back-reads
+use Rattle.tenant_map.proofs.map_on.Kinds as on-kinds
+use Rattle.tenant_map.proofs.map_on.Reads as on-reads
+use Rattle.determined.proofs.Answers.{checked-one, day-read-one, totalled-one, written-one, found-one, replaced-one, made-one, kept-one, slot-read-one, versioned-one}
 
 -- `check` is lent nothing that it may change
 pub one-check : (κs : Lfts 1) (a : Dens κs check-kinds.ps) (x y : resT check-kinds.r κs .Denot) (e f : AtExit (endedOf 1 check-kinds.ps check-kinds.r) κs)
@@ -108,3 +117,24 @@ one-get κs a x y e f p q =
 pub one-slot : (κs : Lfts 1) (a : Dens κs slot-kinds.ps) (x y : resT slot-kinds.r κs .Denot) (e f : AtExit (endedOf 1 slot-kinds.ps slot-kinds.r) κs)
     → slot-reads.Learnt κs a x e → slot-reads.Learnt κs a y f → x ≡ y
 one-slot κs a x y e f p q = slot-read-one x y (p ∙ sym q)
+
+-- `make_map`, `add_version` and `back_to`: the answer, and every byte of memory
+pub one-make-map : (κs : Lfts 1) (a : Dens κs make-map-kinds.ps) (x y : resT make-map-kinds.r κs .Denot) (e f : AtExit (endedOf 1 make-map-kinds.ps make-map-kinds.r) κs)
+    → make-map-reads.Learnt κs a x e → make-map-reads.Learnt κs a y f → (x ≡ y) × (now (e .0) ≡ now (f .0))
+one-make-map κs a x y e f p q = let o = p ∙ sym q in (versioned-one x y (ap (λ (u : Lent.Left). u .answer) o), ap (λ (u : Lent.Left). u .memory) o)
+
+pub one-add : (κs : Lfts 3) (a : Dens κs add-kinds.ps) (x y : resT add-kinds.r κs .Denot) (e f : AtExit (endedOf 3 add-kinds.ps add-kinds.r) κs)
+    → add-reads.Learnt κs a x e → add-reads.Learnt κs a y f → (x ≡ y) × (now (e .0) ≡ now (f .0))
+one-add κs a x y e f p q = let o = p ∙ sym q in (versioned-one x y (ap (λ (u : Lent.Left). u .answer) o), ap (λ (u : Lent.Left). u .memory) o)
+
+pub one-back : (κs : Lfts 1) (a : Dens κs back-kinds.ps) (x y : resT back-kinds.r κs .Denot) (e f : AtExit (endedOf 1 back-kinds.ps back-kinds.r) κs)
+    → back-reads.Learnt κs a x e → back-reads.Learnt κs a y f → (x ≡ y) × (now (e .0) ≡ now (f .0))
+one-back κs a x y e f p q = let o = p ∙ sym q in (versioned-one x y (ap (λ (u : Lent.Left). u .answer) o), ap (λ (u : Lent.Left). u .memory) o)
+
+-- `map_on`: the answer, the keys and the shares
+pub one-on : (κs : Lfts 3) (a : Dens κs on-kinds.ps) (x y : resT on-kinds.r κs .Denot) (e f : AtExit (endedOf 3 on-kinds.ps on-kinds.r) κs)
+    → on-reads.Learnt κs a x e → on-reads.Learnt κs a y f
+    → (x ≡ y) × (now (e .1 .1 .0) ≡ now (f .1 .1 .0)) × (now (e .1 .1 .1 .0) ≡ now (f .1 .1 .1 .0))
+one-on κs a x y e f p q =
+    let o = p ∙ sym q in
+    (versioned-one x y (ap (λ (u : Mapped). u .answer) o), ap (λ (u : Mapped). u .keys) o, ap (λ (u : Mapped). u .shares) o)

@@ -3,6 +3,7 @@ use Rattle.tenant_map.proofs.Asks.{on-few, on-long, on-no-map, on-none,
 use Rattle.tenant_map.proofs.Changes.{keys-enough, shares-enough}
 use borrow.Author.Needs.{needs}
 use lib.ListN.{length}
+use native.Mathlib.Omega.{arith}
 use Rattle.tenant_map.proofs.map_on.Statement.{statement}
 use Rattle.tenant_map.proofs.map_on.Tie as tie
 
@@ -37,7 +38,7 @@ sub-fill : tie.Need-sub-fill
 sub-fill c = search needs
 
 fill-requires : tie.Need-fill-requires
-fill-requires c κs = (on-long (c .before .before .before .before .before .before .before .before .before .before .before .args .memory .now) (c .before .before .before .before .before .before .before .before .before .before .before .args .date) (c .before .before .before .before .before .before .before .is-map .ensures) (c .before .before .before .before .before .before .if1 .left) (c .before .before .before .before .before .version-on .ensures), on-few (c .before .before .before .before .before .before .before .before .before .before .before .args .memory .now) (c .before .before .before .before .before .before .before .before .before .before .before .args .date) (c .before .before .before .before .before .before .before .is-map .ensures) (c .before .before .before .before .before .before .if1 .left) (c .before .before .before .before .before .version-on .ensures) (c .before .before .before .before .if2 .left), keys-enough (length (c .before .before .before .before .before .before .before .before .before .before .before .args .keys .now)) (length (c .before .before .before .before .before .before .before .before .before .before .before .args .shares .now)) (c .before .before .before .are-enough .ensures) (c .before .before .if3 .left), shares-enough (length (c .before .before .before .before .before .before .before .before .before .before .before .args .keys .now)) (length (c .before .before .before .before .before .before .before .before .before .before .before .args .shares .now)) (c .before .before .before .are-enough .ensures) (c .before .before .if3 .left))
+fill-requires c κs = (on-long (c .before .before .before .before .before .before .before .before .before .before .before .args .memory .now) (c .before .before .before .before .before .before .before .before .before .before .before .args .date) (c .before .before .before .before .before .before .before .is-map .ensures) (c .before .before .before .before .before .before .if1 .left) (c .before .before .before .before .before .version-on .ensures), omega (arith, on-few (c .before .before .before .before .before .before .before .before .before .before .before .args .memory .now) (c .before .before .before .before .before .before .before .before .before .before .before .args .date) (c .before .before .before .before .before .before .before .is-map .ensures) (c .before .before .before .before .before .before .if1 .left) (c .before .before .before .before .before .version-on .ensures) (c .before .before .before .before .if2 .left)), keys-enough (length (c .before .before .before .before .before .before .before .before .before .before .before .args .keys .now)) (length (c .before .before .before .before .before .before .before .before .before .before .before .args .shares .now)) (c .before .before .before .are-enough .ensures) (c .before .before .if3 .left), shares-enough (length (c .before .before .before .before .before .before .before .before .before .before .before .args .keys .now)) (length (c .before .before .before .before .before .before .before .before .before .before .before .args .shares .now)) (c .before .before .before .are-enough .ensures) (c .before .before .if3 .left))
 
 cast-t10 : tie.Need-cast-t10
 cast-t10 c = search needs
