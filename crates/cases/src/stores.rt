@@ -6,6 +6,8 @@ use input::bytes::Passed;
 use input::bytes::fill_both;
 use input::bytes::fill_line;
 use input::numbers::head;
+use input::numbers::head_alone;
+use input::text;
 use page::items::u64_at;
 use page::texts::number;
 use page::texts::part;
@@ -55,23 +57,13 @@ pub fn bytes_case(
     page: &mut [u8],
     at: usize,
 ) -> Going {
-    let mut numbers = [0u64; 0];
-    let Passed::To(after) = head(buf, c, b"tes\n\n", &mut numbers) else {
+    let Passed::To(after) = text(buf, c, b"tes\n\n") else {
         return Going::Bad;
     };
     let p = lent_line(page, at, b"bytes ", size);
     io::write_all(libc::STDOUT_FILENO, part(page, 0, p));
     io::write_all(libc::STDOUT_FILENO, part(memory, 0, size));
     Going::On(after, 0)
-}
-
-// The numbers of a case without bytes, and its own line's end.
-fn numbers_in(buf: &mut [u8], c: Cursor, word: &[u8], numbers: &mut [u64]) -> Passed {
-    let Passed::To(after) = head(buf, c, word, numbers) else {
-        return Passed::Bad;
-    };
-    let mut none = [0u8; 0];
-    fill_line(buf, after, 0, &mut none)
 }
 
 // Of all the memory, the bytes that are lent.
@@ -92,6 +84,7 @@ fn make_lent(
     make(&mut memory[..size], copy, slots, page, at)
 }
 
+// Behind the word and its space, which tells it from the making of a map.
 pub fn make_case(
     buf: &mut [u8],
     c: Cursor,
@@ -102,7 +95,7 @@ pub fn make_case(
     at: usize,
 ) -> Going {
     let mut numbers = [0u64; 1];
-    let Passed::To(after) = numbers_in(buf, c, b"ke ", &mut numbers) else {
+    let Passed::To(after) = head_alone(buf, c, b"", &mut numbers) else {
         return Going::Bad;
     };
     let slots = numbers[0];
@@ -121,7 +114,7 @@ pub fn slot_case(
     at: usize,
 ) -> Going {
     let mut numbers = [0u64; 1];
-    let Passed::To(after) = numbers_in(buf, c, b"lot ", &mut numbers) else {
+    let Passed::To(after) = head_alone(buf, c, b"lot ", &mut numbers) else {
         return Going::Bad;
     };
     let k = numbers[0] as usize;

@@ -35,12 +35,12 @@ fn expected(t: Taken, sign: u8) -> Passed
 }
 
 // The byte, and no other.
-fn byte(buf: &mut [u8], c: Cursor, sign: u8) -> Passed {
+pub fn byte(buf: &mut [u8], c: Cursor, sign: u8) -> Passed {
     expected(next(buf, c), sign)
 }
 
 // The text, and no other.
-fn text(buf: &mut [u8], c: Cursor, signs: &[u8]) -> Passed {
+pub fn text(buf: &mut [u8], c: Cursor, signs: &[u8]) -> Passed {
     let mut now = c;
     let mut i: usize = 0;
     while i < signs.len() {

@@ -116,6 +116,14 @@ pub fn head(buf: &mut [u8], c: Cursor, word: &[u8], list: &mut [u64]) -> Passed 
     row(buf, after, list, b'\n')
 }
 
+// The first line of a case without bytes, and the case's own line's end.
+pub fn head_alone(buf: &mut [u8], c: Cursor, word: &[u8], list: &mut [u64]) -> Passed {
+    let Passed::To(after) = head(buf, c, word, list) else {
+        return Passed::Bad;
+    };
+    byte(buf, after, b'\n')
+}
+
 // A line of numbers, a space behind each.
 pub fn line(buf: &mut [u8], c: Cursor, list: &mut [u64]) -> Passed {
     let Passed::To(after) = row(buf, c, list, b' ') else {

@@ -40,7 +40,7 @@ columns-beside (f ∷ fs) gs at =
     append-assoc (f at) (columns fs (at + length (f at))) (columns gs (at + length (f at ++ columns fs (at + length (f at)))))
     ∙ ap (λ (z : List ℕ). f at ++ z) (ap (λ (k : ℕ). columns fs (at + length (f at)) ++ columns gs k) e ∙ columns-beside fs gs (at + length (f at)))
 
-joined : (fs gs : List (ℕ → List ℕ)) {p₀ p₁ p₂ : List ℕ} {at i j : ℕ} → Filled p₀ at (columns fs at) i p₁ → Filled p₁ i (columns gs i) j p₂
+pub joined : (fs gs : List (ℕ → List ℕ)) {p₀ p₁ p₂ : List ℕ} {at i j : ℕ} → Filled p₀ at (columns fs at) i p₁ → Filled p₁ i (columns gs i) j p₂
     → Filled p₀ at (columns (fs ++ gs) at) j p₂
 joined fs gs {at = at} a b = filled-as (filled-beside (columns gs) a b) (columns-beside fs gs at)
 

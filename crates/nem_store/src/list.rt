@@ -7,9 +7,8 @@ use opening::Opened;
 use opening::open_store;
 use outward::DONE;
 use outward::REFUSED;
-use outward::write;
+use outward::write_line;
 use page::texts::part;
-use page::texts::put;
 use records::text_at;
 use settling::live_bytes;
 use slot_reading::read_slot;
@@ -19,8 +18,7 @@ use units::Spelling;
 
 fn headed(page: &mut [u8]) -> u8 {
     let p = headings(page, 0);
-    let q = put(page, p, b"\n");
-    write(page, q)
+    write_line(page, p)
 }
 
 // The line of a slot, none where it is free.
@@ -52,8 +50,7 @@ fn line(page: &mut [u8], store: &[u8], slot: usize) -> u8 {
         update,
         part(store, start, end).len(),
     );
-    let q = put(page, p, b"\n");
-    write(page, q)
+    write_line(page, p)
 }
 
 fn lines(page: &mut [u8], store: &[u8], slots: usize) -> u8 {
@@ -86,8 +83,7 @@ fn last_line(page: &mut [u8], store: &[u8], h: Header) -> u8 {
         used,
         free(h.size as usize, used),
     );
-    let q = put(page, p, b"\n");
-    write(page, q)
+    write_line(page, p)
 }
 
 pub fn list(page: &mut [u8], store: &[u8]) -> u8 {

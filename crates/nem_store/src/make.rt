@@ -1,5 +1,4 @@
 // A store made in a new file.
-use super::bytes_out::write_store;
 use format::Number;
 use leaf::digits::digits;
 use making::make_store;
@@ -7,7 +6,8 @@ use outward::DONE;
 use outward::FAILED;
 use outward::REFUSED;
 use outward::complain;
-use outward::write;
+use outward::keep;
+use outward::write_line;
 use page::texts::number;
 use page::texts::put;
 use phrase::counts::counted;
@@ -79,13 +79,12 @@ fn slot_count(slots: u64) -> u32 {
 fn make_in(page: &mut [u8], store: &mut [u8], slots: u64) -> u8 {
     match make_store(store, slot_count(slots)) {
         Made::Room(room) => {
-            let status = write_store(store);
+            let status = keep(store);
             if status != DONE {
                 return status;
             }
             let p = made(page, 0, slots, room);
-            let q = put(page, p, b"\n");
-            write(page, q)
+            write_line(page, p)
         }
         Made::Refused(x) => {
             if x.number == 21 {

@@ -1,5 +1,4 @@
 // Every day of a file put into a store, a line for each.
-use super::bytes_out::write_store;
 use super::refused::no_store;
 use checking::tour::check_and_note;
 use day::DayStart;
@@ -19,10 +18,10 @@ use outward::DONE;
 use outward::FAILED;
 use outward::REFUSED;
 use outward::graver;
+use outward::keep;
 use outward::warn;
-use outward::write;
+use outward::write_line;
 use page::texts::part;
-use page::texts::put as put_text;
 use putting::put_day;
 use records::NMI;
 use records::SUFFIX;
@@ -64,10 +63,9 @@ struct Filled {
 
 // The line ends, and the day's status stands unless it can't be written.
 fn told(page: &mut [u8], at: usize, held: usize, status: u8) -> Turned {
-    let p = put_text(page, at, b"\n");
     Turned {
         held,
-        status: graver(status, write(page, p)),
+        status: graver(status, write_line(page, at)),
     }
 }
 
@@ -317,7 +315,7 @@ fn store_out(store: &[u8], kept: usize, status: u8) -> u8 {
     if status == FAILED {
         return FAILED;
     }
-    write_store(store)
+    keep(store)
 }
 
 // Those of all days that were not kept.
@@ -345,8 +343,7 @@ fn fill(
         return FAILED;
     }
     let p = summary(page, 0, filled.kept, others(days, filled.kept), filled.held);
-    let q = put_text(page, p, b"\n");
-    graver(status, write(page, q))
+    graver(status, write_line(page, p))
 }
 
 fn put_file(page: &mut [u8], store: &mut [u8], file: &[u8], before: usize) -> u8 {

@@ -13,8 +13,14 @@ use cases::stores::slot_case;
 use cases::total_case;
 use input::Going;
 use input::bytes::Cursor;
+use input::bytes::Passed;
 use input::bytes::Taken;
 use input::bytes::next;
+use input::text;
+use map_cases::add_case;
+use map_cases::back_case;
+use map_cases::make_map_case;
+use map_cases::on_case;
 use page::texts::part;
 use page::texts::put;
 use sheet::puts::put_case;
@@ -50,8 +56,9 @@ fn b_case(
     buf: &mut [u8],
     c: Cursor,
     file: &mut [u8],
-    memory: &[u8],
+    memory: &mut [u8],
     size: usize,
+    copy: &mut [u8],
     page: &mut [u8],
     at: usize,
 ) -> Going {
@@ -59,6 +66,7 @@ fn b_case(
         return Going::Bad;
     };
     match b {
+        b'a' => back_case(buf, after, memory, size, copy, page, at),
         b'l' => block_case(buf, after, file, page, at),
         b'y' => bytes_case(buf, after, memory, size, page, at),
         _ => Going::Bad,
@@ -85,6 +93,29 @@ fn d_case(
     }
 }
 
+// A store or a map: their words part behind the letters that they share.
+fn making_case(
+    buf: &mut [u8],
+    c: Cursor,
+    memory: &mut [u8],
+    size: usize,
+    copy: &mut [u8],
+    page: &mut [u8],
+    at: usize,
+) -> Going {
+    let Passed::To(shared) = text(buf, c, b"ke") else {
+        return Going::Bad;
+    };
+    let Taken::Byte(b, after) = next(buf, shared) else {
+        return Going::Bad;
+    };
+    match b {
+        b' ' => make_case(buf, after, memory, size, copy, page, at),
+        b'm' => make_map_case(buf, after, memory, size, copy, page, at),
+        _ => Going::Bad,
+    }
+}
+
 fn m_case(
     buf: &mut [u8],
     c: Cursor,
@@ -98,7 +129,7 @@ fn m_case(
         return Going::Bad;
     };
     match b {
-        b'a' => make_case(buf, after, memory, size, copy, page, at),
+        b'a' => making_case(buf, after, memory, size, copy, page, at),
         b'e' => memory_case(buf, after, memory, page, at),
         _ => Going::Bad,
     }
@@ -120,12 +151,14 @@ fn case(
         return Going::Ended;
     };
     match b {
-        b'b' => b_case(buf, after, file, memory, size, page, at),
+        b'a' => add_case(buf, after, memory, size, copy, page, at),
+        b'b' => b_case(buf, after, file, memory, size, copy, page, at),
         b'c' => check_case(buf, after, file, page, at),
         b'd' => d_case(buf, after, file, memory, size, copy, page, at),
         b'f' => find_case(buf, after, file, page, at),
         b'g' => get_case(buf, after, memory, size, page, at),
         b'm' => m_case(buf, after, memory, size, copy, page, at),
+        b'o' => on_case(buf, after, memory, size, page, at),
         b'p' => put_case(buf, after, memory, size, copy, page, at),
         b'r' => replace_case(buf, after, file, copy, block, page, at),
         b's' => slot_case(buf, after, memory, size, page, at),

@@ -1,7 +1,7 @@
 // The probe's case that hands in a day to be written: its first line, its six lists and its text are read from standard input, the day is lent to the
 // call, and the block is written out behind its answer. What the numbers mean is said by functions that have contracts. No contract can say what is read or
 // written, so those that do it are proved safe, and have none.
-mod lists;
+pub mod lists;
 pub mod puts;
 
 use calls::PLACES;

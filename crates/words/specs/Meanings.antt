@@ -1,5 +1,5 @@
 -- What a refusal's number means: 01, Refusal numbers, in words for a person. 02 struck 17 (request 7), which means nothing, mended 12 (request 1), and brought 18
--- to 21 (request 2).
+-- to 21 (request 2) and 23 to 25 (request 11); 22 is given by no call yet.
 use Prim.Native.Nat.{ℕ}
 use mathlib.Core.List.{List, _++_}
 use Rattle.ground.specs.Text.{bytes}
@@ -28,7 +28,11 @@ meanings =
     ++ bytes "the store holds this day with an update time that is equal or later;"
     ++ bytes "every slot of the store is used, and the key is new;"
     ++ bytes "the live bytes and the new block exceed the store's room;"
-    ++ bytes "the bytes lent are no store, no map or no index of that file"
+    ++ bytes "the bytes lent are no store, no map or no index of that file;"
+    ++ bytes ";"
+    ++ bytes "the tenant map is full;"
+    ++ bytes "the first date falls, or is no date;"
+    ++ bytes "a share above 1000, a bad key, or a share without a key"
 
 unfoldable pub meaningOf : ℕ → List ℕ
 meaningOf x = numbered x meanings

@@ -27,6 +27,10 @@ pub fn meaning(page: &mut [u8], at: usize, number: u64) -> usize
         the store holds this day with an update time that is equal or later;\
         every slot of the store is used, and the key is new;\
         the live bytes and the new block exceed the store's room;\
-        the bytes lent are no store, no map or no index of that file";
+        the bytes lent are no store, no map or no index of that file;\
+        ;\
+        the tenant map is full;\
+        the first date falls, or is no date;\
+        a share above 1000, a bad key, or a share without a key";
     put(page, at, text_at(meanings, number as usize))
 }

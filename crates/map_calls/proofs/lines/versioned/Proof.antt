@@ -1,0 +1,47 @@
+-- `map_calls::lines::versioned` meets its contract. Assumes nothing.
+use Rattle.answer_lines.proofs.Answered.{line-is}
+use Rattle.tenants.specs.Calls.{versionedAs}
+use borrow.Author.Needs.{needs}
+use Rattle.map_calls.proofs.lines.versioned.Statement.{statement}
+use Rattle.map_calls.proofs.lines.versioned.Tie as tie
+
+enum-known-x : tie.Need-enum-known-x
+enum-known-x c = search needs
+
+slice-aggregate-accepted : tie.Need-slice-aggregate-accepted
+slice-aggregate-accepted c = search needs
+
+accepted-requires : tie.Need-accepted-requires
+accepted-requires c κs = search needs
+
+enum-known-x-2 : tie.Need-enum-known-x-2
+enum-known-x-2 c = search needs
+
+refusal-requires : tie.Need-refusal-requires
+refusal-requires c κs = search needs
+
+same-length : tie.Need-same-length
+same-length c = search needs
+
+returns : tie.Need-returns
+returns c = search (line-is versionedAs)
+
+same-length-2 : tie.Need-same-length-2
+same-length-2 c = search needs
+
+returns-2 : tie.Need-returns-2
+returns-2 c = search (line-is versionedAs)
+
+pub versioned-spec : {M : Type 1} → statement M
+versioned-spec =
+    tie.close
+    (tie.spec
+    enum-known-x
+    slice-aggregate-accepted
+    accepted-requires
+    enum-known-x-2
+    refusal-requires
+    same-length
+    returns
+    same-length-2
+    returns-2)
