@@ -49,10 +49,7 @@ module _ {p₀ p₁ p₂ : List ℕ} {at i j : ℕ} where
   unfolding onText
   shown-put x keys shares en eb p q r = rw (← en, ← eb) (filled-then (filled-then p q) r)
 
--- what the call left, by its meaning l; the copy is memory as it was
-pub left-is : {a : Answer} {now : List ℕ} {l : Left} → left a now ≡ l → now ≡ l .memory
-left-is e = ap (λ (z : Left). z .memory) e
-
+-- the call by its meaning l; the copy is memory as it was
 module _ {p₀ p₁ : List ℕ} {at i : ℕ} where
   pub make-as : {a : Answer} {now was m : List ℕ} {l : Left} → left a now ≡ l → was ≡ m → Filled p₀ at (leftText (left a now) 4 4 was) i p₁ → Filled p₀ at (makeText l m) i p₁
   make-as el ew p = rw (← el, ← ew) p

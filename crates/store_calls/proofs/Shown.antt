@@ -49,10 +49,7 @@ pub free-slot : {p₀ p₁ : List ℕ} {at i : ℕ} {x : SlotRead} → x ≡ slo
 unfolding slotText
 free-slot e p = rw e p
 
--- what the call left, by its meaning l
-pub left-is : {a : Answer} {now : List ℕ} {l : Left} → left a now ≡ l → now ≡ l .memory
-left-is e = ap (λ (z : Left). z .memory) e
-
+-- the call by its meaning l
 pub changed-as : {p₀ p₁ : List ℕ} {at i : ℕ} {a : Answer} {now was m : List ℕ} {l : Left} → left a now ≡ l → was ≡ m → Filled p₀ at (changeText (left a now) was) i p₁ → Filled p₀ at (changeText l m) i p₁
 changed-as el ew p = rw (← el, ← ew) p
 

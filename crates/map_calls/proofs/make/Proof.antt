@@ -1,6 +1,7 @@
 -- `map_calls::make` meets its contract. Assumes nothing.
 use Rattle.edit_calls.proofs.Answered.{copied-front}
-use Rattle.map_calls.proofs.Answered.{make-as, left-is}
+use Rattle.kept_bytes.proofs.Memory.{left-is}
+use Rattle.map_calls.proofs.Answered.{make-as}
 use borrow.Author.Needs.{needs}
 use Rattle.map_calls.proofs.make.Statement.{statement}
 use Rattle.map_calls.proofs.make.Tie as tie

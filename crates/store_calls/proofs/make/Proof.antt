@@ -1,6 +1,7 @@
 -- `store_calls::make` meets its contract. Assumes nothing.
 use Rattle.edit_calls.proofs.Answered.{copied-front}
-use Rattle.store_calls.proofs.Shown.{made-put, left-is}
+use Rattle.kept_bytes.proofs.Memory.{left-is}
+use Rattle.store_calls.proofs.Shown.{made-put}
 use borrow.Author.Needs.{needs}
 use Rattle.store_calls.proofs.make.Statement.{statement}
 use Rattle.store_calls.proofs.make.Tie as tie
