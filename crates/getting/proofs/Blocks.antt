@@ -50,7 +50,7 @@ module _ (m : List ℕ) (h : Header) (e : Entry) (r : Readable m h e) where
         let z : rest (drop start (take end m)) ≡ line (b .first) (b .others) = sym w ∙ rw cut (b .is) in
         true≢false (cc)
 
-    rows : dayRows m h e ≡ blockAt (take end m) start top (intervalsOf (e .minutes)) (e .unit)
+    pub rows : dayRows m h e ≡ blockAt (take end m) start top (intervalsOf (e .minutes)) (e .unit)
     unfolding dayRows rowsAt
     rows =
         let w = line-more (take end m) start top l has-line in

@@ -1,2 +1,2 @@
-mod Blocks
-mod Gets
+pub mod Blocks
+pub mod Gets

@@ -18,7 +18,7 @@ fn same_capital(given: u8, kept: u8) -> bool
 }
 
 // The bytes that are handed in, letters as capitals, are the kept ones.
-fn same_capitals(given: &[u8], kept: &[u8]) -> bool
+pub fn same_capitals(given: &[u8], kept: &[u8]) -> bool
     ensures { λ r. ⌜ r ≡ same (capitals (now (given .entry))) (now (kept .entry)) ⌝ }
 {
     let n = given.len();

@@ -36,7 +36,7 @@ all-part p (suc n) (b ∷ s) e =
     (both (p b) (all p (take n s)) (g .0) (h .0), h .1)
 
 -- so many bytes of one kind
-many : (p : ℕ → Bool) (n : ℕ) (s : List ℕ) → areAll p n n s ≡ true → (length s ≡ n) × (all p s ≡ true)
+pub many : (p : ℕ → Bool) (n : ℕ) (s : List ℕ) → areAll p n n s ≡ true → (length s ≡ n) × (all p s ≡ true)
 unfolding areAll
 many p n s e =
     let g = and-true (leb n (length s) && leb (length s) n) (all p s) e in

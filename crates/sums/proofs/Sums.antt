@@ -7,7 +7,7 @@ use native.Mathlib.Nat.{sub-zero, add-zero, zero-add}
 use native.Mathlib.Numerals.{add-one}
 use native.Mathlib.Omega.{arith}
 use native.Mathlib.Decide.{decLt}
-use lib.ListN.{length, getD, take, drop, length-take, length-drop, drop-of-length-le, List·getD-eq-default}
+use lib.ListN.{length, getD, take, drop, length-take, length-drop, length-map, drop-of-length-le, List·getD-eq-default}
 use lib.Seq.{drop-cons}
 use mir.Val.{Fits}
 use mir.Syntax.{w64}
@@ -19,7 +19,8 @@ use Rattle.format.specs.Cut.{fields, field}
 use Rattle.format.specs.Records.{kindIn, millionths, valuesIn, intervalsIn}
 use Rattle.format.specs.Total.{sumFrom}
 use Rattle.format.specs.File.{most}
-use Rattle.format.proofs.Total.{record-most}
+use Rattle.format.proofs.Numbers.{intervals-most}
+use Rattle.format.proofs.Total.{values-fit, sum-most, record-most}
 use Rattle.quick_values.specs.Shapes.{isThousandths}
 use Rattle.quick_values.proofs.Shapes.{thousandths-plain}
 use Rattle.lines.specs.Places.{LineEnd, Cut, Rest}
@@ -202,9 +203,19 @@ module _ (file : List ℕ) (a e v n acc : ℕ) (o : a ≤ e) (g : e ≤ length f
   pub passed-on : {y : ℕ} → y ≡ acc + sum (valuesFrom n 0 (fields (part file v e))) → y ≤ (e + 2) * 10 ^ 13
   passed-on ey = omega (arith, day-most)
 
-pub day-fits : (file : List ℕ) (a e v n : ℕ) → a ≤ e → e ≤ length file → Rest file (fields (part file a e)) a 2 v e → length file ≤ most
-    → 0 + sum (valuesFrom n 0 (fields (part file v e))) < 2 ^ 64
-day-fits file a e v n o g z l = passed-fits file a e v n 0 o g z (omega arith) l
+-- n values of a record come to at most 10^13 each
+pub values-most : (n : ℕ) (fs : List (List ℕ)) → sum (valuesIn n fs) ≤ n * 10 ^ 13
+unfolding valuesIn
+values-most n fs =
+    let vs : List (List ℕ) = take n (drop 2 fs) in
+    omega (arith, sum-most (map millionths vs) (values-fit vs), length-map vs millionths, length-take n (drop 2 fs))
+
+pub day-fits : (file : List ℕ) (a e v n : ℕ) → Rest file (fields (part file a e)) a 2 v e → n ≤ 288 → 0 + sum (valuesFrom n 0 (fields (part file v e))) < 2 ^ 64
+day-fits file a e v n z l = omega (arith, day-sum file a e v n z, values-most n (fields (part file a e)))
+
+pub few-intervals : (fs : List (List ℕ)) {n : ℕ} → n ≡ intervalsIn fs → n ≤ 288
+unfolding intervalsIn
+few-intervals fs e = rw e (intervals-most _)
 
 -- the day at the place p that the walk to it answers
 module _ (file : List ℕ) (p : Place) where

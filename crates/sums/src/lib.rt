@@ -1,5 +1,5 @@
-// The values of a day, and those of a channel's days, added up, sixteen at a time. No sum is tested: a value is below 10^13 and has a comma of its own before it, so that what was
-// added up is at most 10^13 for each byte passed, and a file that was accepted has no more than 1,048,576 of them.
+// The values of a day, and those of a channel's days, added up, sixteen at a time. No sum is tested: a value is below 10^13, and a day has at most 288. A channel's
+// values have a comma each before them, so that what was added up is at most 10^13 for each byte passed, and a file that was accepted has no more than 1,048,576.
 use day::Place;
 use day::fields::skip;
 use day::walk::intervals_of;
@@ -93,8 +93,8 @@ fn add_values(file: &[u8], a: usize, e: usize, n: usize, before: u64) -> u64
 }
 
 // The n values of the day whose 300 stands at a..e.
-fn add_day(file: &[u8], a: usize, e: usize, n: usize) -> u64
-    requires { ⌜ (a ≤ e) × (e ≤ length (now file)) × (length (now file) ≤ most) ⌝ }
+pub fn add_day(file: &[u8], a: usize, e: usize, n: usize) -> u64
+    requires { ⌜ (a ≤ e) × (e ≤ length (now file)) × (n ≤ 288) ⌝ }
     ensures { λ r. ⌜ r ≡ sum (valuesIn n (fields (part (now (file .entry)) a e))) ⌝ }
 {
     let v = skip(file, a, e, 2);
@@ -103,7 +103,7 @@ fn add_day(file: &[u8], a: usize, e: usize, n: usize) -> u64
 
 // What the day at a place adds up to, 0 where there is none.
 pub fn day_sum(file: &[u8], place: Place) -> u64
-    requires { ⌜ inside (now file) place × (length (now file) ≤ most) ⌝ }
+    requires { ⌜ inside (now file) place ⌝ }
     ensures { λ r. ⌜ r ≡ sumFirst (located (now (file .entry)) place) ⌝ }
 {
     match place {

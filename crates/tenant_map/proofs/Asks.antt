@@ -97,3 +97,24 @@ module _ (m : List ℕ) (date : ℕ) (keys shares : List ℕ) {a : Bool} (ea : a
             (ap₂ (mapped (accepted (v ∷ [])))
             (e ∙ sets-front keys (keysOf (outputsIn 128 entries)) (omega (arith, keys-enough (length keys) (length shares) eb t, keys-long 128 entries (omega (arith, entries-enough)))))
             (f ∙ sets-front shares (sharesOf (outputsIn 128 entries)) (omega (arith, shares-enough (length keys) (length shares) eb t, shares-long 128 entries))))
+
+-- ---- what a map has on a date
+
+module _ (m : List ℕ) (date : ℕ) (t : isMap m ≡ true) (h : 1 ≤ versionOn (versionsIn m) date) where
+  abbrev v : ℕ
+  v = versionOn (versionsIn m) date
+
+  entries-on : outputsOf (versionsIn m) v ≡ outputsIn 128 (drop 4 (piece m (versionPlace (v - 1)) 1796))
+  unfolding versionAt versionFrom
+  entries-on = ap (λ (x : Version). x .outputs) (version-here m (v - 1) (omega (arith, version-most (versionsIn m) date, count-versions m)))
+
+  entries-whole : length (drop 4 (piece m (versionPlace (v - 1)) 1796)) ≡ 1792
+  entries-whole =
+      entries-long m (v - 1) (mapping m t .long) (omega (arith, version-most (versionsIn m) date, count-versions m, mapping m t .few)) refl
+
+  -- keys and shares of 128 outputs
+  pub on-keys-long : length (keysOf (outputsOf (versionsIn m) v)) ≡ 1536
+  on-keys-long = rw entries-on (keys-long 128 (drop 4 (piece m (versionPlace (v - 1)) 1796)) (omega (arith, entries-whole)))
+
+  pub on-shares-long : length (sharesOf (outputsOf (versionsIn m) v)) ≡ 128
+  on-shares-long = rw entries-on (shares-long 128 (drop 4 (piece m (versionPlace (v - 1)) 1796)))

@@ -1,2 +1,2 @@
 mod Changes
-mod Asks
+pub mod Asks

@@ -1,6 +1,6 @@
 -- `sums::day_sum` meets its contract. Assumes nothing.
 use Rattle.day.proofs.Find.{day-order, day-within, under-order, under-within}
-use Rattle.sums.proofs.Sums.{sum-there, sum-none}
+use Rattle.sums.proofs.Sums.{few-intervals, sum-there, sum-none}
 use borrow.Author.Needs.{needs}
 use Rattle.sums.proofs.day_sum.Statement.{statement}
 use Rattle.sums.proofs.day_sum.Tie as tie
@@ -12,7 +12,7 @@ intervals-of-requires : tie.Need-intervals-of-requires
 intervals-of-requires c κs = (search under-order, search under-within)
 
 add-day-requires : tie.Need-add-day-requires
-add-day-requires c κs = (search day-order, search day-within, search needs)
+add-day-requires c κs = (search day-order, search day-within, search few-intervals)
 
 enum-told : tie.Need-enum-told
 enum-told c = search needs

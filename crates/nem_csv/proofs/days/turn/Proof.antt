@@ -1,5 +1,4 @@
 -- `nem_csv::days::turn` meets its contract. Assumes nothing.
-use Rattle.passing.proofs.Walk.{file-short}
 use Rattle.filling.proofs.Cases.{next-noted}
 use borrow.Author.Needs.{needs}
 use Rattle.nem_csv.proofs.days.turn.Statement.{statement}
@@ -9,7 +8,7 @@ find-day-requires : tie.Need-find-day-requires
 find-day-requires c κs = search needs
 
 day-sum-requires : tie.Need-day-sum-requires
-day-sum-requires c κs = (search needs, search file-short)
+day-sum-requires c κs = search needs
 
 behind-requires : tie.Need-behind-requires
 behind-requires c κs = search needs
