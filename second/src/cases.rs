@@ -22,6 +22,7 @@ mod null_data;
 mod parts;
 mod requests;
 mod scene;
+mod splits;
 mod stores;
 mod sweep;
 mod table_sweep;
@@ -36,6 +37,7 @@ mod writes;
 use chance::Chance;
 
 pub use maps::sequence as map_sequence;
+pub use splits::sequence as split_sequence;
 pub use stores::sequence as store_sequence;
 pub use table_sweep::file;
 

@@ -23,7 +23,7 @@ pub struct DayFound {
 pub fn find_day(file: &[u8], number: usize) -> Result<DayFound, Refusal> {
     let content = read_file(file)?;
     let day = content.day(number)?;
-    let head = content.channels[day.channel].record.as_ref().expect("a channel of a file begins with a record");
+    let head = content.channels[day.channel].head();
     Ok(DayFound {
         channel: day.channel,
         nmi: head.field(2).start,

@@ -18,6 +18,7 @@ mod refusal;
 mod replace;
 #[cfg(test)]
 mod settled;
+mod split;
 mod store;
 mod table;
 mod tenants;
@@ -33,7 +34,8 @@ use std::path::Path;
 use std::process::ExitCode;
 
 const USAGE: &str = "usage: second probe [--tally] | second cases SEED COUNT | second stores SEED COUNT | \
-                     second maps SEED COUNT | second files SEED COUNT FOLDER | second csv FILE | second daily FILE";
+                     second maps SEED COUNT | second splits SEED COUNT | second files SEED COUNT FOLDER | \
+                     second csv FILE | second daily FILE";
 
 fn main() -> ExitCode {
     let arguments: Vec<String> = std::env::args().skip(1).collect();
@@ -51,6 +53,10 @@ fn main() -> ExitCode {
         },
         ["maps", seed, count] => match (seed.parse(), count.parse()) {
             (Ok(seed), Ok(count)) => make_cases(cases::map_sequence, seed, count),
+            _ => return usage(),
+        },
+        ["splits", seed, count] => match (seed.parse(), count.parse()) {
+            (Ok(seed), Ok(count)) => make_cases(cases::split_sequence, seed, count),
             _ => return usage(),
         },
         ["files", seed, count, folder] => match (seed.parse(), count.parse()) {

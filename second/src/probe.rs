@@ -1,6 +1,7 @@
 //! The probe: cases in, answers out, line by line.
 
 mod maps;
+mod splits;
 mod stores;
 
 use crate::block::check_block;
@@ -18,6 +19,10 @@ const LONGEST_LENT: u64 = 1_100_000;
 const LONGEST_LIST: u64 = 300;
 const LONGEST_TEXT: u64 = 4_096;
 const LARGEST_ROOM: u64 = 131_072;
+/// Of an NMI, and of a suffix.
+const LONGEST_KEY_PART: u64 = 64;
+/// Of all keys of a version.
+const LONGEST_KEYS: u64 = 2_000;
 
 /// How often each answer was given.
 #[derive(Default)]
@@ -56,7 +61,7 @@ pub struct Tally {
     pub all: Counts,
     /// Those to `block` cases, which are among all too.
     pub blocks: Counts,
-    /// Likewise those to `find` and to `replace` cases, and to each kind of case about a store or a map.
+    /// Likewise those to `find` and to `replace` cases, and to each kind of case about a store, a map or a split.
     pub finds: Counts,
     pub replacements: Counts,
     pub makes: Counts,
@@ -68,6 +73,9 @@ pub struct Tally {
     pub adds: Counts,
     pub backs: Counts,
     pub questions: Counts,
+    pub splits: Counts,
+    pub day_splits: Counts,
+    pub stored_splits: Counts,
     /// The slots that were read and are free. They are not among those accepted.
     pub free_slots: u64,
     /// The accepted replacements behind which the edited file was checked at once, and accepted.
@@ -108,6 +116,11 @@ impl Tally {
             [("makemap ", &self.map_makes), ("add ", &self.adds), ("back ", &self.backs), ("on ", &self.questions)]
         {
             lines += &counts.lines(before, refusal::of_maps());
+        }
+        for (before, counts) in
+            [("split ", &self.splits), ("splitday ", &self.day_splits), ("splitstored ", &self.stored_splits)]
+        {
+            lines += &counts.lines(before, refusal::of_splits());
         }
         if self.bad_case {
             lines += "bad case 1\n";
@@ -175,6 +188,7 @@ fn answer_case(input: &mut Input, memory: &mut Vec<u8>, tally: &mut Tally) -> Op
         }
         [b"write", ref numbers @ ..] => answer_write(input, numbers, tally),
         [b"makemap" | b"add" | b"back" | b"on", ..] => maps::answer_case(&words, input, memory, tally),
+        [b"split" | b"splitday" | b"splitstored", ..] => splits::answer_case(&words, input, memory, tally),
         _ => stores::answer_case(&words, input, memory, tally),
     }
 }
@@ -442,6 +456,9 @@ fn end_line(line: &mut Vec<u8>, changed: bool) {
 
 // --- Input ---
 
+/// The bytes of an NMI and of a suffix.
+type KeyBytes<'a> = (&'a [u8], &'a [u8]);
+
 /// What is left of the input.
 struct Input<'a> {
     bytes: &'a [u8],
@@ -475,6 +492,18 @@ impl<'a> Input<'a> {
     fn lent(&mut self, length: &[u8]) -> Option<&'a [u8]> {
         let length = number(length, LONGEST_LENT)?;
         self.announced(length as usize)
+    }
+
+    /// As many bytes of an NMI and of a suffix as the words say.
+    fn key(&mut self, nmi: &[u8], suffix: &[u8]) -> Option<KeyBytes<'a>> {
+        let nmi = self.take(number(nmi, LONGEST_KEY_PART)? as usize)?;
+        let suffix = self.take(number(suffix, LONGEST_KEY_PART)? as usize)?;
+        Some((nmi, suffix))
+    }
+
+    /// A line with as many shares as the word says.
+    fn shares(&mut self, length: &[u8]) -> Option<Vec<u16>> {
+        Some(narrow(self.list(length, u64::from(u16::MAX))?, |number| number as u16))
     }
 
     /// A line with as many numbers as the word says, a space behind each.

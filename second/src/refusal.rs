@@ -38,14 +38,17 @@ pub const NO_STORE: u64 = 21;
 pub const VERSIONS_ALL_USED: u64 = 23;
 /// Of a version's first date, also of one that is no date.
 pub const DATE_FALLS: u64 = 24;
+/// Of a version to be added, and of what a total is to be split by.
 pub const ENTRY_UNFIT: u64 = 25;
+pub const NO_SHARES: u64 = 26;
+pub const TOTAL_TOO_LARGE: u64 = 27;
 
 /// The highest refusal number. (17 was struck: no total of a file reaches 2^64. Nothing here gives 22.)
-pub const LAST: u64 = ENTRY_UNFIT;
+pub const LAST: u64 = TOTAL_TOO_LARGE;
 
 /// The numbers of all refusals.
 pub fn numbers() -> impl Iterator<Item = u64> {
-    of_files().chain(DAY_NOT_NEWER..=NO_STORE).chain(VERSIONS_ALL_USED..=ENTRY_UNFIT)
+    of_files().chain(DAY_NOT_NEWER..=NO_STORE).chain(VERSIONS_ALL_USED..=LAST)
 }
 
 /// Those that files, blocks and days to be written can get.
@@ -61,6 +64,11 @@ pub fn of_stores() -> impl Iterator<Item = u64> {
 /// Those that calls on a tenant map can get.
 pub fn of_maps() -> impl Iterator<Item = u64> {
     [NO_SUCH_NUMBER, LENT_TOO_SHORT, NO_STORE].into_iter().chain(VERSIONS_ALL_USED..=ENTRY_UNFIT)
+}
+
+/// Those that splits can get: of a total, of a file's day and of a stored one.
+pub fn of_splits() -> impl Iterator<Item = u64> {
+    (FILE_TOO_LONG..=LENT_TOO_SHORT).chain([NO_STORE]).chain(ENTRY_UNFIT..=TOTAL_TOO_LARGE)
 }
 
 impl Refusal {

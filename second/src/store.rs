@@ -6,7 +6,7 @@ mod conditions;
 pub mod layout;
 pub mod reading;
 #[cfg(test)]
-mod worked;
+pub mod worked;
 
 use crate::day::{hand_out, DayRead, LentLists};
 use crate::keys::Key;

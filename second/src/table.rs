@@ -4,7 +4,7 @@ use crate::check::read_file;
 use crate::fields::{day_after, year_month_day};
 use crate::records::Record;
 use crate::refusal::Refusal;
-use crate::walk::{Channel, Day};
+use crate::walk::Day;
 use crate::write::{note_fields, value_field};
 
 const MINUTES_IN_DAY: usize = 1440;
@@ -15,11 +15,11 @@ pub fn csv(file: &[u8]) -> Result<Vec<u8>, Refusal> {
     let mut table = b"nmi,suffix,unit,start,end,value,quality,reason,description\n".to_vec();
     if content.version == 12 {
         for day in &content.days {
-            table.extend(interval_lines(record_of(&content.channels[day.channel]), day));
+            table.extend(interval_lines(content.channels[day.channel].head(), day));
         }
     } else {
         for channel in &content.channels {
-            table.extend(accumulation_line(record_of(channel)));
+            table.extend(accumulation_line(channel.head()));
         }
     }
     Ok(table)
@@ -30,13 +30,9 @@ pub fn daily(file: &[u8]) -> Result<Vec<u8>, Refusal> {
     let content = read_file(file)?;
     let mut table = b"nmi,suffix,unit,date,sum\n".to_vec();
     for day in &content.days {
-        table.extend(day_line(record_of(&content.channels[day.channel]), day));
+        table.extend(day_line(content.channels[day.channel].head(), day));
     }
     Ok(table)
-}
-
-fn record_of<'a, 'b>(channel: &'b Channel<'a>) -> &'b Record<'a> {
-    channel.record.as_ref().expect("a file's channels begin with a record")
 }
 
 // --- Lines ---
@@ -63,9 +59,7 @@ fn accumulation_line(accumulation: &Record) -> Vec<u8> {
 
 fn day_line(channel: &Record, day: &Day) -> Vec<u8> {
     let [nmi, suffix, unit] = names(channel, 8);
-    // No more than 288 values, each below 10^13.
-    let sum: u64 = day.values.iter().sum();
-    line(&[nmi, suffix, unit, date_word(day.date).into_bytes(), value_field(sum)])
+    line(&[nmi, suffix, unit, date_word(day.date).into_bytes(), value_field(day.sum())])
 }
 
 /// NMI, suffix and unit as they stand in a 200 or a 250, whose unit is the field with this number.

@@ -5,7 +5,7 @@
 mod conditions;
 pub mod layout;
 #[cfg(test)]
-mod worked;
+pub mod worked;
 
 use crate::fields::is_real_date;
 use crate::keys::names_channel;
@@ -32,13 +32,19 @@ pub fn make_map(memory: &mut [u8]) -> Result<usize, Refusal> {
 /// Adds a version that is told by keys of twelve bytes and by shares, and gives its number, counted from 1.
 pub fn add_version(memory: &mut [u8], first: u32, keys: &[u8], shares: &[u16]) -> Result<usize, Refusal> {
     let versions = read_map(memory)?;
+    let entries = told_entries(keys, shares)?;
+    append(memory, &versions, Version { first, entries })
+}
+
+/// The entries that these keys and shares tell, one for each output, as adding keeps them. What is told behind the
+/// outputs may be anything.
+pub fn told_entries(keys: &[u8], shares: &[u16]) -> Result<Vec<Entry>, Refusal> {
     if keys.len() < KEYS_LENGTH || shares.len() < OUTPUTS {
         return Err(Refusal::without_place(LENT_TOO_SHORT));
     }
     let told = keys[..KEYS_LENGTH].chunks(KEY_LENGTH).zip(shares);
     let entries: Option<Vec<Entry>> = told.map(|(key, share)| kept_form(key, *share)).collect();
-    let entries = entries.ok_or(Refusal::without_place(ENTRY_UNFIT))?;
-    append(memory, &versions, Version { first, entries })
+    entries.ok_or(Refusal::without_place(ENTRY_UNFIT))
 }
 
 /// Adds a version equal to the one of this number under a new first date, and gives its number.

@@ -31,6 +31,13 @@ pub struct Channel<'a> {
     pub total: u128,
 }
 
+impl<'a> Channel<'a> {
+    /// The record that a file's channel begins with.
+    pub fn head(&self) -> &Record<'a> {
+        self.record.as_ref().expect("a file's channels begin with a record")
+    }
+}
+
 pub struct Day<'a> {
     /// Number of its channel, from 0.
     pub channel: usize,
@@ -47,6 +54,13 @@ pub struct Day<'a> {
     pub values: Vec<u64>,
     /// One for each value.
     pub notes: Vec<Note<'a>>,
+}
+
+impl Day<'_> {
+    /// What its values add up to: no more than 288 of them, each below 10^13.
+    pub fn sum(&self) -> u64 {
+        self.values.iter().sum()
+    }
 }
 
 /// Where in the order of records the walk stands.

@@ -1,5 +1,5 @@
 -- What the outputs weigh, one after the other. Assumes nothing.
-use Prim.Native.Nat.{ℕ, zero, suc, _+_, _-_, _*_, _≤_, _<_}
+use Prim.Native.Nat.{ℕ, _+_, _-_, _*_, _≤_, _<_}
 use mathlib.Core.Path.{_≡_, refl, sym, ap, _∙_}
 use mathlib.Core.Bool.{Bool, true, false}
 use mathlib.Core.List.{List}
@@ -11,7 +11,7 @@ use Rattle.ground.specs.Lists.{same, sum}
 use Rattle.ground.proofs.Spans.{part-cut}
 use Rattle.entries.specs.Keys.{capitals}
 use Rattle.tenants.specs.Outputs.{Output, output, outputsGiven}
-use Rattle.outputs.proofs.Walks.{givenFrom, given-here, given-none}
+use Rattle.outputs.proofs.Walks.{givenFrom, given-here, given-none, given-long}
 use Rattle.shares.specs.Shares.{one, count}
 use Rattle.shares.proofs.Counts.{one-most}
 use Rattle.shares.proofs.Loops.{sets-all}
@@ -37,11 +37,6 @@ module _ (channel key : List ℕ) (share : ℕ) {b : Bool} (e : b ≡ same (capi
   counts-off t = rw (← e, t)
 
 -- ---- all of them
-
-pub given-long : (n : ℕ) (keys shares : List ℕ) → length (outputsGiven n keys shares) ≡ n
-unfolding outputsGiven
-given-long zero keys shares = refl
-given-long (suc n) keys shares = ap suc (given-long n (drop 12 keys) (drop 1 shares))
 
 -- before output i: so many are on the channel, they weigh so much, and the weights from there on are left to be put
 pub record Weighing (channel keys shares weights : List ℕ) (outputs total i : ℕ) : Type 0 where

@@ -43,7 +43,7 @@ given-map _ (added m first keys shares xs g e) = adding m first keys shares xs e
 -- ---- the entries of a map, handed in again
 
 -- as they were kept
-given-back : (os : List Output) (n : ℕ) → length os ≡ n → all isKept os ≡ true → outputsGiven n (keysOf os) (sharesOf os) ≡ os
+pub given-back : (os : List Output) (n : ℕ) → length os ≡ n → all isKept os ≡ true → outputsGiven n (keysOf os) (sharesOf os) ≡ os
 unfolding outputsGiven keysOf
 given-back [] zero l e = refl
 given-back [] (suc n) l e = absurd (let z : ⊥ = omega arith in z)

@@ -22,6 +22,7 @@ use Rattle.tenants.specs.Outputs.{Output, isChannel, isEmpty, fitOutput, keptOu
 use Rattle.tenants.specs.Versions.{Version, version, versionFrom, versionBytes, versionAt, countIn, versionsIn, mayFollow}
 use Rattle.tenants.specs.Calls.{keptGiven, outputsOf}
 use Rattle.outputs.proofs.Channels.{channel-all}
+use Rattle.outputs.proofs.Walks.{given-long}
 use Rattle.output_bytes.proofs.Back.{outputs-back, bytes-long}
 use Rattle.versions.proofs.Pieces.{count-versions, version-here}
 use Rattle.versions.proofs.Maps.{Mapping}
@@ -79,17 +80,12 @@ all-kept (o ∷ os) e =
     let a = and-true (fitOutput o) (all fitOutput os) e in
     both (isKept (keptOutput o)) (all isKept (map keptOutput os)) (fit-kept o (a .0)) (all-kept os (a .1))
 
-given-many : (n : ℕ) (keys shares : List ℕ) → length (outputsGiven n keys shares) ≡ n
-unfolding outputsGiven
-given-many zero keys shares = refl
-given-many (suc n) keys shares = ap suc (given-many n (drop 12 keys) (drop 1 shares))
-
 pub given-fits : (first : ℕ) (keys shares : List ℕ) → isDate first ≡ true → all fitOutput (outputsGiven 128 keys shares) ≡ true → Fits (version first (keptGiven keys shares))
 given-fits first keys shares d e =
     record {
       dated = d;
       kept = all-kept (outputsGiven 128 keys shares) e;
-      many = length-map (outputsGiven 128 keys shares) keptOutput ∙ given-many 128 keys shares;
+      many = length-map (outputsGiven 128 keys shares) keptOutput ∙ given-long 128 keys shares;
     }
 
 -- ---- entries that a map holds

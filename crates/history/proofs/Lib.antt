@@ -1,4 +1,4 @@
-mod Sound
+pub mod Sound
 mod Fits
 mod Adds
 pub mod Dates

@@ -1,5 +1,5 @@
 -- Entries one after the other, in lists that are handed in and in memory: what is left of them at an entry, and a test of all. Assumes nothing.
-use Prim.Native.Nat.{ℕ, suc, _+_, _-_, _*_, _≤_, _<_}
+use Prim.Native.Nat.{ℕ, zero, suc, _+_, _-_, _*_, _≤_, _<_}
 use mathlib.Core.Path.{_≡_, refl, ap}
 use mathlib.Core.Bool.{Bool, true, false, not}
 use mathlib.Core.List.{List, [], _∷_}
@@ -31,6 +31,11 @@ given-here keys shares i h =
 pub given-none : (keys shares : List ℕ) (i : ℕ) → 128 ≤ i → givenFrom keys shares i ≡ []
 unfolding outputsGiven
 given-none keys shares i h = let n : 128 - i ≡ 0 = omega arith in rw n
+
+pub given-long : (n : ℕ) (keys shares : List ℕ) → length (outputsGiven n keys shares) ≡ n
+unfolding outputsGiven
+given-long zero keys shares = refl
+given-long (suc n) keys shares = ap suc (given-long n (drop 12 keys) (drop 1 shares))
 
 pub entry-here : (b : List ℕ) (i : ℕ) → i < 128 → entriesFrom b i ≡ output (take 12 (drop (14 * i) b)) (numberAt (drop (14 * i) b) 12 2) ∷ entriesFrom b (i + 1)
 unfolding outputsIn

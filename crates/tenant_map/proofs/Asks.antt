@@ -51,7 +51,7 @@ unfolding highest
 highest-most vs date zero = omega arith
 highest-most vs date (suc k) = by (leb (getD vs k none .first) date) (λ e. rw e (omega arith)) (λ e. rw e (omega (arith, highest-most vs date k)))
 
-version-most : (vs : List Version) (date : ℕ) → versionOn vs date ≤ length vs
+pub version-most : (vs : List Version) (date : ℕ) → versionOn vs date ≤ length vs
 unfolding versionOn
 version-most vs date = by (isDate date) (λ e. rw e (highest-most vs date (length vs))) (λ e. rw e (omega arith))
 

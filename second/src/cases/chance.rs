@@ -26,6 +26,11 @@ impl Chance {
         Chance::for_case(seed ^ 0xBB67_AE85_84CA_A73B, number)
     }
 
+    /// For the sequence of splits of this number, likewise.
+    pub fn for_split_sequence(seed: u64, number: u64) -> Chance {
+        Chance::for_case(seed ^ 0x3C6E_F372_FE94_F82B, number)
+    }
+
     pub fn next(&mut self) -> u64 {
         self.state = self.state.wrapping_add(0x9E37_79B9_7F4A_7C15);
         let mut mixed = self.state;

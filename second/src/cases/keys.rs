@@ -66,6 +66,11 @@ impl ToldKey {
         ToldKey { nmi: spell(&self.nmi), suffix: spell(&self.suffix), date: self.date }
     }
 
+    /// How many bytes NMI and suffix have, as a case's line tells it.
+    pub fn lengths(&self) -> String {
+        format!("{} {}", self.nmi.len(), self.suffix.len())
+    }
+
     pub fn key(&self) -> Option<Key> {
         Key::named(&self.nmi, &self.suffix, self.date)
     }

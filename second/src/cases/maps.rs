@@ -2,16 +2,16 @@
 //! number alone. A map has many bytes, so they are asked for behind few calls and at the end of some sequences.
 
 #[cfg(test)]
-mod called;
+pub mod called;
 #[cfg(test)]
 mod conditions;
-mod hand;
+pub mod hand;
 #[cfg(test)]
 mod kinds;
 #[cfg(test)]
 mod plain_list;
 mod scene;
-mod versions;
+pub mod versions;
 
 use super::chance::Chance;
 use super::keys::{NO_DATES, OTHER_BYTES};
@@ -159,7 +159,7 @@ fn some_question(chance: &mut Chance, scene: &mut Scene) {
 }
 
 /// The first date of a version, the date before it or the one behind it. Where there are none, any date.
-fn date_near(chance: &mut Chance, versions: &[Version]) -> u32 {
+pub fn date_near(chance: &mut Chance, versions: &[Version]) -> u32 {
     if versions.is_empty() {
         return words::date(chance);
     }

@@ -1,13 +1,13 @@
 //! Sequences of calls on stores. Each begins with the memory that it lends, so it depends on the seed and its own number
 //! alone, and it asks for the bytes of the memory behind calls that change them and at its end.
 
-mod broken;
+pub mod broken;
 #[cfg(test)]
-mod called;
+pub mod called;
 #[cfg(test)]
 mod conditions;
-mod days;
-mod hand;
+pub mod days;
+pub mod hand;
 #[cfg(test)]
 mod kinds;
 #[cfg(test)]

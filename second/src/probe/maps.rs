@@ -1,12 +1,9 @@
 //! Cases about the lent memory as a tenant map.
 
-use super::{change_line, end_line, narrow, number, refusal_line, Input, Tally, LENT_BYTE, LONGEST_LIST};
+use super::{change_line, end_line, number, refusal_line, Input, Tally, LENT_BYTE, LONGEST_KEYS, LONGEST_LIST};
 use crate::refusal::Refusal;
 use crate::tenants::layout::{COUNT_LENGTH, KEY_LENGTH, NO_KEY, OUTPUTS};
 use crate::tenants::{add_version, back_to, end_of_versions, make_map, map_on, KEYS_LENGTH};
-
-/// Of all keys of a version.
-const LONGEST_KEYS: u64 = 2_000;
 
 /// What stands in lent shares before a call. No call writes it: it is no share.
 const LENT_SHARE: u16 = 0xA5A5;
@@ -21,7 +18,7 @@ pub fn answer_case(words: &[&[u8]], input: &mut Input, memory: &mut [u8], tally:
         [b"add", first, keys, shares] => {
             let first = number(first, u64::from(u32::MAX))? as u32;
             let keys = input.announced(number(keys, LONGEST_KEYS)? as usize)?;
-            let shares = narrow(input.list(shares, u64::from(u16::MAX))?, |number| number as u16);
+            let shares = input.shares(shares)?;
             input.announced(0)?;
             Some(answer_add(memory, first, keys, &shares, tally))
         }

@@ -1,12 +1,12 @@
 //! Cases about the lent memory: what it is, and the calls that make a store of it and use that.
 
-use super::{change_line, head_of, number, read_line, refusal_line, Input, OwnLists, Tally, ToldDay, LONGEST_LIST};
+use super::{
+    change_line, head_of, number, read_line, refusal_line, Input, KeyBytes, OwnLists, Tally, ToldDay, LONGEST_LIST,
+};
 use crate::store::{delete_day, end_of_blocks, get_day, make_store, put_day, read_slot, SlotRead, HEADER_LENGTH};
 use crate::write::DayHead;
 
 const LONGEST_MEMORY: u64 = 1_200_000;
-/// Of an NMI, and of a suffix.
-const LONGEST_KEY_PART: u64 = 64;
 
 /// Answers a case whose words are these.
 pub fn answer_case(words: &[&[u8]], input: &mut Input, memory: &mut Vec<u8>, tally: &mut Tally) -> Option<Vec<u8>> {
@@ -28,6 +28,7 @@ pub fn answer_case(words: &[&[u8]], input: &mut Input, memory: &mut Vec<u8>, tal
         [b"put", nmi, suffix, date, length, update, load, unit, ref lengths @ ..] => {
             let head = head_of([date, length, update, load, unit])?;
             let key = input.key(nmi, suffix)?;
+            input.announced(0)?;
             let day = ToldDay::read(input, lengths)?;
             Some(answer_put(memory, key, head, &day, tally))
         }
@@ -35,11 +36,13 @@ pub fn answer_case(words: &[&[u8]], input: &mut Input, memory: &mut Vec<u8>, tal
             let date = number(date, u64::from(u32::MAX))? as u32;
             let places = number(places, LONGEST_LIST)? as usize;
             let key = input.key(nmi, suffix)?;
+            input.announced(0)?;
             Some(answer_get(memory, key, date, places, tally))
         }
         [b"delete", nmi, suffix, date] => {
             let date = number(date, u64::from(u32::MAX))? as u32;
             let key = input.key(nmi, suffix)?;
+            input.announced(0)?;
             Some(answer_delete(memory, key, date, tally))
         }
         [b"slot", slot] => {
@@ -48,18 +51,6 @@ pub fn answer_case(words: &[&[u8]], input: &mut Input, memory: &mut Vec<u8>, tal
             Some(answer_slot(memory, slot, tally))
         }
         _ => None,
-    }
-}
-
-/// The bytes of an NMI and of a suffix.
-type KeyBytes<'a> = (&'a [u8], &'a [u8]);
-
-impl<'a> Input<'a> {
-    /// As many bytes of an NMI and of a suffix as the words say, and a LF.
-    fn key(&mut self, nmi: &[u8], suffix: &[u8]) -> Option<KeyBytes<'a>> {
-        let nmi = self.take(number(nmi, LONGEST_KEY_PART)? as usize)?;
-        let suffix = self.announced(number(suffix, LONGEST_KEY_PART)? as usize)?;
-        Some((nmi, suffix))
     }
 }
 

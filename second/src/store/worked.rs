@@ -106,7 +106,7 @@ fn make(memory: &mut [u8], slots: u32) -> Result<usize, u64> {
 }
 
 /// A store that was just made, with so many slots and bytes of room.
-fn made(slots: usize, room: usize) -> Vec<u8> {
+pub fn made(slots: usize, room: usize) -> Vec<u8> {
     let mut memory = vec![OLD_BYTE; 32 + 26 * slots + room];
     assert_eq!(make(&mut memory, slots as u32), Ok(room));
     memory

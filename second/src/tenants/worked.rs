@@ -66,7 +66,7 @@ fn version_on(memory: &[u8], date: u32) -> Result<usize, u64> {
 }
 
 /// A map that was just made.
-fn made() -> Vec<u8> {
+pub fn made() -> Vec<u8> {
     let mut memory = vec![OLD_BYTE; 57_476];
     assert_eq!(make(&mut memory), Ok(0));
     memory

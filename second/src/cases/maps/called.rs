@@ -68,7 +68,7 @@ pub fn calls_of(sequence: &[Vec<u8>]) -> Vec<Called> {
 }
 
 /// A case's call. Asking for the bytes is none.
-fn called(case: &[u8], memory: &mut Vec<u8>) -> Option<Called> {
+pub fn called(case: &[u8], memory: &mut Vec<u8>) -> Option<Called> {
     let call = call_of(case)?;
     if matches!(call, Call::Lend) {
         *memory = words_and_bytes(case).1.to_vec();

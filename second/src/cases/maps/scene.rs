@@ -22,8 +22,7 @@ impl Scene {
     pub fn add(&mut self, chance: &mut Chance, told: &Told) {
         let Told { first, keys, shares } = told;
         let line = format!("add {first} {} {}\n", keys.len(), shares.len());
-        let numbers: String = shares.iter().map(|share| format!("{share} ")).collect();
-        self.cases.push([line.as_bytes(), keys, b"\n", numbers.as_bytes(), b"\n\n"].concat());
+        self.cases.push([line.as_bytes(), &told.keys_and_shares(), b"\n"].concat());
         let answer = add_version(&mut self.memory, *first, keys, shares);
         self.bytes_by_chance(chance, answer);
     }

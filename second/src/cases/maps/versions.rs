@@ -32,14 +32,24 @@ impl Told {
 
     /// Any version that adding takes, its letters of either case.
     pub fn any(chance: &mut Chance, first: u32) -> Told {
-        let mut told = Told::of(first, &entries(chance));
+        Told::of(first, &entries(chance)).spelled(chance)
+    }
+
+    /// The same with letters of either case.
+    pub fn spelled(mut self, chance: &mut Chance) -> Told {
         let small_of_4 = chance.pick(&[0, 2, 4]);
-        for byte in &mut told.keys {
+        for byte in &mut self.keys {
             if chance.below(4) < small_of_4 {
                 byte.make_ascii_lowercase();
             }
         }
-        told
+        self
+    }
+
+    /// Keys and shares as a case tells them, each ended by LF.
+    pub fn keys_and_shares(&self) -> Vec<u8> {
+        let numbers: String = self.shares.iter().map(|share| format!("{share} ")).collect();
+        [&self.keys[..], b"\n", numbers.as_bytes(), b"\n"].concat()
     }
 
     /// The entries of the outputs, as they are told.
@@ -111,11 +121,11 @@ pub fn used_entry(chance: &mut Chance) -> Entry {
     Entry { key: key_bytes(&ToldKey::any(chance)), share: share(chance) }
 }
 
-fn key_bytes(key: &ToldKey) -> [u8; KEY_LENGTH] {
+pub fn key_bytes(key: &ToldKey) -> [u8; KEY_LENGTH] {
     [&key.nmi[..], &key.suffix].concat().try_into().expect("a good key")
 }
 
-fn share(chance: &mut Chance) -> u16 {
+pub fn share(chance: &mut Chance) -> u16 {
     match chance.below(3) {
         0 => chance.pick(&[0, 1, 999, 1000]),
         _ => chance.between(0, 1000) as u16,

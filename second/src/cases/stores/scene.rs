@@ -27,7 +27,7 @@ impl Scene {
     pub fn put(&mut self, chance: &mut Chance, key: &ToldKey, day: &Draft) {
         let head = DayHead { date: key.date, ..day.head };
         let DayHead { date, length, update, load, unit } = head;
-        let line = format!("put {} {date} {length} {update} {load} {unit}{}\n", lengths_of(key), day.counts());
+        let line = format!("put {} {date} {length} {update} {load} {unit}{}\n", key.lengths(), day.counts());
         let parts = [line.as_bytes(), &key.nmi, &key.suffix, b"\n", &day.lists_and_text(), b"\n"];
         self.cases.push(parts.concat());
         let answer = put_day(&mut self.memory, &key.nmi, &key.suffix, head, day.lists());
@@ -35,12 +35,12 @@ impl Scene {
     }
 
     pub fn get(&mut self, key: &ToldKey, places: usize) {
-        let line = format!("get {} {} {places}\n", lengths_of(key), key.date);
+        let line = format!("get {} {} {places}\n", key.lengths(), key.date);
         self.cases.push([line.as_bytes(), &key.nmi, &key.suffix, b"\n"].concat());
     }
 
     pub fn delete(&mut self, chance: &mut Chance, key: &ToldKey) {
-        let line = format!("delete {} {}\n", lengths_of(key), key.date);
+        let line = format!("delete {} {}\n", key.lengths(), key.date);
         self.cases.push([line.as_bytes(), &key.nmi, &key.suffix, b"\n"].concat());
         let answer = delete_day(&mut self.memory, &key.nmi, &key.suffix, key.date);
         self.bytes_behind(chance, answer);
@@ -60,8 +60,4 @@ impl Scene {
             self.bytes();
         }
     }
-}
-
-fn lengths_of(key: &ToldKey) -> String {
-    format!("{} {}", key.nmi.len(), key.suffix.len())
 }

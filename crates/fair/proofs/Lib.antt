@@ -1,0 +1,5 @@
+mod Ranks
+pub mod Fair
+pub mod Orders
+pub mod Calls
+pub mod Days
