@@ -1,12 +1,14 @@
 -- What the outputs weigh, one after the other. Assumes nothing.
 use Prim.Native.Nat.{ℕ, _+_, _-_, _*_, _≤_, _<_}
-use mathlib.Core.Path.{_≡_, refl, sym, ap, _∙_}
+use mathlib.Core.Path.{_≡_, sym, _∙_}
 use mathlib.Core.Bool.{Bool, true, false}
 use mathlib.Core.List.{List}
 use native.Mathlib.Numerals.{add-one}
 use native.Mathlib.Omega.{arith}
 use lib.ListN.{length, getD, take, drop, set, length-set, length-map}
 use lib.Seq.{sets}
+use mir.Val.{Fits}
+use mir.Syntax.{w64}
 use Rattle.ground.specs.Lists.{same, sum}
 use Rattle.ground.proofs.Spans.{part-cut}
 use Rattle.entries.specs.Keys.{capitals}
@@ -64,6 +66,10 @@ module _ (channel keys shares : List ℕ) {weights : List ℕ} where
       }
 
   module _ {outputs total i : ℕ} (r : Weighing channel keys shares weights outputs total i) where
+    -- no share has more than 16 bits
+    pub weighing-light : i < 128 → {w : ℕ} → w ≤ 65535 → Fits w64 (total + w)
+    weighing-light h l = omega (arith, r .light)
+
     -- the next output
     module _ (h : i < 128) {k w : ℕ} (ek : k ≡ one (hasKey channel (output (take (12 * i + 12 - 12 * i) (drop (12 * i) keys)) (getD shares i 0))))
         (ew : w ≡ weightOf (hasKey channel) (output (take (12 * i + 12 - 12 * i) (drop (12 * i) keys)) (getD shares i 0))) (l : w ≤ 65535) where
@@ -89,11 +95,8 @@ module _ (channel keys shares : List ℕ) {weights : List ℕ} where
             left = rw (weighs-here, add-one i) (rw (given-here keys shares i h, add-one i) at (r .left));
           }
 
-      pub weighing-few : outputs + k ≤ 128
+      pub weighing-few : Fits w64 (outputs + k)
       weighing-few = omega (arith, r .few, counts-here, one-most (hasKey channel here))
-
-      pub weighing-light : total + w ≤ 8388480
-      weighing-light = omega (arith, r .light)
 
     module _ (h : 128 ≤ i) where
       pub weighed-outputs : outputs ≡ count (hasKey channel) (outputsGiven 128 keys shares)

@@ -18,7 +18,8 @@ struct Weight {
 }
 
 // An output counts as one and weighs its share if its key is the channel's, which is in capitals.
-fn weight_of(channel: &[u8], key: &[u8], share: u16) -> Weight
+fn weight_of(channel: &[u8], key: &[u8], share: u64) -> Weight
+    requires { ⌜ share ≤ 65535 ⌝ }
     ensures counts { λ r. ⌜ r .count ≡ one (hasKey (now (channel .entry)) (output (now (key .entry)) share)) ⌝ }
     ensures weighs { λ r. ⌜ r .weight ≡ weightOf (hasKey (now (channel .entry))) (output (now (key .entry)) share) ⌝ }
     ensures light { λ r. ⌜ r .weight ≤ 65535 ⌝ }
@@ -26,7 +27,7 @@ fn weight_of(channel: &[u8], key: &[u8], share: u16) -> Weight
     if same_capitals(key, channel) {
         return Weight {
             count: 1,
-            weight: share as u64,
+            weight: share,
         };
     }
     Weight {
@@ -54,10 +55,12 @@ pub fn put_weights(channel: &[u8], keys: &[u8], shares: &[u16], weights: &mut [u
     while i < OUTPUTS {
         let a = 12 * i;
         let e = a + 12;
-        let w = weight_of(channel, &keys[a..e], shares[i]);
-        weights[i] = w.weight;
+        let share = shares[i] as u64;
+        let w = weight_of(channel, &keys[a..e], share);
+        let weight = w.weight;
+        weights[i] = weight;
         outputs += w.count;
-        sum += w.weight;
+        sum += weight;
         i += 1;
     }
     OnChannel {

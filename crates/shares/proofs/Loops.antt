@@ -6,7 +6,7 @@ use mathlib.Core.Bool.{Bool, true, false}
 use native.Mathlib.Nat.{mul-le-mul, div-le-self, add-zero, sub-zero}
 use native.Mathlib.Numerals.{add-one}
 use native.Mathlib.Omega.{arith}
-use lib.ListN.{length, getD, take, drop, set, length-set, length-map, length-take, length-drop, drop-of-length-le}
+use lib.ListN.{length, getD, take, drop, set, length-set, length-map, drop-of-length-le}
 use lib.Seq.{sets}
 use lib.Dec.{eqb, ltb, leb}
 use borrow.Author.Tests.{leb-true, lt-ltb, le-ltb, le-leb, lt-leb}
@@ -17,7 +17,7 @@ use Rattle.ground.proofs.Room.{sets-front}
 use Rattle.ground.proofs.From.{from-step, from-end, length-from}
 use Rattle.shares.specs.Shares.{one, count, floors, remainders, leftover, ahead, partOf, partsOf, Ready, Rounded}
 use Rattle.shares.proofs.Sums.{floors-most, leftover-most}
-use Rattle.shares.proofs.Counts.{one-as-large, count-length, ahead-small}
+use Rattle.shares.proofs.Counts.{one-as-large, ahead-small}
 
 -- ---- light weights
 
@@ -121,17 +121,15 @@ count-apart p zero rs = omega arith
 count-apart p (suc i) [] = refl
 count-apart p (suc i) (y ∷ rs) = omega (arith, count-apart p i rs)
 
-module _ (rs : List ℕ) (i x : ℕ) {a b : ℕ} (p : a ≡ count (leb x) (take i rs)) (q : b ≡ count (ltb x) (take (length rs - i) (drop i rs))) where
-  behind : b ≡ count (ltb x) (drop i rs)
-  behind = rw (to-end i rs) at q
+module _ (rs : List ℕ) (i x : ℕ) {a b : ℕ} (p : a ≡ count (leb x) (take i rs)) (q : b ≡ count (ltb x) (take (length rs - (i + 1)) (drop (i + 1) rs))) where
+  behind : b ≡ count (ltb x) (drop (i + 1) rs)
+  behind = rw (to-end (i + 1) rs) at q
 
-  pub before-is : x ≡ getD rs i 0 → a + b ≡ ahead rs i
-  unfolding ahead
-  before-is e = rw (← e) (omega (arith, p, behind, as-large-is x (take i rs), count-apart (ltb x) i rs))
-
-  pub before-most : length rs ≤ 128 → a + b ≤ 128
-  before-most h =
-      omega (arith, p, behind, count-length (leb x) (take i rs), count-length (ltb x) (drop i rs), length-take i rs, length-drop i rs)
+  pub before-is : i < length rs → x ≡ getD rs i 0 → a + b ≡ ahead rs i
+  unfolding ahead count
+  before-is h e =
+      let d : count (ltb x) (drop i rs) ≡ count (ltb x) (drop (i + 1) rs) = rw (rest rs i h, ← e, le-ltb x x (omega arith)) (omega arith) in
+      rw (← e) (omega (arith, p, behind, d, as-large-is x (take i rs), count-apart (ltb x) i rs))
 
 -- ---- the parts
 

@@ -8,7 +8,8 @@ ghost use Rattle.shares.specs.Shares.{count, ahead, remainders, leftover
 
 // How many are larger than x.
 fn larger(rs: &[u64], x: u64) -> usize
-    ensures { λ r. ⌜ r ≡ count (ltb x) (now (rs .entry)) ⌝ }
+    ensures is { λ r. ⌜ r ≡ count (ltb x) (now (rs .entry)) ⌝ }
+    ensures most { λ r. ⌜ r ≤ length (now (rs .entry)) ⌝ }
 {
     let n = rs.len();
     let mut k: usize = 0;
@@ -24,7 +25,8 @@ fn larger(rs: &[u64], x: u64) -> usize
 
 // How many are x or larger.
 fn as_large(rs: &[u64], x: u64) -> usize
-    ensures { λ r. ⌜ r ≡ count (leb x) (now (rs .entry)) ⌝ }
+    ensures is { λ r. ⌜ r ≡ count (leb x) (now (rs .entry)) ⌝ }
+    ensures most { λ r. ⌜ r ≤ length (now (rs .entry)) ⌝ }
 {
     let n = rs.len();
     let mut k: usize = 0;
@@ -38,13 +40,15 @@ fn as_large(rs: &[u64], x: u64) -> usize
     k
 }
 
-// How many come before place i: of the lower ones those that are equal too, so that each is looked at once.
+// How many come before place i: of the lower ones those that are equal too, so that each of the others is looked at once.
 fn before(rs: &[u64], i: usize) -> usize
     requires { ⌜ (i < length (now rs)) × (length (now rs) ≤ 128) ⌝ }
     ensures { λ r. ⌜ r ≡ ahead (now (rs .entry)) i ⌝ }
 {
     let x = rs[i];
-    as_large(&rs[..i], x) + larger(&rs[i..], x)
+    let lower = &rs[..i];
+    let higher = &rs[i + 1..];
+    as_large(lower, x) + larger(higher, x)
 }
 
 // Puts the remainders into `rs`, and answers what remains when every part is rounded down.

@@ -1,6 +1,7 @@
 -- `channel_shares::put_weights` meets its contract. Assumes nothing.
-use Prim.Native.Nat.{_-_, _+_, _≤_}
-use Rattle.channel_shares.proofs.Weighs.{Weighing, weighing, weighing-more, weighed-outputs, weighed-shares, weighed-all, weighing-few, weighing-light}
+use lib.ListN.{getD}
+use Prim.Native.Nat.{_-_, _≤_}
+use Rattle.channel_shares.proofs.Weighs.{Weighing, weighing-none, weighing-more, weighing-few, weighing-light, weighed-outputs, weighed-shares, weighed-all}
 use native.Mathlib.Omega.{arith}
 use borrow.Author.Needs.{needs}
 use Rattle.channel_shares.proofs.put_weights.Statement.{statement}
@@ -13,13 +14,22 @@ abbrev μ-loop : tie.MeasureT-loop
 μ-loop channel keys shares weights₀ outputs₀ sum₀ i₀ weights outputs sum i = 128 - i
 
 loop-holds : tie.Need-loop-holds Inv-loop μ-loop
-loop-holds c = search weighing
+loop-holds c = search weighing-none
 
 mul-a : tie.Need-mul-a Inv-loop μ-loop
 mul-a c = search needs
 
 add-e : tie.Need-add-e Inv-loop μ-loop
 add-e c = search needs
+
+mul-share : tie.Need-mul-share Inv-loop μ-loop
+mul-share c = search needs
+
+shared-slice-read-share : tie.Need-shared-slice-read-share Inv-loop μ-loop
+shared-slice-read-share c = search needs
+
+cast-share : tie.Need-cast-share Inv-loop μ-loop
+cast-share c = omega (arith, c .shared-slice-known4 .given (c .before .before .loop .i))
 
 sub-weight-of : tie.Need-sub-weight-of Inv-loop μ-loop
 sub-weight-of c = search needs
@@ -30,14 +40,8 @@ part-weight-of-start c = search needs
 part-weight-of-end : tie.Need-part-weight-of-end Inv-loop μ-loop
 part-weight-of-end c = search needs
 
-mul-weight-of : tie.Need-mul-weight-of Inv-loop μ-loop
-mul-weight-of c = search needs
-
-shared-slice-read-weight-of : tie.Need-shared-slice-read-weight-of Inv-loop μ-loop
-shared-slice-read-weight-of c = search needs
-
 weight-of-requires : tie.Need-weight-of-requires Inv-loop μ-loop
-weight-of-requires c κs = search needs
+weight-of-requires c κs = omega (arith, c .before .shared-slice-known4 .given (c .before .before .before .loop .i))
 
 mul-weights : tie.Need-mul-weights Inv-loop μ-loop
 mul-weights c = search needs
@@ -46,10 +50,10 @@ slice-write-weights : tie.Need-slice-write-weights Inv-loop μ-loop
 slice-write-weights c = search needs
 
 add-outputs : tie.Need-add-outputs Inv-loop μ-loop
-add-outputs c = let h : c .before .before .before .before .before .loop .outputs + c .before .weight-of .result .count ≤ 128 = search weighing-few in omega arith
+add-outputs c = search weighing-few
 
 add-sum : tie.Need-add-sum Inv-loop μ-loop
-add-sum c = let h : c .before .before .before .before .before .before .loop .sum + c .before .before .weight-of .result .weight ≤ 8388480 = search weighing-light in omega arith
+add-sum c = let h : getD (c .before .before .before .before .before .before .before .before .before .before .args .shares .now) (c .before .before .before .before .before .loop .i) 0 ≤ 65535 = omega (arith, c .before .before .before .shared-slice-known4 .given (c .before .before .before .before .before .loop .i)) in search weighing-light
 
 add-i : tie.Need-add-i Inv-loop μ-loop
 add-i c = search needs
@@ -75,11 +79,12 @@ put-weights-spec =
     loop-holds
     mul-a
     add-e
+    mul-share
+    shared-slice-read-share
+    cast-share
     sub-weight-of
     part-weight-of-start
     part-weight-of-end
-    mul-weight-of
-    shared-slice-read-weight-of
     weight-of-requires
     mul-weights
     slice-write-weights

@@ -36,7 +36,7 @@ loop-again : tie.Need-loop-again Inv-loop μ-loop
 loop-again c = ⊎-elim (λ w. search counting) (λ w. search counting) (c .if1 .came)
 
 returns : tie.Need-returns Inv-loop μ-loop
-returns c = search counting
+returns c = (search counting, search needs)
 
 pub as-large-spec : {M : Type 1} → statement M
 as-large-spec =
