@@ -27,6 +27,9 @@ use Rattle.store.specs.declared.SlotRead.the-variants as slotRead
 use Rattle.tenants.specs.Calls.{versionedAs}
 use Rattle.tenants.specs.declared.Versioned.{Versioned}
 use Rattle.tenants.specs.declared.Versioned.the-variants as versioned
+use Rattle.splits.specs.Calls.{splitAs}
+use Rattle.splits.specs.declared.Split.{Split}
+use Rattle.splits.specs.declared.Split.the-variants as split
 
 refusal-is : (n p r f : ℕ) → Refusal
 refusal-is n p r f = record { number = n; place = p; «record» = r; field = f }
@@ -105,3 +108,9 @@ versioned-one (versioned.Version a) (versioned.Version b) e = cc
 versioned-one (versioned.Version a) (versioned.Refused y) e = cc
 versioned-one (versioned.Refused x) (versioned.Version b) e = cc
 versioned-one (versioned.Refused x) (versioned.Refused y) e = ap versioned.Refused (refusal-one x y e)
+
+pub split-one : (x y : Split) → splitAs x ≡ splitAs y → x ≡ y
+split-one (split.Done a) (split.Done b) e = cc
+split-one (split.Done a) (split.Refused y) e = cc
+split-one (split.Refused x) (split.Done b) e = cc
+split-one (split.Refused x) (split.Refused y) e = ap split.Refused (refusal-one x y e)

@@ -39,7 +39,13 @@ use Rattle.tenant_map.proofs.back_to.Kinds as back-kinds
 use Rattle.tenant_map.proofs.back_to.Reads as back-reads
 use Rattle.tenant_map.proofs.map_on.Kinds as on-kinds
 use Rattle.tenant_map.proofs.map_on.Reads as on-reads
-use Rattle.determined.proofs.Answers.{checked-one, day-read-one, totalled-one, written-one, found-one, replaced-one, made-one, kept-one, slot-read-one, versioned-one}
+use Rattle.splitter.proofs.split.Kinds as split-kinds
+use Rattle.splitter.proofs.split.Reads as split-reads
+use Rattle.splitter.proofs.split_day.Kinds as split-day-kinds
+use Rattle.splitter.proofs.split_day.Reads as split-day-reads
+use Rattle.splitter.proofs.split_stored.Kinds as split-stored-kinds
+use Rattle.splitter.proofs.split_stored.Reads as split-stored-reads
+use Rattle.determined.proofs.Answers.{checked-one, day-read-one, totalled-one, written-one, found-one, replaced-one, made-one, kept-one, slot-read-one, versioned-one, split-one}
 
 -- `check` is lent nothing that it may change
 pub one-check : (κs : Lfts 1) (a : Dens κs check-kinds.ps) (x y : resT check-kinds.r κs .Denot) (e f : AtExit (endedOf 1 check-kinds.ps check-kinds.r) κs)
@@ -138,3 +144,18 @@ pub one-on : (κs : Lfts 3) (a : Dens κs on-kinds.ps) (x y : resT on-kinds.r κ
 one-on κs a x y e f p q =
     let o = p ∙ sym q in
     (versioned-one x y (ap (λ (u : Mapped). u .answer) o), ap (λ (u : Mapped). u .keys) o, ap (λ (u : Mapped). u .shares) o)
+
+-- `split`, `split_day`, `split_stored`: the answer, and the parts
+pub one-split : (κs : Lfts 5) (a : Dens κs split-kinds.ps) (x y : resT split-kinds.r κs .Denot) (e f : AtExit (endedOf 5 split-kinds.ps split-kinds.r) κs)
+    → split-reads.Learnt κs a x e → split-reads.Learnt κs a y f → (x ≡ y) × (now (e .1 .1 .1 .1 .1 .0) ≡ now (f .1 .1 .1 .1 .1 .0))
+one-split κs a x y e f p q = let o = p ∙ sym q in (split-one x y (ap (λ (u : Lent.Left). u .answer) o), ap (λ (u : Lent.Left). u .memory) o)
+
+pub one-split-day : (κs : Lfts 3) (a : Dens κs split-day-kinds.ps) (x y : resT split-day-kinds.r κs .Denot)
+    (e f : AtExit (endedOf 3 split-day-kinds.ps split-day-kinds.r) κs)
+    → split-day-reads.Learnt κs a x e → split-day-reads.Learnt κs a y f → (x ≡ y) × (now (e .1 .1 .1 .0) ≡ now (f .1 .1 .1 .0))
+one-split-day κs a x y e f p q = let o = p ∙ sym q in (split-one x y (ap (λ (u : Lent.Left). u .answer) o), ap (λ (u : Lent.Left). u .memory) o)
+
+pub one-split-stored : (κs : Lfts 5) (a : Dens κs split-stored-kinds.ps) (x y : resT split-stored-kinds.r κs .Denot)
+    (e f : AtExit (endedOf 5 split-stored-kinds.ps split-stored-kinds.r) κs)
+    → split-stored-reads.Learnt κs a x e → split-stored-reads.Learnt κs a y f → (x ≡ y) × (now (e .1 .1 .1 .1 .1 .0) ≡ now (f .1 .1 .1 .1 .1 .0))
+one-split-stored κs a x y e f p q = let o = p ∙ sym q in (split-one x y (ap (λ (u : Lent.Left). u .answer) o), ap (λ (u : Lent.Left). u .memory) o)
