@@ -18,7 +18,7 @@ use Rattle.format.specs.Records.{kindIn, intervalsIn, dateIn}
 use Rattle.format.specs.Answers.{Answer, accepted, refused, refusal}
 use Rattle.format.specs.File.{checkOf}
 use Rattle.format.specs.Day.{Row, rowAt, BlockRows, DayRows, daysFrom, daysOf, valuesOf, noChannel}
-use Rattle.entries.specs.Keys.{Key, inCapitals}
+use Rattle.entries.specs.Keys.{Key}
 use Rattle.entries.specs.Left.{left}
 use Rattle.entries.specs.declared.Entry.{Entry}
 use Rattle.store.specs.Head.{headerOf}
@@ -32,7 +32,7 @@ use Rattle.tenants.specs.Calls.{outputsOf}
 use Rattle.versions.proofs.Maps.{mapping}
 use Rattle.tenant_map.proofs.Asks.{version-most, on-shares-long}
 use Rattle.history.proofs.Sound.{sound-kept}
-use Rattle.history.proofs.Exactly.{given-back}
+use Rattle.history.proofs.Exactly.{given-back, kept-fit}
 use Rattle.whose.specs.Whose.{nmiField, suffixField}
 use Rattle.sums.proofs.Sums.{values-most}
 use Rattle.day_sums.specs.Sought.{found, missing, soughtFirst, soughtAfter, dayIn}
@@ -46,10 +46,6 @@ use Rattle.fair.proofs.Calls.{passed, refuses, accepts, split-shared, f
 -- the outputs that a map has on a date
 abbrev pub outputsOn : List ℕ → ℕ → List Output
 outputsOn m date = outputsOf (versionsIn m) (versionOn (versionsIn m) date)
-
-kept-fit : (o : Output) → isKept o ≡ true → fitOutput o ≡ true
-unfolding isKept
-kept-fit o e = and-true (fitOutput o) (inCapitals (o .key)) e .0
 
 module _ (m : List ℕ) (date : ℕ) (a : isMap m ≡ true) (b : leb 1 (versionOn (versionsIn m) date) ≡ true) where
   kept-on : all isKept (outputsOn m date) ≡ true

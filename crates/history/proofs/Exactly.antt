@@ -60,7 +60,7 @@ keys-many (o ∷ os) e =
     let g = and-true (isKept o) (all isKept os) e in
     omega (arith, length-append (o .key) (keysOf os), kept-sized o (g .0) .twelve, keys-many os (g .1))
 
-kept-fit : (o : Output) → isKept o ≡ true → fitOutput o ≡ true
+pub kept-fit : (o : Output) → isKept o ≡ true → fitOutput o ≡ true
 unfolding isKept
 kept-fit o e = and-true (fitOutput o) (inCapitals (o .key)) e .0
 

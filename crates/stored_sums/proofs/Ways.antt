@@ -15,7 +15,6 @@ use Rattle.format.proofs.Numbers.{intervals-most}
 use Rattle.entries.specs.Keys.{Key}
 use Rattle.entries.specs.Entries.{entryAt}
 use Rattle.entries.specs.declared.Entry.{Entry}
-use Rattle.store.specs.Head.{headerOf}
 use Rattle.store.specs.Ranges.{slotPlace, slotOf}
 use Rattle.store.specs.Calls.{seek, isThere, dayRows}
 use Rattle.store.specs.declared.Header.{Header}
@@ -44,12 +43,9 @@ module _ (m : List ℕ) (x : Key) {o : Opened} (e : o ≡ openedOf m) where
   sum-21 q p = rw (opened-not m e q) p
 
   module _ {h : Header} (q : o ≡ Is h) {i : ℕ} (ei : i ≡ seek m h x) where
-    is : h ≡ headerOf m
-    is = opened-header m e q
-
     pub sum-14 : h .slots ≤ i → {a : Answer} → a ≡ refusal 14 → a ≡ storedSumOf m x
     unfolding storedSumOf
-    sum-14 l p = rw (opened-store m e q, ← is, le-ltb (seek m h x) (h .slots) (rw ei at l)) p
+    sum-14 l p = rw (opened-store m e q, ← opened-header m e q, le-ltb (seek m h x) (h .slots) (rw ei at l)) p
 
     pub sum-there : i < h .slots → {b : Entry} {a : ℕ} → a ≡ slotPlace h i → b ≡ entryAt m a → {s : ℕ} → s ≡ sum (valuesOf (dayRows m h b))
         → accepted (s ∷ []) ≡ storedSumOf m x
@@ -57,4 +53,4 @@ module _ (m : List ℕ) (x : Key) {o : Opened} (e : o ≡ openedOf m) where
     sum-there l {b} ea eb es =
         let t : isThere m h x ≡ true = lt-ltb (seek m h x) (h .slots) (rw ei at l) in
         let w : b ≡ slotOf m h (seek m h x) = rw (ea, ei) at eb in
-        rw (opened-store m e q, ← is, t, ← w, es)
+        rw (opened-store m e q, ← opened-header m e q, t, ← w, es)
