@@ -114,7 +114,7 @@ pub fn slot_case(
     at: usize,
 ) -> Going {
     let mut numbers = [0u64; 1];
-    let Passed::To(after) = head_alone(buf, c, b"lot ", &mut numbers) else {
+    let Passed::To(after) = head_alone(buf, c, b"ot ", &mut numbers) else {
         return Going::Bad;
     };
     let k = numbers[0] as usize;

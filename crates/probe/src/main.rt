@@ -25,6 +25,9 @@ use page::texts::part;
 use page::texts::put;
 use sheet::puts::put_case;
 use sheet::write_case;
+use split_cases::split_case;
+use split_cases::split_day_case;
+use split_cases::split_stored_case;
 
 // Nothing says that the input ends, so the loop over its cases has a count that falls.
 const TURNS: u64 = 18446744073709551615;
@@ -135,6 +138,50 @@ fn m_case(
     }
 }
 
+// A total, a day of a file or one of a store: their words part behind the letters that they share. What a splitting of the last kind is handed is read into the
+// room for a file.
+fn splitting_case(
+    buf: &mut [u8],
+    c: Cursor,
+    file: &mut [u8],
+    memory: &[u8],
+    size: usize,
+    page: &mut [u8],
+    at: usize,
+) -> Going {
+    let Passed::To(shared) = text(buf, c, b"lit") else {
+        return Going::Bad;
+    };
+    let Taken::Byte(b, after) = next(buf, shared) else {
+        return Going::Bad;
+    };
+    match b {
+        b' ' => split_case(buf, after, page, at),
+        b'd' => split_day_case(buf, after, file, memory, size, page, at),
+        b's' => split_stored_case(buf, after, file, memory, size, page, at),
+        _ => Going::Bad,
+    }
+}
+
+fn s_case(
+    buf: &mut [u8],
+    c: Cursor,
+    file: &mut [u8],
+    memory: &[u8],
+    size: usize,
+    page: &mut [u8],
+    at: usize,
+) -> Going {
+    let Taken::Byte(b, after) = next(buf, c) else {
+        return Going::Bad;
+    };
+    match b {
+        b'l' => slot_case(buf, after, memory, size, page, at),
+        b'p' => splitting_case(buf, after, file, memory, size, page, at),
+        _ => Going::Bad,
+    }
+}
+
 // The next case, told by its first byte.
 fn case(
     buf: &mut [u8],
@@ -161,7 +208,7 @@ fn case(
         b'o' => on_case(buf, after, memory, size, page, at),
         b'p' => put_case(buf, after, memory, size, copy, page, at),
         b'r' => replace_case(buf, after, file, copy, block, page, at),
-        b's' => slot_case(buf, after, memory, size, page, at),
+        b's' => s_case(buf, after, file, memory, size, page, at),
         b't' => total_case(buf, after, file, page, at),
         b'w' => write_case(buf, after, page, at),
         _ => Going::Bad,
