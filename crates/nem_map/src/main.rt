@@ -13,12 +13,12 @@ mod table;
 
 use disk::Loaded;
 use disk::load_word;
+use kept_files::long_map;
+use kept_files::no_map;
 use leaf::bytes::same_bytes;
 use outward::FAILED;
 use outward::REFUSED;
-use outward::complain;
 use outward::tell;
-use page::texts::put;
 use versions::is_map;
 
 // The words behind the command's.
@@ -26,19 +26,10 @@ const WHAT: usize = 2;
 
 const MAP: usize = 3;
 
-fn too_long(page: &mut [u8]) {
-    let p = put(
-        page,
-        0,
-        b"nem: the map's file is longer than 65,535 bytes; a map takes 57,476",
-    );
-    complain(page, p);
-}
-
 // What is done with a file that is there.
 fn with_file(page: &mut [u8], map: &mut [u8], what: &[u8]) -> u8 {
     if !is_map(map) {
-        refused::no_map(page);
+        no_map(page);
         return REFUSED;
     }
     if same_bytes(what, b"add") {
@@ -56,7 +47,7 @@ fn with_file(page: &mut [u8], map: &mut [u8], what: &[u8]) -> u8 {
 // The file has so many bytes of the memory, which has a place more than the longest one.
 fn with_sized(page: &mut [u8], memory: &mut [u8], bytes: usize, what: &[u8]) -> u8 {
     if memory.len() <= bytes {
-        too_long(page);
+        long_map(page);
         return FAILED;
     }
     with_file(page, &mut memory[..bytes], what)

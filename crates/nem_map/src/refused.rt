@@ -1,6 +1,7 @@
 // What is said where a map or a table is refused, with what would be right.
 use day::fields::skip;
 use format::Refusal;
+use kept_files::no_versions;
 use map_lines::at_fault;
 use map_table::FIELDS;
 use map_table::NO_KEY;
@@ -16,16 +17,6 @@ use refusals::headline;
 use versions::count;
 use versions::first_date;
 use versions::latest_date;
-
-pub fn no_map(page: &mut [u8]) {
-    let p = put(
-        page,
-        0,
-        b"refused: 21, no map: the file was never made one, was written half, or is another thing\n\
-        take the other copy of it, or make a map anew (nem map make) and add its versions (docs/MAP.md)",
-    );
-    complain(page, p);
-}
 
 // A refusal that nothing more is known of.
 pub fn other(page: &mut [u8], x: Refusal) {
@@ -43,15 +34,6 @@ fn too_early(page: &mut [u8], map: &[u8]) {
     );
     let q = date(page, p, first_date(map, 0) as u64);
     complain(page, q);
-}
-
-fn no_versions(page: &mut [u8]) {
-    let p = put(
-        page,
-        0,
-        b"refused: 14, the map has no version yet; nem map add adds one",
-    );
-    complain(page, p);
 }
 
 // No version holds on the date that is asked for.

@@ -1,6 +1,6 @@
 // The day of a key deleted.
-use super::refused::of_key;
 use deleting::delete_day;
+use kept_files::no_day;
 use outward::DONE;
 use outward::REFUSED;
 use outward::keep;
@@ -19,7 +19,7 @@ pub fn delete(page: &mut [u8], store: &mut [u8], nmi: &[u8], suffix: &[u8], date
             write_line(page, p)
         }
         Kept::Refused(x) => {
-            of_key(page, x, nmi, suffix, date);
+            no_day(page, x, nmi, suffix, date);
             REFUSED
         }
     }

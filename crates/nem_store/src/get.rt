@@ -1,10 +1,10 @@
 // The day of a key as a table.
-use super::refused::of_key;
 use day_rows::minutes;
 use day_table::write_table;
 use format::DayHead;
 use format::DayRead;
 use getting::get_day;
+use kept_files::no_day;
 use outward::REFUSED;
 
 const MOST: usize = 288;
@@ -52,7 +52,7 @@ fn table(
             )
         }
         DayRead::Refused(y) => {
-            of_key(page, y, nmi, suffix, asked);
+            no_day(page, y, nmi, suffix, asked);
             REFUSED
         }
     }

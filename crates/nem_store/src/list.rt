@@ -1,5 +1,5 @@
 // The used slots of a store as a table, a line for each, and a line of what it holds.
-use super::refused::no_store;
+use kept_files::no_store;
 use listing::slots::headings;
 use listing::slots::held;
 use listing::slots::row;

@@ -6,17 +6,15 @@ mod get;
 mod list;
 mod make;
 mod put;
-mod refused;
 
 use disk::Loaded;
 use disk::load_word;
 use format::Number;
+use kept_files::long_store;
 use leaf::bytes::same_bytes;
 use named::date_of;
 use outward::FAILED;
-use outward::complain;
 use outward::tell;
-use page::texts::put as put_text;
 use wanted::no_date;
 
 // The words behind the command's.
@@ -28,15 +26,6 @@ const FIRST: usize = 4;
 
 // More than the number of any date.
 const EIGHT_DIGITS: u64 = 100000000;
-
-fn too_long(page: &mut [u8]) {
-    let p = put_text(
-        page,
-        0,
-        b"nem: the store's file is longer than 1,050,272 bytes, the most that a store of 64 slots takes",
-    );
-    complain(page, p);
-}
 
 // What is done with the day of a key.
 fn of_key(
@@ -93,7 +82,7 @@ fn with_sized(
     what: &[u8],
 ) -> u8 {
     if memory.len() <= bytes {
-        too_long(page);
+        long_store(page);
         return FAILED;
     }
     with_store(page, &mut memory[..bytes], room, what)

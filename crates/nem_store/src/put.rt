@@ -1,5 +1,4 @@
 // Every day of a file put into a store, a line for each.
-use super::refused::no_store;
 use checking::tour::check_and_note;
 use day::DayStart;
 use day::Place;
@@ -12,6 +11,7 @@ use format::Checked;
 use format::DayHead;
 use format::DayRead;
 use format::Refusal;
+use kept_files::no_store;
 use opening::Opened;
 use opening::open_store;
 use outward::DONE;

@@ -37,9 +37,10 @@ fn no_number(page: &mut [u8], word: &[u8]) {
     complain(page, r);
 }
 
-fn by_number(page: &mut [u8]) -> Wanted {
+// The day whose number a word is.
+pub fn by_number(page: &mut [u8], i: usize) -> Wanted {
     let mut word = io::buffer();
-    let n = os::arg(FIRST, &mut word);
+    let n = os::arg(i, &mut word);
     match digits(&word[..n], 1, 14) {
         Number::Is(k) => Wanted::Day(k as usize),
         Number::Bad => {
@@ -148,7 +149,7 @@ fn asked(page: &mut [u8], file: &[u8], words: usize) -> Wanted {
     if words == BY_KEY {
         return by_key(page, file);
     }
-    by_number(page)
+    by_number(page, FIRST)
 }
 
 pub fn wanted_day(page: &mut [u8], file: &[u8]) -> Wanted {

@@ -1,5 +1,5 @@
 -- What a refusal's number means: 01, Refusal numbers, in words for a person. 02 struck 17 (request 7), which means nothing, mended 12 (request 1), and brought 18
--- to 21 (request 2) and 23 to 25 (request 11); 22 is given by no call yet.
+-- to 21 (request 2), 23 to 25 (request 11), and 26 and 27 (request 12); 22 is given by no call yet.
 use Prim.Native.Nat.{ℕ}
 use mathlib.Core.List.{List, _++_}
 use Rattle.ground.specs.Text.{bytes}
@@ -32,7 +32,9 @@ meanings =
     ++ bytes ";"
     ++ bytes "the tenant map is full;"
     ++ bytes "the first date falls, or is no date;"
-    ++ bytes "a share above 1000, a bad key, or a share without a key"
+    ++ bytes "a share above 1000, a bad key, or a share without a key;"
+    ++ bytes "the channel is on no output, or the shares of its outputs add up to 0;"
+    ++ bytes "the total is above 2,880,000,000,000,000"
 
 unfoldable pub meaningOf : ℕ → List ℕ
 meaningOf x = numbered x meanings

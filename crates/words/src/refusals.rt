@@ -31,6 +31,8 @@ pub fn meaning(page: &mut [u8], at: usize, number: u64) -> usize
         ;\
         the tenant map is full;\
         the first date falls, or is no date;\
-        a share above 1000, a bad key, or a share without a key";
+        a share above 1000, a bad key, or a share without a key;\
+        the channel is on no output, or the shares of its outputs add up to 0;\
+        the total is above 2,880,000,000,000,000";
     put(page, at, text_at(meanings, number as usize))
 }

@@ -5,8 +5,8 @@ use native.Mathlib.Omega.{arith}
 use Rattle.nem_map.proofs.with_sized.Statement.{statement}
 use Rattle.nem_map.proofs.with_sized.Tie as tie
 
-too-long-requires : tie.Need-too-long-requires
-too-long-requires c κs = search needs
+long-map-requires : tie.Need-long-map-requires
+long-map-requires c κs = search needs
 
 same-length : tie.Need-same-length
 same-length c = search needs
@@ -36,7 +36,7 @@ pub with-sized-spec : {M : Type 1} → statement M
 with-sized-spec =
     tie.close
     (tie.spec
-    too-long-requires
+    long-map-requires
     same-length
     returns
     slice-relend-prefix-with-file

@@ -5,8 +5,8 @@ use borrow.Author.Needs.{needs}
 use Rattle.nem_store.proofs.with_sized.Statement.{statement}
 use Rattle.nem_store.proofs.with_sized.Tie as tie
 
-too-long-requires : tie.Need-too-long-requires
-too-long-requires c κs = search needs
+long-store-requires : tie.Need-long-store-requires
+long-store-requires c κs = search needs
 
 same-length : tie.Need-same-length
 same-length c = search needs
@@ -36,4 +36,4 @@ returns-2 : tie.Need-returns-2
 returns-2 c = search needs
 
 pub with-sized-spec : {M : Type 1} → statement M
-with-sized-spec = tie.close (tie.spec too-long-requires same-length returns slice-relend-prefix-with-store slice-aggregate-with-store with-store-requires same-length-2 same-length-3 same-length-4 returns-2)
+with-sized-spec = tie.close (tie.spec long-store-requires same-length returns slice-relend-prefix-with-store slice-aggregate-with-store with-store-requires same-length-2 same-length-3 same-length-4 returns-2)
