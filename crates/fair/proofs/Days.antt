@@ -1,5 +1,5 @@
 -- The same of a day of a file and of one that a store holds: it is shared out among the outputs of the map on its date, and neither 25 nor 27 can come. Assumes nothing.
-use Prim.Native.Nat.{ℕ, zero, suc, _+_, _-_, _^_, _≤_}
+use Prim.Native.Nat.{ℕ, zero, suc, _+_, _-_, _≤_}
 use mathlib.Core.Path.{_≡_, refl, sym, _∙_}
 use mathlib.Core.Bool.{Bool, true, false, cond}
 use mathlib.Core.List.{List, [], _∷_}
@@ -15,7 +15,7 @@ use Rattle.format.specs.Numbers.{intervalsOf}
 use Rattle.format.proofs.Numbers.{intervals-most}
 use Rattle.format.specs.Cut.{Lines, line, rest, lines, fields, field}
 use Rattle.format.specs.Records.{kindIn, intervalsIn, dateIn}
-use Rattle.format.specs.Answers.{Answer, accepted, refused, refusal}
+use Rattle.format.specs.Answers.{Answer, accepted, refused}
 use Rattle.format.specs.File.{checkOf}
 use Rattle.format.specs.Day.{Row, rowAt, BlockRows, DayRows, daysFrom, daysOf, valuesOf, noChannel}
 use Rattle.entries.specs.Keys.{Key}

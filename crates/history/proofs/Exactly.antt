@@ -25,7 +25,7 @@ use Rattle.entries.specs.Left.{Left, left}
 use Rattle.little.proofs.Pieces.{piece-behind}
 use Rattle.little.proofs.Numbers.{length-in, number-back}
 use Rattle.tenants.specs.Outputs.{Output, output, fitOutput, keptOutput, isKept, outputsGiven, outputsIn, outputBytes, keysOf, sharesOf}
-use Rattle.tenants.specs.Versions.{Version, version, versionFrom, versionBytes, versionPlace, versionAt, countIn, versionsIn, isMap}
+use Rattle.tenants.specs.Versions.{Version, versionFrom, versionBytes, versionPlace, versionAt, countIn, versionsIn, isMap}
 use Rattle.tenants.specs.Calls.{makeOf, withVersion, appendOf, enough, keptGiven, addOf}
 use Rattle.output_bytes.proofs.Back.{number-bytes, piece-bytes, bytes-back, kept-sized}
 use Rattle.versions.proofs.Maps.{Mapping, mapping}

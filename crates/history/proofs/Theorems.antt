@@ -1,26 +1,26 @@
 -- The theorems about a tenant map. Assumes nothing.
-use Prim.Native.Nat.{ℕ, _+_, _-_, _^_, _≤_, _<_}
-use mathlib.Core.Path.{_≡_, refl, sym, ap, ap₂, _∙_}
-use mathlib.Core.Bool.{true, false}
-use mathlib.Core.List.{List, [], _∷_, _++_}
+use Prim.Native.Nat.{ℕ, _+_, _-_, _≤_, _<_}
+use mathlib.Core.Path.{_≡_, refl, ap, ap₂, _∙_}
+use mathlib.Core.Bool.{true}
+use mathlib.Core.List.{List, [], _∷_}
 use native.Mathlib.Omega.{arith}
-use borrow.Author.Tests.{lt-leb, le-leb, leb-true, lt-ltb, le-ltb, ltb-true}
-use lib.ListN.{length, getD, length-append}
+use borrow.Author.Tests.{lt-leb, le-leb, leb-true, lt-ltb, le-ltb}
+use lib.ListN.{length}
 use lib.Seq.{sets, length-sets}
-use lib.Dec.{leb, ltb}
+use lib.Dec.{leb}
 use Rattle.ground.specs.Lists.{all, from}
 use Rattle.ground.proofs.Tests.{and-true}
 use Rattle.ground.proofs.Cases.{by, split}
-use Rattle.format.specs.Answers.{Answer, accepted, refusal}
+use Rattle.format.specs.Answers.{accepted, refusal}
 use Rattle.entries.specs.Little.{inBytes}
-use Rattle.entries.specs.Left.{Left, left}
+use Rattle.entries.specs.Left.{Left}
 use Rattle.little.proofs.Numbers.{number-back}
 use Rattle.tenants.specs.Outputs.{fitOutput, outputsGiven}
-use Rattle.tenants.specs.Versions.{Version, version, versionAt, countIn, versionsIn, mayFollow, areVersions, isMap, latest, versionOn}
+use Rattle.tenants.specs.Versions.{Version, version, countIn, versionsIn, mayFollow, areVersions, isMap, latest, versionOn}
 use Rattle.tenants.specs.Calls.{makeOf, withVersion, appendOf, enough, keptGiven, addOf, isNumber, outputsOf, backOf, fillOf, askOf, onOf}
 use Rattle.versions.proofs.Pieces.{count-versions}
-use Rattle.versions.proofs.Maps.{Mapping, mapping}
-use Rattle.history.specs.Plain.{Call, add, back, on, Seen, said, filled, Turn, appendPlain, addPlain, backPlain, plainTurn, mapStep, seenByMap, seenByList}
+use Rattle.versions.proofs.Maps.{mapping}
+use Rattle.history.specs.Plain.{Call, add, back, on, Seen, said, Turn, appendPlain, addPlain, backPlain, plainTurn, mapStep, seenByMap, seenByList}
 use Rattle.history.specs.Stays.{Added, Highest}
 use Rattle.history.proofs.Fits.{Fits, follows-dated, given-fits, held-fits}
 use Rattle.history.proofs.Adds.{with-bytes, with-versions, with-map}

@@ -1,10 +1,10 @@
 // A total shared out by weights: each weight's part rounded down, and what remains one each to the largest remainders, the lower place first when equal.
 ghost use mathlib.Core.Path.{_≡_};
 ghost use Prim.Native.Nat.{_≤_, _<_};
-ghost use lib.ListN.{length, take};
+ghost use lib.ListN.{length};
 ghost use lib.Seq.{sets};
 ghost use lib.Dec.{ltb, leb};
-ghost use Rattle.shares.specs.Shares.{count, ahead, remainders, leftover, partOf, partsOf, Light, Ready, Rounded};
+ghost use Rattle.shares.specs.Shares.{count, ahead, remainders, leftover, partOf, partsOf, Ready, Rounded};
 
 // How many are larger than x.
 fn larger(rs: &[u64], x: u64) -> usize

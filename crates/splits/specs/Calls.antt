@@ -12,7 +12,7 @@ use Rattle.format.specs.Cut.{field}
 use Rattle.format.specs.Records.{dateIn}
 use Rattle.format.specs.Answers.{Answer, accepted, refusedAs}
 use Rattle.format.specs.Day.{valuesOf, over}
-use Rattle.entries.specs.Keys.{Key, key, capitals}
+use Rattle.entries.specs.Keys.{Key, capitals}
 use Rattle.entries.specs.Left.{Left, left, unless}
 use Rattle.store.specs.Head.{headerOf}
 use Rattle.store.specs.Store.{isStore}
