@@ -28,7 +28,6 @@ use Rattle.store.specs.declared.Header.{Header}
 use Rattle.store.specs.Calls.{seek, isThere, dayRows, rowsAt}
 use Rattle.tenants.specs.Outputs.{Output, fitOutput, isKept, outputsGiven, keysOf, sharesOf}
 use Rattle.tenants.specs.Versions.{versionsIn, isMap, versionOn}
-use Rattle.tenants.specs.Calls.{outputsOf}
 use Rattle.versions.proofs.Maps.{mapping}
 use Rattle.tenant_map.proofs.Asks.{version-most, on-shares-long}
 use Rattle.history.proofs.Sound.{sound-kept}
@@ -37,15 +36,11 @@ use Rattle.whose.specs.Whose.{nmiField, suffixField}
 use Rattle.sums.proofs.Sums.{values-most}
 use Rattle.day_sums.specs.Sought.{found, missing, soughtFirst, soughtAfter, dayIn}
 use Rattle.stored_sums.specs.Sums.{sumAt}
-use Rattle.splits.specs.Calls.{isOn, splitOn, splitDayOf, splitStoredOf}
+use Rattle.splits.specs.Calls.{outputsOn, isOn, splitOn, splitDayOf, splitStoredOf}
 use Rattle.fair.specs.Shared.{Shared, Refuses}
 use Rattle.fair.proofs.Calls.{passed, refuses, accepts, split-shared, fit-refuses}
 
 -- ---- the map on a date
-
--- the outputs that a map has on a date
-abbrev pub outputsOn : List ℕ → ℕ → List Output
-outputsOn m date = outputsOf (versionsIn m) (versionOn (versionsIn m) date)
 
 module _ (m : List ℕ) (date : ℕ) (a : isMap m ≡ true) (b : leb 1 (versionOn (versionsIn m) date) ≡ true) where
   kept-on : all isKept (outputsOn m date) ≡ true

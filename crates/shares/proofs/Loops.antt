@@ -15,7 +15,8 @@ use Rattle.ground.proofs.Tests.{and-true}
 use Rattle.ground.proofs.Lists.{rest, to-end}
 use Rattle.ground.proofs.Room.{sets-front}
 use Rattle.ground.proofs.From.{from-step, from-end, length-from}
-use Rattle.shares.specs.Shares.{count, floors, remainders, leftover, ahead, partOf, partsOf, Ready, Rounded}
+use Rattle.shares.specs.Shares.{count, floors, remainders, leftover, ahead, partOf, partsOf}
+use Rattle.shares.specs.Steps.{Ready, Rounded}
 use Rattle.shares.proofs.Sums.{floors-most, leftover-most}
 use Rattle.shares.proofs.Counts.{one-as-large, ahead-small}
 

@@ -1,12 +1,11 @@
 -- 02, 12: "each output on that channel gets total times share over the channel's sum of shares, rounded down, with what remains given one each to the
 -- largest remainders, lower output first when equal." Here a total t is shared out by a list of weights: an output's share where it is on the channel, else 0.
-use Prim.Native.Nat.{ℕ, _+_, _-_, _*_, _/_, _%_, _≤_, _<_}
-use mathlib.Core.Path.{_≡_}
+use Prim.Native.Nat.{ℕ, _+_, _-_, _*_, _/_, _%_}
 use mathlib.Core.List.{List, [], _∷_, map}
 use mathlib.Core.Bool.{Bool, true, false}
 use lib.ListN.{length, getD, take}
-use lib.Dec.{eqb, ltb, leb}
-use Rattle.ground.specs.Lists.{all, from, sum}
+use lib.Dec.{eqb, ltb}
+use Rattle.ground.specs.Lists.{from, sum}
 
 -- 1 where the test holds, else 0
 abbrev pub one : Bool → ℕ
@@ -42,21 +41,3 @@ partOf t ws i = t * getD ws i 0 / sum ws + one (ltb (ahead (remainders t ws) i) 
 -- every output's part
 unfoldable pub partsOf : ℕ → List ℕ → List ℕ
 partsOf t ws = from (partOf t ws) 0 (length ws)
-
--- at most 128 weights, none above 1000
-pub record Light (ws : List ℕ) : Type 0 where
-  pub few : length ws ≤ 128
-  pub light : all (λ (w : ℕ). leb w 1000) ws ≡ true
-
--- a total and weights that can be shared out without a product that is too large: s is the weights' sum
-pub record Ready (t s : ℕ) (ws : List ℕ) : Type 0 where
-  pub total : t ≤ 2880000000000000
-  pub weights : Light ws
-  pub divisor : s ≡ sum ws
-  pub some : 0 < s
-
--- a total whose remainders are known, and what remains of it when every part is rounded down
-pub record Rounded (t s left : ℕ) (ws rs : List ℕ) : Type 0 where
-  pub ready : Ready t s ws
-  pub remain : left ≡ leftover t ws
-  pub rests : rs ≡ remainders t ws

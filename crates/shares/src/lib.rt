@@ -4,7 +4,8 @@ ghost use Prim.Native.Nat.{_≤_, _<_};
 ghost use lib.ListN.{length};
 ghost use lib.Seq.{sets};
 ghost use lib.Dec.{ltb, leb};
-ghost use Rattle.shares.specs.Shares.{count, ahead, remainders, leftover, partOf, partsOf, Ready, Rounded};
+ghost use Rattle.shares.specs.Shares.{count, ahead, remainders, leftover, partOf, partsOf};
+ghost use Rattle.shares.specs.Steps.{Ready, Rounded};
 
 // How many are larger than x.
 fn larger(rs: &[u64], x: u64) -> usize

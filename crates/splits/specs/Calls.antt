@@ -55,12 +55,16 @@ splitOf t nmi suffix keys shares ps =
 
 -- ---- a day
 
+-- the outputs that a map has on a date
+abbrev pub outputsOn : List ℕ → ℕ → List Output
+outputsOn m date = outputsOf (versionsIn m) (versionOn (versionsIn m) date)
+
 -- "21 for the memory, 14 for the date; then as `split` of the day's sum with its channel's key and the map on its date"
 unfoldable pub splitOn : ℕ → List ℕ → List ℕ → ℕ → List ℕ → List ℕ → Left
 splitOn t nmi suffix date m ps =
     unless (isMap m) 21 ps
     (unless (leb 1 (versionOn (versionsIn m) date)) 14 ps
-    (splitOf t nmi suffix (keysOf (outputsOf (versionsIn m) (versionOn (versionsIn m) date))) (sharesOf (outputsOf (versionsIn m) (versionOn (versionsIn m) date))) ps))
+    (splitOf t nmi suffix (keysOf (outputsOn m date)) (sharesOf (outputsOn m date)) ps))
 
 -- of a file: "the file's refusal, 14 for the day"
 abbrev pub splitSought : Sought → List ℕ → List ℕ → Left

@@ -23,7 +23,8 @@ use Rattle.tenants.specs.Calls.{enough}
 use Rattle.keys.proofs.Letters.{length-capitals}
 use Rattle.outputs.proofs.Channels.{many}
 use Rattle.outputs.proofs.Walks.{given-long}
-use Rattle.shares.specs.Shares.{one, count, partsOf, Ready}
+use Rattle.shares.specs.Shares.{one, count, partsOf}
+use Rattle.shares.specs.Steps.{Ready}
 use Rattle.shares.proofs.Loops.{parts-long, sets-all}
 use Rattle.channel_shares.specs.OnChannel.{hasKey, weightOf, weightsOf}
 use Rattle.splits.specs.Calls.{isOn, sharedOf, splitOf}
