@@ -1,5 +1,7 @@
 // Reads days of a file in one call and says how many, for bench/month: what the call costs can't be seen on the probe, which writes out every interval. The words are its
 // own name, the file's, and the numbers of the first and the last day.
+#![tactic(auto)]
+
 use disk::{Loaded, load_word};
 use format::Number;
 use leaf::digits::digits;

@@ -1,5 +1,7 @@
 // A block on its own: bytes held to what one day block has to be behind a 200 of an interval length and a unit, without a date before it. The block is a part
 // of longer memory, from a place to the memory's end, so that what is found in it can be placed there; its refusals count from its start.
+#![tactic(auto)]
+
 ghost use Rattle.std.specs.Prelude.{◌≡◌, not, ◌&&◌, ◌||◌, ◌≤◌, length, drop, eqb};
 ghost use Rattle.ground.specs.Lists.{part};
 ghost use Rattle.format.specs.Records.{date_in, update_in, load_in};
@@ -23,7 +25,7 @@ use says::kind_at;
 use walker::{Record, record_at};
 
 // The walk over a block before a record: where that starts in the memory, how many records are behind, and the state.
-#[derive(Drop)]
+#[derive(Clone, Copy)]
 pub struct BlockWalk {
     pub at: usize,
     pub records: usize,
@@ -31,28 +33,28 @@ pub struct BlockWalk {
 }
 
 // What comes of a record: the walk behind it, or the refusal that ends it.
-#[derive(Drop)]
+#[derive(Clone, Copy)]
 pub enum BlockTurn {
     On(BlockWalk),
     Stop(Refusal),
 }
 
 // What the walk comes to: how many records the block has, or the refusal that ends it.
-#[derive(Drop)]
+#[derive(Clone, Copy)]
 pub enum BlockEnd {
     Whole(usize),
     Stopped(Refusal),
 }
 
 // The same of any bytes, and where the block's 300 ends.
-#[derive(Drop)]
+#[derive(Clone, Copy)]
 pub enum Walked {
     Block(usize, usize),
     Stopped(Refusal),
 }
 
 // What a block's 300 says beside its values and its mark.
-#[derive(Drop)]
+#[derive(Clone, Copy)]
 pub struct Said {
     pub date: u32,
     pub update: u64,

@@ -1,4 +1,6 @@
 // One version more, behind those that a tenant map has: with entries that are handed in, or with those of another version.
+#![tactic(auto)]
+
 ghost use Rattle.std.specs.Prelude.{◌≡◌, true, ◌+◌, ◌≤◌, ◌<◌, length};
 ghost use Rattle.entries.specs.Left.{left};
 ghost use Rattle.tenants.specs.Versions.{version, count_in, versions_in, is_map};
@@ -13,7 +15,7 @@ use tenants::Versioned;
 use versions::{MOST, count, latest_date, may_follow, place};
 
 // Whether a version may be added: behind how many, or the number of the refusal.
-#[derive(Drop)]
+#[derive(Clone, Copy)]
 enum Next {
     Behind(u32),
     Refused(u64),

@@ -1,4 +1,6 @@
 // A day block: whether the day is fit for one, and the block measured and written, piece after piece.
+#![tactic(auto)]
+
 ghost use Rattle.std.specs.Prelude.{◌≡◌, ◌≤◌, length};
 ghost use Rattle.ground.specs.Room.{Put};
 ghost use Rattle.format.specs.Day.{five};

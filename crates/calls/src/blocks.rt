@@ -15,7 +15,7 @@ use writing::write_day;
 pub const EMPTY: u8 = 0;
 
 // The place behind the line on the page, and the block's bytes in the room.
-#[derive(Drop)]
+#[derive(Clone, Copy)]
 pub struct Wrote {
     pub at: usize,
     pub bytes: usize,

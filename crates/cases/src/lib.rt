@@ -1,5 +1,7 @@
 // The probe's cases that hand in a file, check, day, total and find, a block on its own, a room with a file that is edited, or a store. No contract can say what is read,
 // so those that read are proved safe, and have none; what they answer is put together by `calls`, `edit_calls` and `store_calls`.
+#![tactic(auto)]
+
 pub mod rooms;
 pub mod stores;
 

@@ -1,4 +1,6 @@
 // Totals the channel of a number, where the file was accepted; and channel after channel.
+#![tactic(auto)]
+
 pub mod walk;
 
 ghost use Rattle.std.specs.Prelude.{◌≡◌, ◌+◌, ◌≤◌, length, drop};
@@ -13,14 +15,14 @@ use sums::add_days;
 use walk::{behind, find_channel, quantity_of};
 
 // From where a channel is found: it stands behind `left` more channels from the record at `at` on.
-#[derive(Drop)]
+#[derive(Clone, Copy)]
 pub struct ChannelStart {
     pub at: usize,
     pub left: usize,
 }
 
 // A channel of a file, from its first byte to its CR LF: a 200 with days, or a 250 with a quantity.
-#[derive(Drop)]
+#[derive(Clone, Copy)]
 pub enum Channel {
     Days(usize, usize),
     Quantity(usize, usize),
@@ -40,7 +42,7 @@ fn total_place(file: &[u8], c: Channel) -> Totalled
 }
 
 // What a channel adds up to, where it stands, and from where the channel behind it is found.
-#[derive(Drop)]
+#[derive(Clone, Copy)]
 pub struct ChannelTurn {
     pub answer: Totalled,
     pub place: Channel,

@@ -1,4 +1,6 @@
 // What the channels of a file add up to, as lines of a table.
+#![tactic(auto)]
+
 ghost use Rattle.std.specs.Prelude.{◌≡◌, ◌-◌, ◌≤◌, length, drop};
 ghost use Rattle.format.specs.Cut.{lines, fields};
 ghost use Rattle.page.specs.Filled.{Filled};

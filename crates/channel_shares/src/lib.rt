@@ -1,4 +1,6 @@
 // The shares on one channel: what each output weighs there, how many outputs are on it, and what their shares add up to.
+#![tactic(auto)]
+
 ghost use Rattle.std.specs.Prelude.{◌≡◌, ◌≤◌, length};
 ghost use Rattle.ground.specs.Lists.{sum};
 ghost use Rattle.tenants.specs.Outputs.{output, outputs_given};
@@ -11,7 +13,7 @@ use keys::same_capitals;
 const OUTPUTS: usize = 128;
 
 // What an output counts and weighs.
-#[derive(Drop)]
+#[derive(Clone, Copy)]
 struct Weight {
     count: usize,
     weight: u64,
@@ -37,7 +39,7 @@ fn weight_of(channel: &[u8], key: &[u8], share: u64) -> Weight
 }
 
 // The outputs on a channel, and what their shares add up to.
-#[derive(Drop)]
+#[derive(Clone, Copy)]
 pub struct OnChannel {
     pub outputs: usize,
     pub shares: u64,

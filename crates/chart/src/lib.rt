@@ -2,6 +2,8 @@
 // picture is whole in itself: it names no font, script or style outside it.
 //
 // The NMI, the suffix and the unit are put as they are: in an accepted file they are letters and digits, none of which means anything in XML.
+#![tactic(auto)]
+
 pub mod bars;
 pub mod frame;
 pub mod legend;

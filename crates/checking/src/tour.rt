@@ -17,7 +17,7 @@ use walker::{Record, record_at};
 
 // The walk before a record, beside its state: where the record starts, how many are behind, the last 200, and from where the day and the channel that were
 // asked for are found, with the channels before that day.
-#[derive(Drop)]
+#[derive(Clone, Copy)]
 pub struct Tour {
     pub at: usize,
     pub records: usize,
@@ -28,7 +28,7 @@ pub struct Tour {
 }
 
 // What the check answers, from where the day and the channel that were asked for are found, and how many channels stand before the day.
-#[derive(Drop)]
+#[derive(Clone, Copy)]
 pub struct Noted {
     pub answer: Checked,
     pub day: DayStart,

@@ -1,4 +1,6 @@
 // Classes of bytes: which bytes are of one, and fields of such bytes.
+#![tactic(auto)]
+
 ghost use Rattle.std.specs.Prelude.{◌≡◌};
 ghost use Rattle.ground.specs.Lists.{all};
 ghost use Rattle.ground.specs.Digits.{is_digit};
@@ -6,7 +8,7 @@ ghost use Rattle.format.specs.Bytes.{is_capital, is_letter, is_alnum, are_all};
 ghost use Rattle.classes.specs.Classes.{in_class};
 
 // A class of bytes: the one loop over a field's bytes serves them all.
-#[derive(Drop)]
+#[derive(Clone, Copy)]
 pub enum Class {
     Digit,
     Capital,

@@ -1,4 +1,6 @@
 // The 400s that cover a day, measured and then written: a record for each of the longest runs of intervals with one mark.
+#![tactic(auto)]
+
 ghost use Rattle.std.specs.Prelude.{◌≡◌, true, ◌++◌, ◌+◌, ◌≤◌, ◌<◌, length};
 ghost use Rattle.ground.specs.Room.{Put};
 ghost use Rattle.format.specs.Day.{five};
@@ -13,7 +15,7 @@ use text::bytes::{put_byte, put_bytes};
 use text::digits::{digits_len, put_dec};
 
 // The bytes and the records of a day's 400s, or of its whole block.
-#[derive(Drop)]
+#[derive(Clone, Copy)]
 pub struct Size {
     pub bytes: usize,
     pub records: usize,

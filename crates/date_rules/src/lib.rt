@@ -1,4 +1,6 @@
 // The rules of dates and times, one function a rule: each answers the decimal number that their digits write; 0 where one may be empty and is.
+#![tactic(auto)]
+
 pub mod calendar;
 
 ghost use Rattle.std.specs.Prelude.{◌≡◌, ◌<◌, ◌^◌};

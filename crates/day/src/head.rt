@@ -16,7 +16,7 @@ use lines::pieces::field_at;
 use says::{date_at, load_time_at, tag_at, time_at};
 
 // Its date, and where its values start.
-#[derive(Drop)]
+#[derive(Clone, Copy)]
 pub struct Head {
     pub date: u32,
     pub next: usize,
@@ -37,7 +37,7 @@ pub fn head_at(file: &[u8], a: usize, e: usize) -> Head
 }
 
 // Its times.
-#[derive(Drop)]
+#[derive(Clone, Copy)]
 pub struct Times {
     pub update: u64,
     pub load: u64,
@@ -59,7 +59,7 @@ pub fn times_at(file: &[u8], a: usize, e: usize) -> Times
 }
 
 // What it says beside its values.
-#[derive(Drop)]
+#[derive(Clone, Copy)]
 pub struct Top {
     pub date: u32,
     pub tag: Tag,

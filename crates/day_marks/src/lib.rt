@@ -1,4 +1,6 @@
 // The marks of a day, put into the five lists: on a V day those of its 400s, each over its own intervals, else the 300's own.
+#![tactic(auto)]
+
 ghost use Rattle.std.specs.Prelude.{◌≡◌, true, ◌≤◌, length};
 ghost use Rattle.ground.specs.Lists.{part};
 ghost use Rattle.format.specs.Cut.{fields};
@@ -17,7 +19,7 @@ use lists::put_tag;
 use says::{interval_at, tag_at};
 
 // A 400: the last of its intervals, and their mark.
-#[derive(Drop)]
+#[derive(Clone, Copy)]
 pub struct Marked {
     pub to: usize,
     pub tag: Tag,

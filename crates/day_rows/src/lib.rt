@@ -1,4 +1,6 @@
 // A day of a file in lines for people: its table, or why there is none.
+#![tactic(auto)]
+
 ghost use Rattle.std.specs.Prelude.{◌≡◌};
 ghost use Rattle.format.specs.File.{check_of};
 ghost use Rattle.page.specs.Filled.{Filled};

@@ -1,4 +1,6 @@
 // A day of a file as a splitting needs it: the NMI and the suffix of its channel, its date, and what its values add up to. The file is checked once.
+#![tactic(auto)]
+
 ghost use Rattle.std.specs.Prelude.{◌≡◌};
 ghost use Rattle.ground.specs.Lists.{sum};
 ghost use Rattle.format.specs.Cut.{field};
@@ -24,14 +26,14 @@ const NMI: usize = 1;
 const SUFFIX: usize = 4;
 
 // Where the 300 of a day starts and ends, and the 200 that it stands under.
-#[derive(Drop)]
+#[derive(Clone, Copy)]
 pub struct DayAt {
     pub start: usize,
     pub end: usize,
     pub under: Under,
 }
 
-#[derive(Drop)]
+#[derive(Clone, Copy)]
 pub enum DaySought {
     Found(DayAt),
     Refused(Refusal),

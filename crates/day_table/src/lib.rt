@@ -1,5 +1,7 @@
 // A day in lent lists as a table on standard output, a line for each interval. No contract can say what is written, so these functions are proved safe, and have
 // none; the lines are those of `day_rows`.
+#![tactic(auto)]
+
 use day_rows::{interval, top};
 use format::DayHead;
 use outward::{DONE, write};

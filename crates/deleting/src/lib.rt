@@ -1,4 +1,6 @@
 // The day of a key deleted from a store.
+#![tactic(auto)]
+
 ghost use Rattle.std.specs.Prelude.{◌≡◌};
 ghost use Rattle.entries.specs.Keys.{key};
 ghost use Rattle.entries.specs.Left.{left};

@@ -1,7 +1,8 @@
 // Files of the machine. No contract can say what a file holds, so these functions are proved safe, and have none.
+#![tactic(auto)]
 
 // A file's bytes at the start of the room, all of them or as many as the room has; or errno says why there are none.
-#[derive(Drop)]
+#[derive(Clone, Copy)]
 pub enum Loaded {
     Bytes(usize),
     Failed,

@@ -1,5 +1,7 @@
 // The entries for a file that is edited, as the probe calls them: find_day, which says where a day's block stands, and replace_day, which puts another in its
 // place. The answer is put on a page as a line, as `calls` does it, and the line says so where something that was lent has changed and should not have.
+#![tactic(auto)]
+
 mod lines;
 
 ghost use Rattle.std.specs.Prelude.{◌≡◌, ◌≤◌, length, drop};
@@ -29,7 +31,7 @@ pub fn find(file: &[u8], k: usize, page: &mut [u8], at: usize) -> usize
 // ---- a day replaced
 
 // The place behind the line on the page, and how many bytes of the room are answered behind it.
-#[derive(Drop)]
+#[derive(Clone, Copy)]
 pub struct Edited {
     pub at: usize,
     pub bytes: usize,

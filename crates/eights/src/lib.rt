@@ -1,4 +1,6 @@
 // Eight bytes looked at together: where among them the first comma stands.
+#![tactic(auto)]
+
 ghost use Rattle.std.specs.Prelude.{◌≡◌, ◌/◌, ◌≤◌, true, length, ◌==◌, nat_lt};
 ghost use Rattle.std.specs.Int.Count.{count_trailing_zeros};
 ghost use Rattle.ground.specs.Lists.{all, span_of, other};

@@ -1,4 +1,6 @@
 // The slot of a day that is put into a store, and the header with it.
+#![tactic(auto)]
+
 ghost use Rattle.std.specs.Prelude.{◌≡◌, length};
 ghost use Rattle.entries.specs.Keys.{key};
 ghost use Rattle.entries.specs.Left.{left};

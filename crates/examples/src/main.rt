@@ -1,5 +1,7 @@
 // Answers for each file of data/ that standard input names, a line each: the check, and of an accepted file each day and each total. The lines are those
 // that the program 'probe' gives for the same calls.
+#![tactic(auto)]
+
 use answer_lines::answers;
 use answer_lines::days::day_line;
 use checking::check::check;

@@ -10,7 +10,7 @@ use text::digits::{digits_len, put_dec, put_digits};
 const MILLION: u64 = 1000000;
 
 // Decimals without the zeros at their end: how many are left, and the number that they write.
-#[derive(Drop)]
+#[derive(Clone, Copy)]
 struct Decimals {
     places: usize,
     number: u64,

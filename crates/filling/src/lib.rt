@@ -1,4 +1,6 @@
 // Reads the day of a number into six lent lists, where the file was accepted; and day after day.
+#![tactic(auto)]
+
 ghost use Rattle.std.specs.Prelude.{◌≡◌, true, [], ◌∷◌, ◌+◌, drop};
 ghost use Rattle.format.specs.Answers.{accepted, day_read_as};
 ghost use Rattle.format.specs.Day.{five, outcome, read_into, read_first, read_of, days_of};
@@ -15,7 +17,7 @@ use format::{DayRead, Refusal};
 use lists::enough;
 
 // What is answered of a day that was filled into lists, beside its n and its unit.
-#[derive(Drop)]
+#[derive(Clone, Copy)]
 pub struct Told {
     pub date: u32,
     pub update: u64,
@@ -123,7 +125,7 @@ fn read_place(
 }
 
 // What a reading of a day answers, where the day stands, and from where the day behind it is found.
-#[derive(Drop)]
+#[derive(Clone, Copy)]
 pub struct DayTurn {
     pub answer: DayRead,
     pub place: Place,

@@ -1,4 +1,6 @@
 // Which marks a day that is handed in may have: those that a single 400 may carry, each description inside the lent text.
+#![tactic(auto)]
+
 ghost use Rattle.std.specs.Prelude.{◌≡◌, ◌&&◌, suc};
 ghost use Rattle.ground.specs.Lists.{all};
 ghost use Rattle.format.specs.Bytes.{field_byte};

@@ -1,4 +1,6 @@
 // Tests on numbers: what may come, an open cover, a 400's intervals, a read time's day, two marks.
+#![tactic(auto)]
+
 ghost use Rattle.std.specs.Prelude.{◌≡◌, not, ◌&&◌, ◌≤◌, ◌+◌, length, eqb, leb};
 ghost use Rattle.format.specs.Quality.{same_mark};
 ghost use Rattle.format.specs.Order.{may_come};

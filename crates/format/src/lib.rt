@@ -1,9 +1,11 @@
 // The types that contracts name: what a call answers, and what is read of one field. What they mean is stated in specs/.
+#![tactic(auto)]
+
 ghost use Rattle.std.specs.Prelude.{◌≡◌};
 ghost use Rattle.format.specs.Answers.{refusal, refused_as};
 
 // A refusal of document 01's table.
-#[derive(Drop)]
+#[derive(Clone, Copy)]
 pub struct Refusal {
     pub number: u64,
     pub place: usize,
@@ -26,7 +28,7 @@ impl Refusal {
 }
 
 // What a check of a file answers. The version is 12 or 13.
-#[derive(Drop)]
+#[derive(Clone, Copy)]
 pub enum Checked {
     Accepted {
         version: u64,
@@ -37,7 +39,7 @@ pub enum Checked {
 }
 
 // What a check of a block on its own answers: what its 300 says of the day, and how many records it has.
-#[derive(Drop)]
+#[derive(Clone, Copy)]
 pub enum BlockChecked {
     Accepted {
         date: u32,
@@ -50,7 +52,7 @@ pub enum BlockChecked {
 }
 
 // What a reading of a day answers, beside the lists that it fills. A load time of 0 says that there is none; the unit is its number in the table of units.
-#[derive(Drop)]
+#[derive(Clone, Copy)]
 pub enum DayRead {
     Read {
         date: u32,
@@ -63,14 +65,14 @@ pub enum DayRead {
 }
 
 // What a channel adds up to, in millionths.
-#[derive(Drop)]
+#[derive(Clone, Copy)]
 pub enum Totalled {
     Total(u64),
     Refused(Refusal),
 }
 
 // A day to be written, beside its lists: date, interval length in minutes, update time, load time or 0, the unit's number.
-#[derive(Drop)]
+#[derive(Clone, Copy)]
 pub struct DayHead {
     pub date: u32,
     pub length: u32,
@@ -80,28 +82,28 @@ pub struct DayHead {
 }
 
 // What a writing of a day answers: the block's bytes and records.
-#[derive(Drop)]
+#[derive(Clone, Copy)]
 pub enum Written {
     Block { bytes: usize, records: usize },
     Refused(Refusal),
 }
 
 // The number that a field holds, if it meets its rule.
-#[derive(Drop)]
+#[derive(Clone, Copy)]
 pub enum Number {
     Is(u64),
     Bad,
 }
 
 // A quality's flag and method, if the field meets its rule.
-#[derive(Drop)]
+#[derive(Clone, Copy)]
 pub enum Graded {
     Of(u8, u8),
     Bad,
 }
 
 // The rule of a field; that of a value has the number of decimals that it may have.
-#[derive(Drop)]
+#[derive(Clone, Copy)]
 pub enum Rule {
     Indicator,
     Version,
@@ -133,14 +135,14 @@ pub enum Rule {
 }
 
 // The first fault of a record, its place counted from the record's start: number, place, field.
-#[derive(Drop)]
+#[derive(Clone, Copy)]
 pub enum Fault {
     Fine,
     Stop(u64, usize, usize),
 }
 
 // The mark of an interval: quality, reason, and where its description stands in the file.
-#[derive(Drop)]
+#[derive(Clone, Copy)]
 pub struct Tag {
     pub flag: u8,
     pub method: u8,

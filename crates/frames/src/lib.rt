@@ -1,4 +1,6 @@
 // The conditions of a store that its header alone meets or not: the slot count, the days held, the map, and where list and room lie.
+#![tactic(auto)]
+
 ghost use Rattle.std.specs.Prelude.{◌≡◌};
 ghost use Rattle.store.specs.Store.{slotted, in_order};
 ghost use Rattle.frames.specs.Frames.{framed};

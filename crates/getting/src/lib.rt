@@ -1,4 +1,6 @@
 // The day of a key, from a store.
+#![tactic(auto)]
+
 ghost use Rattle.std.specs.Prelude.{◌≡◌};
 ghost use Rattle.format.specs.Answers.{day_read_as};
 ghost use Rattle.format.specs.Day.{five, outcome};

@@ -1,4 +1,6 @@
 // The 300 of a day block, but for its 400s: whether the day's unit, date and times are fit, and the pieces that the record is written in.
+#![tactic(auto)]
+
 ghost use Rattle.std.specs.Prelude.{◌≡◌, true, ◌++◌, ◌+◌, ◌≤◌, length};
 ghost use Rattle.ground.specs.Room.{Put};
 ghost use Rattle.ground.specs.Text.{bytes};

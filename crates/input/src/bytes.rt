@@ -5,20 +5,20 @@ ghost use Rattle.input.specs.Taking.{held_of, behind_of};
 use super::byte;
 use page::texts::{part, put};
 
-#[derive(Drop)]
+#[derive(Clone, Copy)]
 pub struct Cursor {
     pub at: usize,
     pub end: usize,
 }
 
-#[derive(Drop)]
+#[derive(Clone, Copy)]
 pub enum Taken {
     Byte(u8, Cursor),
     Ended,
 }
 
 // Where the input goes on behind what was asked for, if it was there.
-#[derive(Drop)]
+#[derive(Clone, Copy)]
 pub enum Passed {
     To(Cursor),
     Bad,

@@ -1,5 +1,7 @@
 // Standard input, byte by byte, in stretches, and as numbers. How bytes are taken is decided by functions that have contracts. No contract can say what is
 // read, so those that read are proved safe, and have none.
+#![tactic(auto)]
+
 pub mod bytes;
 pub mod numbers;
 
@@ -10,7 +12,7 @@ use bytes::{Cursor, Passed, Taken, next};
 
 // What a case of the probe has come to: answered, with the input behind it and the page's place behind its answer; the same, and so many bytes of memory are lent
 // from now on; there was none; or it was no case.
-#[derive(Drop)]
+#[derive(Clone, Copy)]
 pub enum Going {
     On(Cursor, usize),
     Lent(Cursor, usize, usize),

@@ -11,13 +11,13 @@ const TURNS: u64 = 18446744073709551615;
 // A tenth of the largest number.
 const TENTH: u64 = 1844674407370955161;
 
-#[derive(Drop)]
+#[derive(Clone, Copy)]
 enum Counted {
     Is(u64, Cursor),
     Bad,
 }
 
-#[derive(Drop)]
+#[derive(Clone, Copy)]
 enum Grown {
     To(u64),
     Bad,

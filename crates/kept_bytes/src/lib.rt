@@ -1,4 +1,6 @@
 // From where on memory has to be as it was before a call of a store.
+#![tactic(auto)]
+
 ghost use Rattle.std.specs.Prelude.{◌≡◌};
 ghost use Rattle.store.specs.Calls.{made_as, kept_as};
 ghost use Rattle.kept_bytes.specs.Kept.{kept_from, used_end};

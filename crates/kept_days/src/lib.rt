@@ -1,4 +1,6 @@
 // Whether each used slot of a store holds a day: a key as it is kept, and a block that is accepted and has its date.
+#![tactic(auto)]
+
 ghost use Rattle.std.specs.Prelude.{◌≡◌, true, cond};
 ghost use Rattle.ground.specs.Lists.{all};
 ghost use Rattle.format.specs.Answers.{block_checked_as};

@@ -1,5 +1,7 @@
 // What is said of the file of a store or of a map that can't be used: it is too long, is no store or no map, or has not what is asked for. No contract can say what
 // is written, so these functions are proved safe, and have none.
+#![tactic(auto)]
+
 use format::Refusal;
 use outward::complain;
 use page::texts::put;

@@ -1,4 +1,6 @@
 // Keys: whether one is good, whether one is as it is kept, whether a kept one is that of an NMI, a suffix and a date; and letters written as they are kept.
+#![tactic(auto)]
+
 ghost use Rattle.std.specs.Prelude.{◌≡◌, ◌+◌, ◌≤◌, length, eqb};
 ghost use Rattle.std.proofs.lemmas.List.Edits.{sets};
 ghost use Rattle.ground.specs.Lists.{same};

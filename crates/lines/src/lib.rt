@@ -1,5 +1,7 @@
 // The records of a file as places: one pass over a record says where its plain bytes end, and how many commas stand among them. The pass goes by chunks of
 // 64 and of 8 bytes, whose loops have no early exit, so that the compiler makes vector code of them.
+#![tactic(auto)]
+
 pub mod pieces;
 
 ghost use Rattle.std.specs.Prelude.{◌≡◌, ◌+◌, ◌-◌, ◌≤◌, ◌<◌, length, take, drop};
@@ -8,14 +10,14 @@ ghost use Rattle.format.specs.Bytes.{plain};
 ghost use Rattle.format.specs.Cut.{fields};
 ghost use Rattle.lines.specs.Places.{line_len, LineEnd, Unended, Scanned, Looked};
 
-#[derive(Drop)]
+#[derive(Clone, Copy)]
 pub struct Span {
     pub stop: usize,
     pub commas: usize,
 }
 
 // A record: where it ends, its first byte that is not plain (its end if there is none), and its commas before that byte.
-#[derive(Drop)]
+#[derive(Clone, Copy)]
 pub struct Found {
     pub end: usize,
     pub bad: usize,

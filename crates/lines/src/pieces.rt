@@ -44,7 +44,7 @@ pub fn field_end(t: &[u8]) -> usize
 }
 
 // Where a field ends, and where the next one starts; the record's end where there is none.
-#[derive(Drop)]
+#[derive(Clone, Copy)]
 pub struct Piece {
     pub to: usize,
     pub next: usize,

@@ -1,4 +1,6 @@
 // The lists that a day is lent in: whether they are long enough, and five of them that together hold the marks of a day's intervals: one element of each for each interval.
+#![tactic(auto)]
+
 ghost use Rattle.std.specs.Prelude.{◌≡◌, ◌≤◌, ◌-◌, length, replicate};
 ghost use Rattle.std.proofs.lemmas.List.Edits.{sets};
 ghost use Rattle.format.specs.Day.{five, enough_for};

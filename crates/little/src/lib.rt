@@ -1,4 +1,6 @@
 // Pieces of lent memory, and numbers in it, the lowest byte first. Reading is total: bytes that the memory lacks count as 0.
+#![tactic(auto)]
+
 ghost use Rattle.std.specs.Prelude.{◌≡◌, min, ◌+◌, ◌≤◌, ◌<◌, ◌^◌, length};
 ghost use Rattle.std.proofs.lemmas.List.Edits.{sets};
 ghost use Rattle.entries.specs.Little.{piece, number, number_at, in_bytes};

@@ -1,5 +1,7 @@
 // Sixteen values of the commonest shape, a digit, a point and three digits, with a comma behind each: seen at once, by loops without an early exit over 96
 // bytes, of which the compiler makes vector code.
+#![tactic(auto)]
+
 ghost use Rattle.std.specs.Prelude.{◌≡◌, true, ◌+◌, ◌≤◌, ◌<◌, ◌^◌, length};
 ghost use Rattle.ground.specs.Lists.{part};
 ghost use Rattle.format.specs.Records.{millionths};

@@ -1,4 +1,6 @@
 // A store made in lent memory.
+#![tactic(auto)]
+
 ghost use Rattle.std.specs.Prelude.{◌≡◌, true, min, ◌≤◌};
 ghost use Rattle.format.specs.File.{most};
 ghost use Rattle.store.specs.Store.{slotted};

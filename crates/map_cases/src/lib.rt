@@ -1,5 +1,7 @@
 // The probe's cases of a tenant map. The probe has one memory for stores and maps, of which `size` bytes are lent. No contract can say what is read, so those that read
 // are proved safe, and have none; what they answer is put together by `map_calls`.
+#![tactic(auto)]
+
 ghost use Rattle.std.specs.Prelude.{◌≤◌, length};
 
 use calls::PLACES;

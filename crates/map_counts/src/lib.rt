@@ -1,5 +1,7 @@
 // What is counted in the bytes of a version's entries, for those who look at a tenant map: outputs in use, channels, and a channel's outputs and shares. Reading
 // is total: bytes that the entries lack count as 0.
+#![tactic(auto)]
+
 ghost use Rattle.std.specs.Prelude.{◌≡◌, ◌≤◌, ◌<◌};
 ghost use Rattle.map_counts.specs.Counts.{key_of, share_of, is_used, one_used, used_in, one_on, outputs_on, share_on, shares_on, is_first, one_first, channels_in};
 

@@ -1,4 +1,6 @@
 // Whether what was lent to a call of a tenant map is as it was, but for what the call may write.
+#![tactic(auto)]
+
 ghost use Rattle.std.specs.Prelude.{◌≡◌, ◌≤◌};
 ghost use Rattle.tenants.specs.Calls.{versioned_as};
 ghost use Rattle.map_kept.specs.Kept.{kept_but, kept_after, filled_in, lent_kept};

@@ -1,4 +1,6 @@
 // What is said of the calls of a tenant map, and its tables, put on a page. Each function answers the place behind what it put.
+#![tactic(auto)]
+
 pub mod tables;
 
 ghost use Rattle.page.specs.Filled.{Filled};

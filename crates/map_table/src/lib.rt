@@ -1,4 +1,6 @@
 // A line of a table for a tenant map, output,NMI,suffix,share, without its end: the entry that it gives an output, or what is wrong with it.
+#![tactic(auto)]
+
 ghost use Rattle.std.specs.Prelude.{◌≡◌, ◌&&◌, length, eqb};
 ghost use Rattle.format.specs.Cut.{fields};
 ghost use Rattle.map_table.specs.Rows.{number_up_to, with_share, without_key, is_keyless, keyed, row_of};
@@ -9,7 +11,7 @@ use measures::counts::count_of;
 use records::field;
 
 // An output and its share, or an output that is unused; else which field is at fault, from 1, or one of the faults below.
-#[derive(Drop)]
+#[derive(Clone, Copy)]
 pub enum Row {
     Used(u64, u64),
     Unused(u64),

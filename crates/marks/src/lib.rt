@@ -1,4 +1,6 @@
 // Marks: compared, measured and written. A mark is a tag, and its description stands in the lent text.
+#![tactic(auto)]
+
 ghost use Rattle.std.specs.Prelude.{◌≡◌, true, ◌+◌, ◌≤◌, length, take, drop};
 ghost use Rattle.ground.specs.Lists.{same};
 ghost use Rattle.ground.specs.Room.{Put};

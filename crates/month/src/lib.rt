@@ -1,4 +1,6 @@
 // Reads several days of a file in one call.
+#![tactic(auto)]
+
 ghost use Rattle.std.specs.Prelude.{◌≡◌, ◌+◌, ◌-◌};
 ghost use Rattle.format.specs.Day.{five};
 ghost use Rattle.format.specs.File.{IsAccepted};

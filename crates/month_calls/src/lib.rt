@@ -1,5 +1,7 @@
 // The call that reads several days, as the probe makes it. The answer and its days are put on a page, as `calls` does it. The intervals, which can be more than a page
 // holds, stay in the lists for the caller to put behind them; what ends the line is known here: whether the lists are kept behind what was read.
+#![tactic(auto)]
+
 pub mod kept;
 mod lines;
 
@@ -15,7 +17,7 @@ use month::read_days;
 use months::DaysRead;
 
 // The place behind the days on the page, how many intervals come behind them, and whether the lists are kept.
-#[derive(Drop)]
+#[derive(Clone, Copy)]
 pub struct Begun {
     pub at: usize,
     pub intervals: usize,

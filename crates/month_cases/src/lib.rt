@@ -1,5 +1,7 @@
 // The probe's case that reads several days of a file. No contract can say what is read and written, so those that read and write are proved safe, and have none; what
 // they answer is put together by `month_calls`, and its intervals by `answer_lines`.
+#![tactic(auto)]
+
 ghost use Rattle.std.specs.Prelude.{◌≤◌};
 
 use answer_lines::days::interval;

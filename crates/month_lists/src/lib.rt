@@ -1,4 +1,6 @@
 // Fills the days of a call into its lists, day after day: each is lent its own stretch of the long lists. Nothing is left here that could fail.
+#![tactic(auto)]
+
 ghost use Rattle.std.specs.Prelude.{◌≡◌, true, [], ◌∷◌, ◌+◌, ◌-◌};
 ghost use Rattle.format.specs.Answers.{accepted};
 ghost use Rattle.format.specs.Day.{five, outcome};
@@ -106,7 +108,7 @@ fn fill_place(
 }
 
 // How many days were filled, and how many intervals they have together.
-#[derive(Drop)]
+#[derive(Clone, Copy)]
 pub struct Filled {
     pub days: usize,
     pub intervals: usize,

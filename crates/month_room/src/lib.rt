@@ -1,5 +1,7 @@
 // Whether the days of a call are there and the lists have places for them, known before anything is written: a walk over the days that looks at how many intervals
 // each has. It takes the lists' lengths and not the lists.
+#![tactic(auto)]
+
 ghost use Rattle.std.specs.Prelude.{◌≡◌, ◌&&◌, ℕ, ◌+◌, ◌-◌, ◌≤◌, drop, leb};
 ghost use Rattle.format.specs.Day.{days_of, enough_for};
 ghost use Rattle.day.specs.Places.{DayAhead};

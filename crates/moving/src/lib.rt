@@ -1,4 +1,6 @@
 // Bytes moved inside one lent list, up or down, also where the two stretches overlap; and a stretch of a file at its start replaced.
+#![tactic(auto)]
+
 ghost use Rattle.std.specs.Prelude.{◌≡◌, ◌-◌, ◌≤◌};
 ghost use Rattle.moving.specs.Moving.{moved, Within, Fitting, Spliced};
 

@@ -1,4 +1,6 @@
 // The day of an NMI, a suffix and a date, for someone who does not know its number.
+#![tactic(auto)]
+
 ghost use Rattle.std.specs.Prelude.{◌≡◌, ◌&&◌, ◌+◌, ◌≤◌, length, eqb};
 ghost use Rattle.ground.specs.Lists.{part as Lists·part};
 ghost use Rattle.format.specs.Bytes.{capital as Bytes·capital};

@@ -1,4 +1,6 @@
 // nem block: a day as its shortest block of records. The words are its own name, the command's, the file's, and which day it is.
+#![tactic(auto)]
+
 use day_rows::{minutes, refused};
 use disk::{Loaded, load_word};
 use explain::refused::explained;

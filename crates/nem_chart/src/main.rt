@@ -1,4 +1,6 @@
 // nem chart: a day as a picture. The words are its own name, the command's, the file's, and which day it is.
+#![tactic(auto)]
+
 ghost use Rattle.format.specs.File.{IsAccepted};
 ghost use Rattle.day.specs.Places.{DayAhead};
 

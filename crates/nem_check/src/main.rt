@@ -1,4 +1,6 @@
 // nem check FILE..: whether each file is accepted. Its words are its own name, the command's and those of the files.
+#![tactic(auto)]
+
 use checking::check::check;
 use disk::{Loaded, load_word};
 use outward::{DONE, FAILED, graver, tell, write};

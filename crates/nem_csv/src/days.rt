@@ -4,7 +4,7 @@ ghost use Rattle.format.specs.File.{IsAccepted};
 ghost use Rattle.day.specs.Places.{DayAhead, inside};
 
 use super::sheet::{Passed, Sheet, behind};
-use csv::rows::{daily, daily_heading, front};
+use csv_rows::rows::{daily, daily_heading, front};
 use day::head::head_at;
 use day::walk::find_day;
 use day::{DayStart, Place};

@@ -4,8 +4,8 @@ ghost use Rattle.format.specs.File.{IsAccepted};
 ghost use Rattle.day.specs.Places.{DayAhead};
 
 use super::sheet::{Passed, Sheet, behind};
-use csv::rows::{front, heading, interval};
-use csv::times::day;
+use csv_rows::rows::{front, heading, interval};
+use csv_rows::times::day;
 use date_rules::calendar::day_after;
 use day::{DayStart, Place};
 use filling::read_noted;

@@ -1,4 +1,6 @@
 // nem csv and nem daily: a file's values as tables for other tools. The words are its own name, the command's and the file's.
+#![tactic(auto)]
+
 mod days;
 mod intervals;
 mod reads;

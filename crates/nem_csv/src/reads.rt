@@ -3,7 +3,7 @@ ghost use Rattle.channel.specs.Places.{ChannelAhead};
 
 use super::sheet::{Sheet, behind};
 use channel::{Channel, ChannelStart, walk};
-use csv::rows::{front, heading, reading};
+use csv_rows::rows::{front, heading, reading};
 use format::Number;
 use leaf::digits::digits;
 use outward::{DONE, write};

@@ -5,7 +5,7 @@ use outward::{DONE, write};
 const HALF: usize = 32768;
 
 // The place on the page that rows have come to, and the status of writing it out.
-#[derive(Drop)]
+#[derive(Clone, Copy)]
 pub struct Sheet {
     pub at: usize,
     pub status: u8,
@@ -23,7 +23,7 @@ pub fn behind(page: &[u8], at: usize) -> Sheet {
 }
 
 // Behind a day: the sheet, and from where the next day is found.
-#[derive(Drop)]
+#[derive(Clone, Copy)]
 pub struct Passed {
     pub sheet: Sheet,
     pub next: DayStart,

@@ -15,7 +15,7 @@ pub const FIRST: usize = 4;
 const EIGHT_DIGITS: u64 = 100000000;
 
 // A date, or none where the word is no date, as is said then.
-#[derive(Drop)]
+#[derive(Clone, Copy)]
 pub enum Asked {
     Date(u32),
     Nothing,

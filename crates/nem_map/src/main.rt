@@ -1,6 +1,8 @@
 // nem map: a tenant map in a file, made, added to, gone back in, and looked at. The words are its own name, the command's, what is to be done, the map's file, and
 // what that takes: a first date and a table's file, a version and a first date, a date or none. No contract can say what is read or written, so these functions
 // are proved safe, and have none.
+#![tactic(auto)]
+
 mod add;
 mod appended;
 mod asked;

@@ -11,7 +11,7 @@ const OUTPUTS: u64 = 128;
 const SHARES: u64 = 65536;
 
 // The table was read; or the first line that is at fault, by its number from 1 and its place in the text.
-#[derive(Drop)]
+#[derive(Clone, Copy)]
 pub enum Table {
     Read,
     Wrong {
@@ -23,7 +23,7 @@ pub enum Table {
 }
 
 // Behind a line.
-#[derive(Drop)]
+#[derive(Clone, Copy)]
 enum Taken {
     Fine,
     Fault(u8),

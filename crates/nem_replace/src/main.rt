@@ -1,5 +1,7 @@
 // nem replace: a file with another block in the place of one day's. The words are its own name, the command's, the file's, which day it is, and the block's.
 // Nothing is written unless the edited file is whole. No contract can say what is read or written, so these functions are proved safe, and have none.
+#![tactic(auto)]
+
 ghost use Rattle.std.specs.Prelude.{◌≤◌};
 
 use alone::check_block;

@@ -1,6 +1,8 @@
 // nem split: a day of a file or of a store, split over the outputs that a map has on its channel. The words are its own name, the command's, the map's file, and
 // either a file and a day's number, or a store's file, an NMI, a suffix and a date. No contract can say what is read or written, so these functions are proved safe,
 // and have none.
+#![tactic(auto)]
+
 mod file_day;
 mod refused;
 mod shown;

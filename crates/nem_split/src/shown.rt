@@ -14,7 +14,7 @@ use units::Spelling;
 use versions::{entries_at, is_map, version_on};
 
 // A day beside its channel: its date, its unit by number, and what its values add up to.
-#[derive(Drop)]
+#[derive(Clone, Copy)]
 pub struct Day {
     pub date: u32,
     pub unit: u8,

@@ -1,6 +1,8 @@
 // nem store: a store of days in a file, made, filled, read and emptied. The words are its own name, the command's, what is to be done, the store's file, and what
 // that takes: slots and bytes, another file, or NMI, suffix and date. No contract can say what is read or written, so these functions are proved safe, and have
 // none.
+#![tactic(auto)]
+
 mod delete;
 mod get;
 mod list;

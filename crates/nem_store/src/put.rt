@@ -26,21 +26,21 @@ const FILE: usize = 4;
 const MOST: usize = 288;
 
 // Behind a day: the days held then, and whether it was kept (DONE), was not (REFUSED), or can't be told of (FAILED).
-#[derive(Drop)]
+#[derive(Clone, Copy)]
 struct Turned {
     held: usize,
     status: u8,
 }
 
 // The same, and from where the next day is found.
-#[derive(Drop)]
+#[derive(Clone, Copy)]
 struct Passed {
     turned: Turned,
     next: DayStart,
 }
 
 // Behind all days: how many were kept, how many the store holds then, and the gravest status.
-#[derive(Drop)]
+#[derive(Clone, Copy)]
 struct Filled {
     kept: usize,
     held: usize,

@@ -19,7 +19,7 @@ use sums::day_sum;
 const MOST: usize = 288;
 
 // Where the channel of the last day stands, and its number.
-#[derive(Drop)]
+#[derive(Clone, Copy)]
 struct Under {
     at: usize,
     channel: usize,
@@ -41,14 +41,14 @@ fn under_at(before: Under, day: usize, at: usize) -> Under {
 }
 
 // Behind a day's line: the channel that it is of, and the status of writing it out.
-#[derive(Drop)]
+#[derive(Clone, Copy)]
 struct Shown {
     under: Under,
     status: u8,
 }
 
 // The same, and from where the next day is found.
-#[derive(Drop)]
+#[derive(Clone, Copy)]
 struct Passed {
     shown: Shown,
     next: DayStart,

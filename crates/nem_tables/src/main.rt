@@ -1,5 +1,7 @@
 // nem totals, nem days and nem day: a file's channels, its days, and some or one of its days, as tables. The words are its own name, the command's, the file's,
 // and for some days the numbers of the first and the last, for one which it is.
+#![tactic(auto)]
+
 mod all_days;
 mod one_day;
 mod some_days;

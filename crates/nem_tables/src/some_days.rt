@@ -25,7 +25,7 @@ const LAST: usize = 4;
 // ---- the tables
 
 // Behind a day's table: the status of writing it out, and from where the next day is found.
-#[derive(Drop)]
+#[derive(Clone, Copy)]
 struct Turned {
     status: u8,
     next: DayStart,

@@ -1,4 +1,6 @@
 // The rules of whole numbers, one function a rule, each answer what the meaning says of the field's bytes: indicator, start and end, interval length, reason.
+#![tactic(auto)]
+
 ghost use Rattle.std.specs.Prelude.{◌≡◌};
 ghost use Rattle.format.specs.Numbers.{interval_of, is_length, length_of, intervals_of, reason_of};
 ghost use Rattle.format.specs.Records.{is_kind, indicator_of};

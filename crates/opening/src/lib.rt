@@ -1,4 +1,6 @@
 // Whether lent bytes are a store.
+#![tactic(auto)]
+
 ghost use Rattle.std.specs.Prelude.{◌≡◌, length};
 ghost use Rattle.store.specs.Store.{ranges_laid, is_store_of};
 ghost use Rattle.opening.specs.Opens.{opened_of};
@@ -11,7 +13,7 @@ use slots::{read_header, read_sizes, read_starts};
 use store::Header;
 
 // A store with its header, or none.
-#[derive(Drop)]
+#[derive(Clone, Copy)]
 pub enum Opened {
     Is(Header),
     Not,

@@ -1,11 +1,13 @@
 // What may come next travels as one state, by value: each record's method takes it and hands it back, or names the record's first fault.
+#![tactic(auto)]
+
 pub mod records;
 pub mod steps;
 
 use format::Tag;
 
 // What may come next.
-#[derive(Drop)]
+#[derive(Clone, Copy)]
 pub struct State {
     // 0: the 100; 1: the first 200; 2: a 200's first 300; 3: under a day; 4: under a V day, with its 400s; 5: behind a 500;
     // 6: the first 250; 7: behind a 250; 8: behind a 550; 9: the end.
@@ -28,7 +30,7 @@ pub struct State {
 }
 
 // What comes of a record: the state behind it, or its first fault with number, place from the record's start, and field.
-#[derive(Drop)]
+#[derive(Clone, Copy)]
 pub enum Step {
     On(State),
     Stop(u64, usize, usize),

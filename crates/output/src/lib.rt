@@ -1,5 +1,7 @@
 // Standard output, on which the probe answers: what is put together on a page is written out in pieces. No contract can say what is written, so these functions are
 // proved safe, and have none.
+#![tactic(auto)]
+
 use page::texts::part;
 
 // What is put on the page is written out where so much of it stands there: the longest piece that is put there at once, the answer and 400 days of a month, is shorter

@@ -1,4 +1,6 @@
 // Entries of a tenant map written into memory, and read out of it into lent lists.
+#![tactic(auto)]
+
 ghost use Rattle.std.specs.Prelude.{◌≡◌, ◌++◌, ◌+◌, ◌≤◌, length};
 ghost use Rattle.std.proofs.lemmas.List.Edits.{sets};
 ghost use Rattle.entries.specs.Little.{in_bytes};

@@ -1,4 +1,6 @@
 // Entries of a tenant map: those that adding takes, in lent lists; those in the form that adding keeps, in memory.
+#![tactic(auto)]
+
 ghost use Rattle.std.specs.Prelude.{◌≡◌, ◌&&◌, ◌≤◌, ◌<◌, length, take};
 ghost use Rattle.ground.specs.Lists.{all};
 ghost use Rattle.entries.specs.Little.{number_at};

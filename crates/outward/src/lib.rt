@@ -1,5 +1,7 @@
 // What leaves a program for people: a page to standard output, a line to standard error, the bytes of a file, and its status. What is put together on a page is
 // written out whole. No contract can say what is written, so these functions are proved safe, and have none.
+#![tactic(auto)]
+
 use page::texts::{part, put};
 
 // Where the status is told: descriptor 3, which `nem` listens to, since a program can't set its own.

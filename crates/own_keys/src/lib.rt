@@ -1,4 +1,6 @@
 // Whether each used slot of a store has a key of its own.
+#![tactic(auto)]
+
 ghost use Rattle.std.specs.Prelude.{◌≡◌, true, cond, ◌+◌, ◌≤◌, ◌<◌, length};
 ghost use Rattle.ground.specs.Lists.{all, same};
 ghost use Rattle.entries.specs.Little.{piece};

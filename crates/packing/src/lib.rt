@@ -1,4 +1,6 @@
 // Blocks in a lent room are moved down over the holes between them.
+#![tactic(auto)]
+
 ghost use Rattle.std.specs.Prelude.{◌≡◌, ◌&&◌, length, leb, ltb, eqb};
 ghost use Rattle.ranges.specs.Laid.{Laid};
 ghost use Rattle.packing.specs.Packing.{packed, pack_of};

@@ -1,4 +1,6 @@
 // Answers the cases on standard input, one after the other, so that each public entry can be driven with any bytes.
+#![tactic(auto)]
+
 use cases::rooms::replace_case;
 use cases::stores::{bytes_case, delete_case, get_case, make_case, memory_case, slot_case};
 use cases::{block_case, check_case, day_case, find_case, total_case};

@@ -1,4 +1,6 @@
 // A day put into a store.
+#![tactic(auto)]
+
 ghost use Rattle.std.specs.Prelude.{◌≡◌, [], ◌∷◌, length};
 ghost use Rattle.format.specs.Answers.{accepted};
 ghost use Rattle.format.specs.Block.{given};

@@ -1,4 +1,6 @@
 // The rule of a quality, and the rules across fields.
+#![tactic(auto)]
+
 pub mod flags;
 
 ghost use Rattle.std.specs.Prelude.{◌≡◌};

@@ -1,5 +1,7 @@
 // Whether a field is a date or a time. Most have a year from 2000 to 2099 and a day up to 28: such bytes are seen to be a date by the range of each, and
 // no number is made. All others go by the simple rule.
+#![tactic(auto)]
+
 ghost use Rattle.std.specs.Prelude.{◌≡◌, ◌≤◌, length};
 ghost use Rattle.format.specs.Numbers.{is_number};
 ghost use Rattle.format.specs.Dates.{date_of, time_of};

@@ -1,4 +1,6 @@
 // The kinds of records. Those that come often, 100 to 500 and 250, are told by their bytes, and no number is made of digits.
+#![tactic(auto)]
+
 ghost use Rattle.std.specs.Prelude.{◌≡◌, ◌<◌, length};
 ghost use Rattle.format.specs.Records.{indicator_of};
 ghost use Rattle.format.specs.declared.Number.TheVariants.{Is};

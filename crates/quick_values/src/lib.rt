@@ -1,4 +1,6 @@
 // Whether a field is a value or a register read, which is asked most often: each has the contract of the simple rule, and no number is made.
+#![tactic(auto)]
+
 ghost use Rattle.std.specs.Prelude.{◌≡◌, ◌≤◌, length};
 ghost use Rattle.ground.specs.Lists.{span_of};
 ghost use Rattle.ground.specs.Digits.{is_digit};

@@ -1,5 +1,7 @@
 // Ranges of bytes as two lists, where each begins and how long it is: whether they lie apart, and how many bytes they have. A range of no bytes may stand
 // anywhere.
+#![tactic(auto)]
+
 ghost use Rattle.std.specs.Prelude.{◌≡◌, ◌+◌, ◌≤◌, ◌<◌, length, get_or, drop};
 ghost use Rattle.ground.specs.Lists.{sum as Lists·sum};
 ghost use Rattle.store.specs.Ranges.{inside as Ranges·inside, apart as Ranges·apart, clear as Ranges·clear, laid as Ranges·laid};

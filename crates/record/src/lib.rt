@@ -1,4 +1,6 @@
 // The fields of a record from left to right, each held to its rule: one loop over the field's number serves every kind but a 400, which the crate `runs` reads.
+#![tactic(auto)]
+
 ghost use Rattle.std.specs.Prelude.{◌≡◌, cond, ◌&&◌, List, ℕ, ◌+◌, ◌≤◌, length, eqb};
 ghost use Rattle.ground.specs.Lists.{part};
 ghost use Rattle.format.specs.Cut.{fields, field};
@@ -11,14 +13,14 @@ use tries::{Held, field_held, quantity_held, value_held};
 
 // What a walk over a record's fields found: each meets its rule, and where the two start that later rules ask for; or the leftmost that breaks its
 // rule, with its place from the record's start and its number from 1.
-#[derive(Drop)]
+#[derive(Clone, Copy)]
 pub enum Walked {
     Sound(usize, usize),
     Broken(usize, usize),
 }
 
 // A loop over the fields: how many it has passed, and where the last of them ended.
-#[derive(Drop)]
+#[derive(Clone, Copy)]
 pub struct Spot {
     pub i: usize,
     pub b: usize,

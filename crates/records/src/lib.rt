@@ -1,4 +1,6 @@
 // The records of a file and their fields, looked up for what is said of them.
+#![tactic(auto)]
+
 pub mod reads;
 
 ghost use Rattle.std.specs.Prelude.{◌≡◌, ◌-◌, ◌≤◌, length, drop};
@@ -13,7 +15,7 @@ use page::texts::part;
 use says::{kind_at, unit_at};
 
 // A record: where it starts and ends, its kind or 0, and how many fields it has.
-#[derive(Drop)]
+#[derive(Clone, Copy)]
 pub struct Record {
     pub start: usize,
     pub end: usize,

@@ -6,14 +6,14 @@ use day::fields::skip;
 use lines::pieces::field_at;
 
 // A field as a part of its record, and where the field behind it starts.
-#[derive(Drop)]
+#[derive(Clone, Copy)]
 pub struct Place {
     pub from: usize,
     pub to: usize,
     pub next: usize,
 }
 
-#[derive(Drop)]
+#[derive(Clone, Copy)]
 pub struct Read {
     pub nmi: Place,
     pub suffix: Place,

@@ -1,4 +1,6 @@
 // A refusal for a person to act on, line by line: what it means, where it stands, what would be right, the record's line, and a mark under the place.
+#![tactic(auto)]
+
 pub mod excerpts;
 pub mod hints;
 pub mod places;

@@ -1,4 +1,6 @@
 // One day of a file replaced in place: the file is checked once, the new block once, and the tail of the file is moved once.
+#![tactic(auto)]
+
 ghost use Rattle.std.specs.Prelude.{◌≡◌, ◌≤◌, length, take};
 ghost use Rattle.format.specs.Answers.{refused, refused_as};
 ghost use Rattle.format.specs.File.{most};
@@ -14,14 +16,14 @@ use moving::splice;
 use whose::{DayFound, find_day};
 
 // What a replacing answers: the file's new length.
-#[derive(Drop)]
+#[derive(Clone, Copy)]
 pub enum Replaced {
     Length(usize),
     Refused(Refusal),
 }
 
 // What comes of a try: where the day's block starts and ends, which the new one may take the place of, or why it may not.
-#[derive(Drop)]
+#[derive(Clone, Copy)]
 pub enum Tried {
     At(usize, usize),
     Refused(Refusal),

@@ -1,4 +1,6 @@
 // The rule of each field by its number from 0, and a field held to its rule.
+#![tactic(auto)]
+
 ghost use Rattle.std.specs.Prelude.{◌≡◌, ◌≤◌, get_or};
 ghost use Rattle.format.specs.Quality.{is_graded};
 ghost use Rattle.format.specs.Records.{scale, row100, row200, row300, row400, row500, row250, row550, count_of, rule_of, obeys};

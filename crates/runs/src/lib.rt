@@ -1,4 +1,6 @@
 // A 400 read in one go: each field is held to its rule and says what later rules ask of it, so that none is read twice.
+#![tactic(auto)]
+
 ghost use Rattle.std.specs.Prelude.{◌≡◌};
 ghost use Rattle.format.specs.Cut.{fields};
 ghost use Rattle.ground.specs.Lists.{part};
@@ -11,7 +13,7 @@ use lines::pieces::field_end;
 use says::start_of;
 
 // A 400: its intervals, where its quality stands, and its mark; or the leftmost field that breaks its rule, as in a walk.
-#[derive(Drop)]
+#[derive(Clone, Copy)]
 pub enum Run {
     Of(usize, usize, usize, Tag),
     Broken(usize, usize),

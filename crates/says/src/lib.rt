@@ -1,4 +1,6 @@
 // What the field at a place of the file says, in a record that ends at e. Where the field breaks its rule, the number is 0.
+#![tactic(auto)]
+
 ghost use Rattle.std.specs.Prelude.{◌≡◌, cond, ◌≤◌, ◌<◌, ◌^◌, length, eqb};
 ghost use Rattle.ground.specs.Lists.{part};
 ghost use Rattle.format.specs.Cut.{fields, field};

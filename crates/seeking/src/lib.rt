@@ -1,4 +1,6 @@
 // The slot of a key.
+#![tactic(auto)]
+
 ghost use Rattle.std.specs.Prelude.{◌≡◌, ◌&&◌};
 ghost use Rattle.entries.specs.Keys.{key, capital_key, same_key};
 ghost use Rattle.store.specs.Used.{used};

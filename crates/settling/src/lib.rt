@@ -1,5 +1,7 @@
 // The blocks of a store's used slots: how many bytes they have, and moved down over the holes between them. Which slots are used is said by a map beside the
 // header, so that a slot can be left out.
+#![tactic(auto)]
+
 ghost use Rattle.std.specs.Prelude.{◌≡◌, length};
 ghost use Rattle.store.specs.Moves.{live};
 ghost use Rattle.settling.specs.Settling.{Settles, Settled};

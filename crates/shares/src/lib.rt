@@ -1,4 +1,6 @@
 // A total shared out by weights: each weight's part rounded down, and what remains one each to the largest remainders, the lower place first when equal.
+#![tactic(auto)]
+
 ghost use Rattle.std.specs.Prelude.{◌≡◌, ◌≤◌, ◌<◌, length, ltb, leb};
 ghost use Rattle.std.proofs.lemmas.List.Edits.{sets};
 ghost use Rattle.shares.specs.Shares.{count, ahead, remainders, leftover, part_of, parts_of};

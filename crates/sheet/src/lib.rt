@@ -1,6 +1,8 @@
 // The probe's case that hands in a day to be written: its first line, its six lists and its text are read from standard input, the day is lent to the
 // call, and the block is written out behind its answer. What the numbers mean is said by functions that have contracts. No contract can say what is read or
 // written, so those that do it are proved safe, and have none.
+#![tactic(auto)]
+
 pub mod lists;
 pub mod puts;
 
@@ -24,7 +26,7 @@ const MOST_ROOM: usize = 131072;
 const MOST_TEXT: usize = 4096;
 
 // The first line of the case: the day's head, how much room is lent, how many places each list has, and how long the text is.
-#[derive(Drop)]
+#[derive(Clone, Copy)]
 struct Sheet {
     date: u64,
     length: u64,

@@ -1,5 +1,7 @@
 // A value of at most three digits before its point and at most three behind it, read in one pass from its first byte to the comma behind it. It is read by
 // tests and not in a loop, so that the compiler knows how many digits there are wherever it matters.
+#![tactic(auto)]
+
 ghost use Rattle.std.specs.Prelude.{◌≡◌, ◌+◌, ◌-◌, ◌*◌, ◌≤◌, ◌<◌, ◌^◌, length};
 ghost use Rattle.shorts.specs.Shapes.{Whole, Pointed, Complete, Shown};
 
@@ -7,14 +9,14 @@ use classes::is_digit;
 
 // Digits on the way to a number: n is the number that they write where each byte counts as itself, and `zeros` what zeros in their places come to so. One
 // subtraction at the end makes digits of all of them.
-#[derive(Drop)]
+#[derive(Clone, Copy)]
 pub struct Digits {
     pub n: u64,
     pub zeros: u64,
 }
 
 // What a try at a value came to: the value and where the next field starts, or nothing.
-#[derive(Drop)]
+#[derive(Clone, Copy)]
 pub enum Taken {
     Value(u64, usize),
     Not,

@@ -1,4 +1,6 @@
 // What a slot of a store holds.
+#![tactic(auto)]
+
 ghost use Rattle.std.specs.Prelude.{◌≡◌};
 ghost use Rattle.store.specs.Ranges.{slot_place, slot_of};
 ghost use Rattle.store.specs.Calls.{slot_read_as, slot_says, slot_read_of, read_slot_of};

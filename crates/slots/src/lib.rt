@@ -1,4 +1,6 @@
 // A store's header and its slots in lent memory, read and written. Reading is total: bytes that the memory lacks count as 0.
+#![tactic(auto)]
+
 ghost use Rattle.std.specs.Prelude.{◌≡◌, ◌+◌, ◌≤◌, ◌<◌, length};
 ghost use Rattle.std.proofs.lemmas.List.Edits.{sets};
 ghost use Rattle.ground.specs.Lists.{from};

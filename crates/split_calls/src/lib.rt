@@ -1,5 +1,7 @@
 // The calls that split a day's total over the outputs, as the probe makes them: the answer is put on a page as a line, as `calls` does it, with the parts of 128
 // outputs behind it where they were set, and the line says so where one of the other parts that were lent has changed.
+#![tactic(auto)]
+
 mod lines;
 
 ghost use Rattle.std.specs.Prelude.{◌≡◌, ◌≤◌};

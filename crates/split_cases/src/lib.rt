@@ -1,5 +1,7 @@
 // The probe's cases that split a day's total over the outputs. A map or a store that the case does not hand in is the probe's memory, of which `size` bytes are lent. No
 // contract can say what is read, so those that read are proved safe, and have none; what they answer is put together by `split_calls`.
+#![tactic(auto)]
+
 ghost use Rattle.std.specs.Prelude.{◌≤◌, length};
 
 use calls::PLACES;
@@ -27,7 +29,7 @@ const DATES: u64 = 4294967295;
 const SHARES: u64 = 65536;
 
 // NMI, suffix and what is handed in behind them are read in one stretch: where each of them ends.
-#[derive(Drop)]
+#[derive(Clone, Copy)]
 struct Ends {
     nmi: usize,
     suffix: usize,

@@ -1,4 +1,6 @@
 // What is said of a day that is split over the outputs on its channel, put on a page. Each function answers the place behind what it put.
+#![tactic(auto)]
+
 ghost use Rattle.std.specs.Prelude.{◌≡◌};
 ghost use Rattle.page.specs.Filled.{Filled};
 ghost use Rattle.split_lines.specs.Lines.{amount_text, by_text, title_text, headings as Lines·headings, part_text, sum_text, is_energy, note_text};

@@ -1,8 +1,10 @@
 // The meaning of request 12, splitting a day over the outputs, in `specs`, and the answer of its calls.
+#![tactic(auto)]
+
 use format::Refusal;
 
 // How many outputs are on the channel.
-#[derive(Drop)]
+#[derive(Clone, Copy)]
 pub enum Split {
     Done { outputs: usize },
     Refused(Refusal),

@@ -1,4 +1,6 @@
 // A day's total split over the outputs on its channel: a total that is handed in, a day of a file, a day that a store holds. docs/SPLIT.md tells what it is for.
+#![tactic(auto)]
+
 ghost use Rattle.std.specs.Prelude.{◌≡◌, ◌&&◌, true, ◌++◌, length, leb};
 ghost use Rattle.format.specs.Texts.{is_nmi, is_suffix};
 ghost use Rattle.entries.specs.Left.{left};

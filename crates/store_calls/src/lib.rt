@@ -1,5 +1,7 @@
 // The calls of a store, as the probe makes them: the answer is put on a page as a line, as `calls` does it, and the line says so where something that was lent has
 // changed and should not have. Memory is copied before a call that may change it, so that what has changed in it is seen.
+#![tactic(auto)]
+
 mod lines;
 
 ghost use Rattle.std.specs.Prelude.{◌≡◌, ◌≤◌, length};

@@ -1,4 +1,6 @@
 // What is said of the calls of a store, put on a page. Each function answers the place behind what it put.
+#![tactic(auto)]
+
 ghost use Rattle.page.specs.Filled.{Filled};
 ghost use Rattle.store_lines.specs.Lines.{names_text, key_text, room_text, made_text, number_text, day_text, kept_text, holds_text, counts_text, summary_text, deleted_text};
 

@@ -1,4 +1,6 @@
 // What the values of a stored day add up to.
+#![tactic(auto)]
+
 ghost use Rattle.std.specs.Prelude.{◌≡◌};
 ghost use Rattle.ground.specs.Lists.{sum};
 ghost use Rattle.format.specs.Answers.{totalled_as};

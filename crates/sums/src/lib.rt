@@ -1,5 +1,7 @@
 // The values of a day, and those of a channel's days, added up, sixteen at a time. No sum is tested: a value is below 10^13, and a day has at most 288. A channel's
 // values have a comma each before them, so that what was added up is at most 10^13 for each byte passed, and a file that was accepted has no more than 1,048,576.
+#![tactic(auto)]
+
 ghost use Rattle.std.specs.Prelude.{◌≡◌, ◌+◌, ◌^◌, ◌≤◌, ◌<◌, length};
 ghost use Rattle.ground.specs.Lists.{part, sum};
 ghost use Rattle.format.specs.Cut.{fields};
@@ -18,7 +20,7 @@ use says::kind_at;
 use values::{short_stop, value_in_pass};
 
 // The values of some fields from a place on, added up, and where the field behind them starts.
-#[derive(Drop)]
+#[derive(Clone, Copy)]
 pub struct Sum {
     pub v: u64,
     pub next: usize,

@@ -1,4 +1,6 @@
 // Whether a put may take the place of what its key has, and the slot that it takes.
+#![tactic(auto)]
+
 ghost use Rattle.std.specs.Prelude.{◌≡◌, cond, ◌&&◌, leb, ltb};
 ghost use Rattle.store.specs.Used.{free_from};
 ghost use Rattle.store.specs.Calls.{update_of};

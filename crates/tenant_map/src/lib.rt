@@ -1,4 +1,6 @@
 // A tenant map in lent memory: made, added to, gone back to, and asked for a date. docs/MAP.md has its bytes.
+#![tactic(auto)]
+
 ghost use Rattle.std.specs.Prelude.{◌≡◌, ◌&&◌, ◌≤◌, ◌<◌, length, leb};
 ghost use Rattle.std.proofs.lemmas.List.Edits.{sets};
 ghost use Rattle.entries.specs.Left.{left};

@@ -1,5 +1,7 @@
 // The rules of names and texts, one function a rule. A field is a part of the file, `&file[a..b]`; each answer is what the meaning says of its bytes:
 // NMI, suffix, data stream, from and to, configuration, register, serial, service order, description, direction, trans code, version.
+#![tactic(auto)]
+
 ghost use Rattle.std.specs.Prelude.{◌≡◌};
 ghost use Rattle.format.specs.Texts.{is_nmi, is_suffix, is_stream, is_party, is_configuration, is_register, is_serial, is_service_order, is_description, is_direction, is_trans_code, version_of};
 

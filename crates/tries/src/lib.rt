@@ -1,5 +1,7 @@
 // The field that starts at a place, held to its rule. A field whose rule has one likely length is first tried at it, so that its end need not be
 // looked for: where a comma or the record's end follows, and the bytes meet the rule and hold no comma, they are the field.
+#![tactic(auto)]
+
 ghost use Rattle.std.specs.Prelude.{◌≡◌, true, false, [], ◌∷◌, ℕ, ◌≤◌, length, eqb};
 ghost use Rattle.ground.specs.Lists.{part, same};
 ghost use Rattle.ground.specs.Text.{bytes};
@@ -23,7 +25,7 @@ use rows::obeys;
 use units::named_decimals;
 
 // A field held to its rule: it meets it, and where it ends; or it breaks it.
-#[derive(Drop)]
+#[derive(Clone, Copy)]
 pub enum Held {
     To(usize),
     Broken,

@@ -1,4 +1,6 @@
 // The table of units: a unit's number by its name and its name by its number, and how many decimals a value in it may have.
+#![tactic(auto)]
+
 ghost use Rattle.std.specs.Prelude.{◌≡◌, ◌+◌, ◌*◌, ◌≤◌, ◌<◌, length, get_or, take, eqb};
 ghost use Rattle.format.specs.Bytes.{capital};
 ghost use Rattle.format.specs.Units.{same_letters, unit_of, is_unit, unit_name, decimals_of, decimals_named};
@@ -160,7 +162,7 @@ pub fn named_decimals(f: &[u8]) -> usize
 }
 
 // A unit's name: so many of the bytes.
-#[derive(Drop)]
+#[derive(Clone, Copy)]
 pub struct Spelling {
     pub bytes: [u8; 5],
     pub length: usize,

@@ -1,4 +1,6 @@
 // The used map of a store: one bit of a u64 for each slot, by shifts and masks.
+#![tactic(auto)]
+
 ghost use Rattle.std.specs.Prelude.{◌≡◌, ◌^◌, ◌<◌};
 ghost use Rattle.store.specs.Used.{used, taken, freed, held, free_from, none_past};
 

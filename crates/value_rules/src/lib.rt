@@ -1,4 +1,6 @@
 // The rules of numbers with a point, one function a rule, each answer what the meaning says of the field's bytes: value and quantity, register reads.
+#![tactic(auto)]
+
 ghost use Rattle.std.specs.Prelude.{◌≡◌, ◌-◌, ◌^◌, min};
 ghost use Rattle.format.specs.Numbers.{fraction_of, amount, value_of, are_digits, is_read, is_index_read};
 ghost use Rattle.format.proofs.Numbers.{under};

@@ -1,4 +1,6 @@
 // A day's values as text, each with a comma behind it: measured first, and then written.
+#![tactic(auto)]
+
 ghost use Rattle.std.specs.Prelude.{◌≡◌, ◌+◌, ◌≤◌, length};
 ghost use Rattle.ground.specs.Room.{Put};
 ghost use Rattle.format.specs.Block.{values_text};
@@ -9,7 +11,7 @@ use text::bytes::put_byte;
 use value_rules::tens;
 
 // The bytes of a day's values, if each value is fit.
-#[derive(Drop)]
+#[derive(Clone, Copy)]
 pub enum Measured {
     Bytes(usize),
     Unfit,

@@ -1,5 +1,7 @@
 // The values of a 300, read as numbers: one at a place of the file, tried as the commonest shape, or in one pass. Each way has the answer of the simple one,
 // which finds the field's end and asks the value rule.
+#![tactic(auto)]
+
 ghost use Rattle.std.specs.Prelude.{◌≡◌, ◌+◌, ◌-◌, ◌≤◌, ◌<◌, ◌^◌, length};
 ghost use Rattle.ground.specs.Lists.{span_of, other, part};
 ghost use Rattle.format.specs.Cut.{fields, field};
@@ -13,7 +15,7 @@ use says::value_of;
 use shorts::{Taken, short_at};
 
 // A value, in millionths, and where the next field starts; the record's end where there is none.
-#[derive(Drop)]
+#[derive(Clone, Copy)]
 pub struct Valued {
     pub v: u64,
     pub next: usize,

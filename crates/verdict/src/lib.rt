@@ -1,4 +1,6 @@
 // What the check of a file says, and the status that goes with it.
+#![tactic(auto)]
+
 ghost use Rattle.std.specs.Prelude.{◌≡◌};
 ghost use Rattle.page.specs.Filled.{Filled};
 ghost use Rattle.format.specs.Answers.{checked_as};
@@ -39,7 +41,7 @@ fn refused(page: &mut [u8], at: usize, file: &[u8], x: Refusal, several: bool) -
 }
 
 // The place behind what was said, and the status: 0 where the file is accepted, 1 where it is refused.
-#[derive(Drop)]
+#[derive(Clone, Copy)]
 pub struct Verdict {
     pub next: usize,
     pub status: u8,

@@ -1,4 +1,6 @@
 // Whether lent bytes are a tenant map, its versions read, and the version that answers a date. Reading is total: bytes that the memory lacks count as 0.
+#![tactic(auto)]
+
 ghost use Rattle.std.specs.Prelude.{◌≡◌, ◌&&◌, ◌≤◌, ◌<◌, length, drop};
 ghost use Rattle.ground.specs.Lists.{all, from};
 ghost use Rattle.entries.specs.Little.{piece};

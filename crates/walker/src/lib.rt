@@ -1,33 +1,35 @@
 // A walker over the lent file hands out one record after another, each with the walker behind it. It holds the file and a cursor, and leaves the work
 // to `found_at`, which takes the two as they are. A caller goes through `record_at`: its contract has no walker, so nothing above it is proved by hand.
+#![tactic(auto)]
+
 ghost use Rattle.std.specs.Prelude.{◌≡◌};
 ghost use Rattle.walker.specs.Handed.{record_at, behind_record};
 
 use lines::{Found, scan};
 
 // The file, and the place where the next record starts.
-#[derive(Drop)]
+#[derive(Clone, Copy)]
 struct Walker<'a> {
     file: &'a [u8],
     at: usize,
 }
 
 // A record: where it starts, and its end, its first byte that is not plain and its commas; or none, where no CR LF follows.
-#[derive(Drop)]
+#[derive(Clone, Copy)]
 pub enum Record {
     At(usize, Found),
     None,
 }
 
 // A record, and the place behind its CR LF; where there is none, the place as it was.
-#[derive(Drop)]
+#[derive(Clone, Copy)]
 struct Fetched {
     record: Record,
     to: usize,
 }
 
 // What the walker hands out: the record at its cursor, and the walker behind that record, for the next one.
-#[derive(Drop)]
+#[derive(Clone, Copy)]
 struct HandedOn<'a> {
     record: Record,
     walker: Walker<'a>,

@@ -1,5 +1,7 @@
 // The day that a program's words ask for, behind the file: by its number, or by NMI, suffix and date. What decides has contracts in `named` and `reading`; no
 // contract can say what the words are or what is written, so these functions are proved safe, and have none.
+#![tactic(auto)]
+
 use checking::tour::check_and_note;
 use explain::refused::explained;
 use format::{Checked, Number};
@@ -17,7 +19,7 @@ const FIRST: usize = 3;
 const BY_KEY: usize = 6;
 
 // The day's number, or the status of a call that asks for none.
-#[derive(Drop)]
+#[derive(Clone, Copy)]
 pub enum Wanted {
     Day(usize),
     Nothing(u8),

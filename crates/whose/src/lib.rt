@@ -1,4 +1,6 @@
 // Whose day is it: of a day of a file its channel, where NMI and suffix stand, its unit and interval length, and where its block starts and ends.
+#![tactic(auto)]
+
 ghost use Rattle.std.specs.Prelude.{◌≡◌, ◌||◌, ◌≤◌, length, drop, eqb};
 ghost use Rattle.ground.specs.Lists.{part};
 ghost use Rattle.format.specs.Cut.{lines, fields};
@@ -20,7 +22,7 @@ use says::{kind_at, number_in};
 
 // What is found of a day. The channel has its number from 0, NMI and suffix are places in the file, the unit is its number in the table of units, the length
 // is the interval's in minutes. The block starts at its 300 and ends behind the CR LF of its last record.
-#[derive(Drop)]
+#[derive(Clone, Copy)]
 pub enum DayFound {
     At {
         channel: usize,

@@ -1,4 +1,6 @@
 // Writes one day as the shortest block that says it.
+#![tactic(auto)]
+
 ghost use Rattle.std.specs.Prelude.{◌≡◌, [], ◌∷◌, length};
 ghost use Rattle.format.specs.Answers.{accepted, written_as};
 ghost use Rattle.format.specs.Day.{five, over};
