@@ -1,0 +1,6 @@
+-- `units::cell` meets its contract. Assumes nothing.
+use borrow.Author.Rules.{rules}
+use Rattle.units.proofs.cell.Goals as goal
+
+pub returns : goal.returns
+returns c = rw c.requires.0

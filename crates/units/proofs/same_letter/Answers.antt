@@ -1,0 +1,6 @@
+-- `units::same_letter` meets its contract. Assumes nothing.
+use borrow.Author.Rules.{rules}
+use Rattle.units.proofs.same_letter.Goals as goal
+
+pub returns : goal.returns
+returns c = cc
