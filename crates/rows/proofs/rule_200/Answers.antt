@@ -1,0 +1,9 @@
+-- `rows::rule_200` meets its contract. Assumes nothing.
+use Rattle.format.specs.Records.{row200}
+use Rattle.rows.proofs.Rows.{off-row, past-arms}
+use borrow.Author.Rules.{rules}
+use mathlib.Core.Path.{refl}
+use Rattle.rows.proofs.rule_200.Goals as goal
+
+pub returns-in_default : goal.returns-in_default
+returns-in_default c = off-row row200 c.args.i (λ h. past-arms 9 c.args.i c.in_default.rest h) refl

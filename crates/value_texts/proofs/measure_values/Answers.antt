@@ -1,0 +1,24 @@
+-- `value_texts::measure_values` meets its contract. Assumes nothing.
+use Prim.Native.Nat.{◌-◌}
+use Rattle.value_texts.proofs.ValueList.{Counted, some-part, counted_none, counted-large, counted-broken, counted-more, counted-fits, counted-all}
+use borrow.Author.Rules.{rules}
+use lib.ListN.{length}
+use Rattle.value_texts.proofs.measure_values.Goals as goal
+
+pub loop-i-init : goal.loop-i-init
+loop-i-init c = search counted_none
+
+pub returns-then-v-ge-LIMIT : goal.returns-then-v-ge-LIMIT
+returns-then-v-ge-LIMIT c = search counted-large
+
+pub returns-then-v-part-ne0 : goal.returns-then-v-part-ne0
+returns-then-v-part-ne0 c = search counted-broken
+
+pub overflow_add-bytes-in-loop-i : goal.overflow_add-bytes-in-loop-i
+overflow_add-bytes-in-loop-i c = search counted-fits
+
+pub loop-i-preserved : goal.loop-i-preserved
+loop-i-preserved c = search counted-more
+
+pub returns : goal.returns
+returns c = search counted-all

@@ -1,0 +1,12 @@
+-- `value_texts::measure_values` meets its contract. Assumes nothing.
+use Prim.Native.Nat.{◌-◌}
+use Rattle.value_texts.proofs.ValueList.{Counted, some-part, counted_none, counted-large, counted-broken, counted-more, counted-fits, counted-all}
+use borrow.Author.Rules.{rules}
+use lib.ListN.{length}
+use Rattle.value_texts.proofs.measure_values.Given as goal
+
+abbrev pub invariant-loop-i : goal.invariant-loop-i
+invariant-loop-i l = Counted l.d l.values l.bytes l.i
+
+abbrev pub decreases-loop-i : goal.decreases-loop-i
+decreases-loop-i l = length l.values - l.i
