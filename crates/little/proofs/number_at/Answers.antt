@@ -8,4 +8,4 @@ pub number_in-requires : goal.number_in-requires
 number_in-requires c = omega (arith, piece-short c.args.m.now c.piece_at.result.now c.args.at c.args.k c.piece_at.ensures)
 
 pub returns : goal.returns
-returns c = let p = number-there c.args.m.now _ c.args.at _ c.piece_at.ensures c.number_in.ensures in record { is = p.0; small = p.1 }
+returns c = let p = number-there c.args.m.now _ c.args.at _ c.piece_at.ensures (c.number_in.ensures.is, c.number_in.ensures.small) in record { is = p.0; small = p.1 }

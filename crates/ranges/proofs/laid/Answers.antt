@@ -4,6 +4,8 @@ use lib.ListN.{length}
 use Prim.Native.Nat.{◌-◌}
 use native.Mathlib.Omega.{arith}
 use borrow.Author.Rules.{rules}
+use mathlib.Core.Path.{ap}
+use mathlib.Core.Bool.{not}
 use Rattle.ranges.proofs.laid.Goals as goal
 
 pub returns-then-places-lengths : goal.returns-then-places-lengths
@@ -31,7 +33,7 @@ pub loop-i-smaller : goal.loop-i-smaller
 loop-i-smaller c = omega arith
 
 pub loop-i-preserved : goal.loop-i-preserved
-loop-i-preserved c = laying-more _ _ _ _ _ c.loop-i-test.true c.inside.ensures c.loop-i.invariant _ c.clear.ensures c.if-not-inside.false c.if-not-clear.false
+loop-i-preserved c = laying-more _ _ _ _ _ c.loop-i-test.true c.inside.ensures c.loop-i.invariant _ c.clear.ensures (ap not c.if-not-inside.false) (ap not c.if-not-clear.false)
 
 pub returns : goal.returns
 returns c = search laying-all

@@ -4,6 +4,8 @@ use lib.ListN.{length}
 use Prim.Native.Nat.{◌-◌}
 use native.Mathlib.Omega.{arith}
 use borrow.Author.Rules.{rules}
+use mathlib.Core.Path.{ap}
+use mathlib.Core.Bool.{not}
 use Rattle.ranges.proofs.laid.Given as goal
 
 abbrev pub invariant-loop-i : goal.invariant-loop-i

@@ -6,4 +6,4 @@ use mathlib.Core.Path.{refl}
 use Rattle.rows.proofs.rule_200.Goals as goal
 
 pub returns-in_default : goal.returns-in_default
-returns-in_default c = off-row row200 c.args.i (λ h. past-arms 9 c.args.i c.in_default.rest h) refl
+returns-in_default c = off-row row200 c.args.i (λ h. past-arms 9 c.args.i c.in_default.in_default-own.rest h) refl

@@ -10,4 +10,4 @@ pub returns-in-18 : goal.returns-in-18
 returns-in-18 c = let h : c.args.i ≡ 18 = omega arith in rw h
 
 pub returns-in_default : goal.returns-in_default
-returns-in_default c = off-row (row250 c.args.d) c.args.i (λ h. past-arms 22 c.args.i c.in_default.rest h) refl
+returns-in_default c = off-row (row250 c.args.d) c.args.i (λ h. past-arms 22 c.args.i c.in_default.in_default-own.rest h) refl

@@ -11,6 +11,9 @@ loop-i-init c = search counted_none
 pub returns-then-v-ge-LIMIT : goal.returns-then-v-ge-LIMIT
 returns-then-v-ge-LIMIT c = search counted-large
 
+pub nonzero_rem-v : goal.nonzero_rem-v
+nonzero_rem-v c = search some-part
+
 pub returns-then-v-part-ne0 : goal.returns-then-v-part-ne0
 returns-then-v-part-ne0 c = search counted-broken
 
