@@ -1,9 +1,8 @@
 -- `channel_shares::put_weights` meets its contract. Assumes nothing.
 use lib.ListN.{get_or}
-use Prim.Native.Nat.{◌-◌, ◌≤◌}
-use Rattle.channel_shares.proofs.Weighs.{Weighing, weighing-none, weighing-more, weighing-few, weighing-light, weighed-outputs, weighed-shares, weighed-all}
+use Prim.Native.Nat.{◌≤◌}
+use Rattle.channel_shares.proofs.Weighs.{weighing-none, weighing-more, weighing-few, weighing-light, weighed-outputs, weighed-shares, weighed-all}
 use native.Mathlib.Omega.{arith}
-use borrow.Author.Rules.{rules}
 use Rattle.channel_shares.proofs.put_weights.Goals as goal
 
 pub loop-i-init : goal.loop-i-init

@@ -1,9 +1,6 @@
 -- `channel_shares::put_weights` meets its contract. Assumes nothing.
-use lib.ListN.{get_or}
-use Prim.Native.Nat.{◌-◌, ◌≤◌}
-use Rattle.channel_shares.proofs.Weighs.{Weighing, weighing-none, weighing-more, weighing-few, weighing-light, weighed-outputs, weighed-shares, weighed-all}
-use native.Mathlib.Omega.{arith}
-use borrow.Author.Rules.{rules}
+use Prim.Native.Nat.{◌-◌}
+use Rattle.channel_shares.proofs.Weighs.{Weighing}
 use Rattle.channel_shares.proofs.put_weights.Given as goal
 
 abbrev pub invariant-loop-i : goal.invariant-loop-i

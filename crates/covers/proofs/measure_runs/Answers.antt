@@ -1,9 +1,5 @@
 -- `covers::measure_runs` meets its contract. Assumes nothing.
-use Prim.Native.Nat.{◌-◌}
-use Rattle.covers.proofs.Covers.{marked-long, marked-fit, Summed, summed-none, summed-fits, summed-all, summed-more}
-use Rattle.fit.specs.Tags.{marks_from}
-use Rattle.format.specs.Day.{five}
-use borrow.Author.Rules.{rules}
+use Rattle.covers.proofs.Covers.{marked-long, marked-fit, summed-none, summed-fits, summed-all, summed-more}
 use native.Mathlib.Omega.{arith}
 use Rattle.covers.proofs.measure_runs.Goals as goal
 

@@ -1,10 +1,8 @@
 -- `covers::measure_runs` meets its contract. Assumes nothing.
 use Prim.Native.Nat.{◌-◌}
-use Rattle.covers.proofs.Covers.{marked-long, marked-fit, Summed, summed-none, summed-fits, summed-all, summed-more}
+use Rattle.covers.proofs.Covers.{Summed}
 use Rattle.fit.specs.Tags.{marks_from}
 use Rattle.format.specs.Day.{five}
-use borrow.Author.Rules.{rules}
-use native.Mathlib.Omega.{arith}
 use Rattle.covers.proofs.measure_runs.Given as goal
 
 abbrev pub invariant-loop-i : goal.invariant-loop-i

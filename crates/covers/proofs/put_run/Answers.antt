@@ -4,7 +4,6 @@ use Rattle.covers.specs.Cover.{span_text}
 use Rattle.fit.specs.Tags.{mark_of}
 use Rattle.format.specs.Block.{run_text}
 use Rattle.ground.proofs.Room.{put_then}
-use borrow.Author.Rules.{rules}
 use native.Mathlib.Omega.{arith}
 use Rattle.covers.proofs.put_run.Goals as goal
 

@@ -1,10 +1,6 @@
 -- `covers::put_runs` meets its contract. Assumes nothing.
-use Prim.Native.Nat.{◌-◌, ◌≤◌}
 use Rattle.covers.proofs.Covers.{marked-long, marked-fit, run_room, cover-more, cover-none, cover_all}
-use Rattle.covers.specs.Cover.{cover_from}
-use Rattle.fit.specs.Tags.{marks_from}
-use Rattle.format.specs.Day.{five}
-use Rattle.ground.proofs.Room.{Left, left-kept}
+use Rattle.ground.proofs.Room.{left-kept}
 use borrow.Author.Rules.{rules}
 use native.Mathlib.Omega.{arith}
 use Rattle.covers.proofs.put_runs.Goals as goal

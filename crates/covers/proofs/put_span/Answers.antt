@@ -2,7 +2,6 @@
 use Rattle.covers.proofs.Covers.{length-span}
 use Rattle.covers.specs.Cover.{span_text}
 use Rattle.ground.proofs.Room.{put_then}
-use borrow.Author.Rules.{rules}
 use native.Mathlib.Omega.{arith}
 use Rattle.covers.proofs.put_span.Goals as goal
 

@@ -1,9 +1,5 @@
 -- `covers::run_end` meets its contract. Assumes nothing.
-use Prim.Native.Nat.{◌-◌}
-use Rattle.covers.proofs.Covers.{marked-long, marked-inside, Running, running-start, running-last, running_more, running-stop}
-use Rattle.fit.specs.Tags.{marks_from}
-use Rattle.format.specs.Day.{five}
-use borrow.Author.Rules.{rules}
+use Rattle.covers.proofs.Covers.{marked-long, marked-inside, running-start, running-last, running_more, running-stop}
 use Rattle.covers.proofs.run_end.Goals as goal
 
 pub tag_at-a-requires : goal.tag_at-a-requires

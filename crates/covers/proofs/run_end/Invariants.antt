@@ -1,9 +1,8 @@
 -- `covers::run_end` meets its contract. Assumes nothing.
 use Prim.Native.Nat.{◌-◌}
-use Rattle.covers.proofs.Covers.{marked-long, marked-inside, Running, running-start, running-last, running_more, running-stop}
+use Rattle.covers.proofs.Covers.{Running}
 use Rattle.fit.specs.Tags.{marks_from}
 use Rattle.format.specs.Day.{five}
-use borrow.Author.Rules.{rules}
 use Rattle.covers.proofs.run_end.Given as goal
 
 abbrev pub invariant-loop-j : goal.invariant-loop-j

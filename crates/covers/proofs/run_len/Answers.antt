@@ -1,6 +1,5 @@
 -- `covers::run_len` meets its contract. Assumes nothing.
 use Rattle.covers.proofs.Covers.{run_length}
-use borrow.Author.Rules.{rules}
 use native.Mathlib.Omega.{arith}
 use Rattle.covers.proofs.run_len.Goals as goal
 

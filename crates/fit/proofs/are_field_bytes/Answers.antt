@@ -1,8 +1,5 @@
 -- `fit::are_field_bytes` meets its contract. Assumes nothing.
-use Prim.Native.Nat.{◌-◌}
-use Rattle.format.specs.Bytes.{field_byte}
-use Rattle.ground.proofs.Lists.{Passed, passed_none, passed-more, passed-stops, passed-all}
-use borrow.Author.Rules.{rules}
+use Rattle.ground.proofs.Lists.{passed_none, passed-more, passed-stops, passed-all}
 use Rattle.fit.proofs.are_field_bytes.Goals as goal
 
 pub loop-i-init : goal.loop-i-init

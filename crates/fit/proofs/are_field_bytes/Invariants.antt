@@ -1,8 +1,7 @@
 -- `fit::are_field_bytes` meets its contract. Assumes nothing.
 use Prim.Native.Nat.{◌-◌}
 use Rattle.format.specs.Bytes.{field_byte}
-use Rattle.ground.proofs.Lists.{Passed, passed_none, passed-more, passed-stops, passed-all}
-use borrow.Author.Rules.{rules}
+use Rattle.ground.proofs.Lists.{Passed}
 use Rattle.fit.proofs.are_field_bytes.Given as goal
 
 abbrev pub invariant-loop-i : goal.invariant-loop-i

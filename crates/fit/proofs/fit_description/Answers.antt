@@ -1,6 +1,5 @@
 -- `fit::fit_description` meets its contract. Assumes nothing.
 use Rattle.fit.proofs.Marks.{described, undescribed}
-use borrow.Author.Rules.{rules}
 use Rattle.fit.proofs.fit_description.Goals as goal
 
 pub returns-then-description : goal.returns-then-description

@@ -1,6 +1,5 @@
 -- `fit::fit_fields` meets its contract. Assumes nothing.
 use Rattle.fit.proofs.Marks.{unfit-quality, unfit-reason, fields_fit}
-use borrow.Author.Rules.{rules}
 use Rattle.fit.proofs.fit_fields.Goals as goal
 
 pub returns-then-not-fit_quality : goal.returns-then-not-fit_quality

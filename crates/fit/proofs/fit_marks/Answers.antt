@@ -1,8 +1,5 @@
 -- `fit::fit_marks` meets its contract. Assumes nothing.
-use Prim.Native.Nat.{◌-◌}
-use Rattle.fit.proofs.Marks.{long-at, Fitted, fitted_none, fitted-more, fitted-stops, fitted-all}
-use Rattle.format.specs.Day.{five}
-use borrow.Author.Rules.{rules}
+use Rattle.fit.proofs.Marks.{long-at, fitted_none, fitted-more, fitted-stops, fitted-all}
 use Rattle.fit.proofs.fit_marks.Goals as goal
 
 pub loop-i-init : goal.loop-i-init

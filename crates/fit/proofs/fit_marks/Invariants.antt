@@ -1,8 +1,7 @@
 -- `fit::fit_marks` meets its contract. Assumes nothing.
 use Prim.Native.Nat.{◌-◌}
-use Rattle.fit.proofs.Marks.{long-at, Fitted, fitted_none, fitted-more, fitted-stops, fitted-all}
+use Rattle.fit.proofs.Marks.{Fitted}
 use Rattle.format.specs.Day.{five}
-use borrow.Author.Rules.{rules}
 use Rattle.fit.proofs.fit_marks.Given as goal
 
 abbrev pub invariant-loop-i : goal.invariant-loop-i

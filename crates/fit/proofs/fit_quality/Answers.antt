@@ -1,6 +1,5 @@
 -- `fit::fit_quality` meets its contract. Assumes nothing.
 use Rattle.fit.proofs.Marks.{alone-fits, graded-fits, other-flag}
-use borrow.Author.Rules.{rules}
 use Rattle.fit.proofs.fit_quality.Goals as goal
 
 pub returns-then-stands_alone : goal.returns-then-stands_alone

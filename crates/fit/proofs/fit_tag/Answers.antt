@@ -1,7 +1,6 @@
 -- `fit::fit_tag` meets its contract. Assumes nothing.
 use Prim.Native.Nat.{◌+◌, ◌≤◌}
 use Rattle.fit.proofs.Marks.{inside-room, tag-unfit, tag-empty, tag-outside, tag-fit}
-use borrow.Author.Rules.{rules}
 use lib.ListN.{length}
 use native.Mathlib.Omega.{arith}
 use Rattle.fit.proofs.fit_tag.Goals as goal

@@ -1,6 +1,5 @@
 -- `fit::tag_at` meets its contract. Assumes nothing.
 use Rattle.fit.specs.Tags.{tag_from}
-use borrow.Author.Rules.{rules}
 use mathlib.Core.Path.{refl}
 use Rattle.fit.proofs.tag_at.Goals as goal
 

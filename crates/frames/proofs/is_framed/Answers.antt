@@ -1,6 +1,5 @@
 -- `frames::is_framed` meets its contract. Assumes nothing.
 use Rattle.frames.proofs.Tests.{no-slots, other-days, bit_past, out_of_order, all-framed}
-use borrow.Author.Rules.{rules}
 use Rattle.frames.proofs.is_framed.Goals as goal
 
 pub returns-then-not-is_slotted : goal.returns-then-not-is_slotted

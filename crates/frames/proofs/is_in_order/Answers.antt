@@ -1,6 +1,5 @@
 -- `frames::is_in_order` meets its contract. Assumes nothing.
 use Rattle.frames.proofs.Tests.{list-early, room-early, room-inside}
-use borrow.Author.Rules.{rules}
 use Rattle.frames.proofs.is_in_order.Goals as goal
 
 pub returns-then-h-lt32 : goal.returns-then-h-lt32

@@ -1,6 +1,5 @@
 -- `keys::good_key` meets its contract. Assumes nothing.
 use Rattle.keys.proofs.Keys.{good-not-nmi, good-not-suffix, good-date}
-use borrow.Author.Rules.{rules}
 use Rattle.keys.proofs.good_key.Goals as goal
 
 pub returns-then-not-nmi : goal.returns-then-not-nmi

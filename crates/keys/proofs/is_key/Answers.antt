@@ -1,6 +1,5 @@
 -- `keys::is_key` meets its contract. Assumes nothing.
 use Rattle.keys.proofs.Keys.{same-not-date, same-not-nmi, same-suffix}
-use borrow.Author.Rules.{rules}
 use Rattle.keys.proofs.is_key.Goals as goal
 
 pub returns-then-date-kept_date : goal.returns-then-date-kept_date

@@ -1,6 +1,5 @@
 -- `keys::kept_key` meets its contract. Assumes nothing.
 use Rattle.keys.proofs.Keys.{kept-not-good, kept-not-nmi, kept-suffix}
-use borrow.Author.Rules.{rules}
 use Rattle.keys.proofs.kept_key.Goals as goal
 
 pub returns-then-not-good_key : goal.returns-then-not-good_key

@@ -1,5 +1,4 @@
 -- `keys::same_capital` meets its contract. Assumes nothing.
-use borrow.Author.Rules.{rules}
 use Rattle.keys.proofs.same_capital.Goals as goal
 
 pub returns : goal.returns

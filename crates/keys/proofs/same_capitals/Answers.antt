@@ -1,7 +1,5 @@
 -- `keys::same_capitals` meets its contract. Assumes nothing.
-use Prim.Native.Nat.{◌-◌}
-use Rattle.keys.proofs.Letters.{Alike, alike-not, alike-none, alike-more, alike-stop, alike_all}
-use borrow.Author.Rules.{rules}
+use Rattle.keys.proofs.Letters.{alike-not, alike-none, alike-more, alike-stop, alike_all}
 use Rattle.keys.proofs.same_capitals.Goals as goal
 
 pub returns-then-n-kept : goal.returns-then-n-kept

@@ -1,7 +1,6 @@
 -- `keys::same_capitals` meets its contract. Assumes nothing.
 use Prim.Native.Nat.{◌-◌}
-use Rattle.keys.proofs.Letters.{Alike, alike-not, alike-none, alike-more, alike-stop, alike_all}
-use borrow.Author.Rules.{rules}
+use Rattle.keys.proofs.Letters.{Alike}
 use Rattle.keys.proofs.same_capitals.Given as goal
 
 abbrev pub invariant-loop-i : goal.invariant-loop-i

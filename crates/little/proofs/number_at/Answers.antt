@@ -1,7 +1,6 @@
 -- `little::number_at` meets its contract: the piece has at most the bytes that are asked for (`piece-short`), and the number is theirs. Assumes nothing.
 use Rattle.little.proofs.Numbers.{piece-short, number-there}
 use native.Mathlib.Omega.{arith}
-use borrow.Author.Rules.{rules}
 use Rattle.little.proofs.number_at.Goals as goal
 
 pub number_in-requires : goal.number_in-requires

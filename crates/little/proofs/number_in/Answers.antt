@@ -1,8 +1,7 @@
 -- `little::number_in` meets its contract: v is the number of the bytes from i on (`Gathered`), and eight bytes fit. A byte is below 256 by its type.
 -- Assumes nothing.
 use Prim.Native.Nat.{◌-◌}
-use Rattle.little.proofs.Numbers.{Gathered, gathered_none, gathered-more, gathered-fits, gathered-times, gathered-all}
-use borrow.Author.Rules.{rules}
+use Rattle.little.proofs.Numbers.{gathered_none, gathered-more, gathered-fits, gathered-times, gathered-all}
 use native.Mathlib.Omega.{arith}
 use Rattle.little.proofs.number_in.Goals as goal
 

@@ -1,9 +1,6 @@
 -- `little::number_in` meets its contract: v is the number of the bytes from i on (`Gathered`), and eight bytes fit. A byte is below 256 by its type.
 -- Assumes nothing.
-use Prim.Native.Nat.{◌-◌}
-use Rattle.little.proofs.Numbers.{Gathered, gathered_none, gathered-more, gathered-fits, gathered-times, gathered-all}
-use borrow.Author.Rules.{rules}
-use native.Mathlib.Omega.{arith}
+use Rattle.little.proofs.Numbers.{Gathered}
 use Rattle.little.proofs.number_in.Given as goal
 
 abbrev pub invariant-loop-i : goal.invariant-loop-i

@@ -1,8 +1,6 @@
 -- `little::put_number` meets its contract: what is left of the number goes behind the bytes that are written (`Putting`). Assumes nothing.
 use Prim.Native.Nat.{◌≤◌, ◌-◌}
-use Rattle.little.proofs.Numbers.{Putting, putting-none, putting-more, putting-all, putting-past}
-use borrow.Author.Rules.{rules}
-use native.Mathlib.Omega.{arith}
+use Rattle.little.proofs.Numbers.{Putting}
 use Rattle.little.proofs.put_number.Given as goal
 
 abbrev pub invariant-loop-i : goal.invariant-loop-i

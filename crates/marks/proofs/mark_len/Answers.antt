@@ -1,7 +1,6 @@
 -- `marks::mark_len` meets its contract. Assumes nothing.
 use Prim.Native.Nat.{◌≤◌}
 use Rattle.marks.proofs.OneMark.{fit-short, mark-length}
-use borrow.Author.Rules.{rules}
 use lib.ListN.{length}
 use native.Mathlib.Omega.{arith}
 use Rattle.marks.proofs.mark_len.Goals as goal

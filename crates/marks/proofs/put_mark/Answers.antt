@@ -3,7 +3,6 @@ use Rattle.marks.proofs.OneMark.{fit-inside, quality-room, first-comma-room, rea
 use Rattle.fit.specs.Tags.{mark_of}
 use Rattle.format.specs.Block.{mark_text}
 use Rattle.ground.proofs.Room.{put_then}
-use borrow.Author.Rules.{rules}
 use Rattle.marks.proofs.put_mark.Goals as goal
 
 pub put_quality-p1-requires : goal.put_quality-p1-requires

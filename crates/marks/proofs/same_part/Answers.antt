@@ -2,7 +2,6 @@
 use Prim.Native.Nat.{◌+◌, ◌≤◌}
 use Rattle.marks.proofs.OneMark.{parts-differ, parts-empty, parts_same, part_room}
 use Rattle.text.proofs.Texts.{inside-some}
-use borrow.Author.Rules.{rules}
 use lib.ListN.{length}
 use native.Mathlib.Omega.{arith}
 use Rattle.marks.proofs.same_part.Goals as goal

@@ -1,8 +1,5 @@
 -- `outputs::are_fit` meets its contract. Assumes nothing.
-use Prim.Native.Nat.{◌-◌}
-use Rattle.outputs.proofs.Walks.{Asked, given_from, fit_none, fit-more, fit-stops, fit_all}
-use Rattle.tenants.specs.Outputs.{fit_output}
-use borrow.Author.Rules.{rules}
+use Rattle.outputs.proofs.Walks.{fit_none, fit-more, fit-stops, fit_all}
 use Rattle.outputs.proofs.are_fit.Goals as goal
 
 pub loop-i-init : goal.loop-i-init

@@ -1,8 +1,7 @@
 -- `outputs::are_fit` meets its contract. Assumes nothing.
 use Prim.Native.Nat.{◌-◌}
-use Rattle.outputs.proofs.Walks.{Asked, given_from, fit_none, fit-more, fit-stops, fit_all}
+use Rattle.outputs.proofs.Walks.{Asked, given_from}
 use Rattle.tenants.specs.Outputs.{fit_output}
-use borrow.Author.Rules.{rules}
 use Rattle.outputs.proofs.are_fit.Given as goal
 
 abbrev pub invariant-loop-i : goal.invariant-loop-i

@@ -1,8 +1,5 @@
 -- `outputs::are_kept` meets its contract. Assumes nothing.
-use Prim.Native.Nat.{◌-◌}
-use Rattle.outputs.proofs.Walks.{Asked, entries_from, kept-none, kept_more, kept-stops, kept-each}
-use Rattle.tenants.specs.Outputs.{is_kept}
-use borrow.Author.Rules.{rules}
+use Rattle.outputs.proofs.Walks.{kept-none, kept_more, kept-stops, kept-each}
 use Rattle.outputs.proofs.are_kept.Goals as goal
 
 pub loop-i-init : goal.loop-i-init

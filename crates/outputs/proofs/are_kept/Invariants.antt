@@ -1,8 +1,7 @@
 -- `outputs::are_kept` meets its contract. Assumes nothing.
 use Prim.Native.Nat.{◌-◌}
-use Rattle.outputs.proofs.Walks.{Asked, entries_from, kept-none, kept_more, kept-stops, kept-each}
+use Rattle.outputs.proofs.Walks.{Asked, entries_from}
 use Rattle.tenants.specs.Outputs.{is_kept}
-use borrow.Author.Rules.{rules}
 use Rattle.outputs.proofs.are_kept.Given as goal
 
 abbrev pub invariant-loop-i : goal.invariant-loop-i

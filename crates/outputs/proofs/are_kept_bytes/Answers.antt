@@ -1,8 +1,5 @@
 -- `outputs::are_kept_bytes` meets its contract. Assumes nothing.
-use Prim.Native.Nat.{◌-◌}
-use Rattle.ground.proofs.Lists.{Passed, passed_none, passed-more, passed-stops, passed-all}
-use Rattle.outputs.specs.Taken.{kept_byte}
-use borrow.Author.Rules.{rules}
+use Rattle.ground.proofs.Lists.{passed_none, passed-more, passed-stops, passed-all}
 use Rattle.outputs.proofs.are_kept_bytes.Goals as goal
 
 pub loop-i-init : goal.loop-i-init

@@ -1,8 +1,7 @@
 -- `outputs::are_kept_bytes` meets its contract. Assumes nothing.
 use Prim.Native.Nat.{◌-◌}
-use Rattle.ground.proofs.Lists.{Passed, passed_none, passed-more, passed-stops, passed-all}
+use Rattle.ground.proofs.Lists.{Passed}
 use Rattle.outputs.specs.Taken.{kept_byte}
-use borrow.Author.Rules.{rules}
 use Rattle.outputs.proofs.are_kept_bytes.Given as goal
 
 abbrev pub invariant-loop-i : goal.invariant-loop-i

@@ -1,6 +1,5 @@
 -- `outputs::is_channel` meets its contract. Assumes nothing.
 use Rattle.outputs.proofs.Channels.{channel-is}
-use borrow.Author.Rules.{rules}
 use Rattle.outputs.proofs.is_channel.Goals as goal
 
 pub returns : goal.returns

@@ -1,6 +1,5 @@
 -- `outputs::is_fit` meets its contract. Assumes nothing.
 use Rattle.outputs.proofs.Channels.{fit-taken}
-use borrow.Author.Rules.{rules}
 use Rattle.outputs.proofs.is_fit.Goals as goal
 
 pub returns : goal.returns

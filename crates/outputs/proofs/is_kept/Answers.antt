@@ -1,7 +1,6 @@
 -- `outputs::is_kept` meets its contract. Assumes nothing.
 use Rattle.ground.proofs.Lists.{part-long}
 use Rattle.outputs.proofs.Channels.{kept_entry}
-use borrow.Author.Rules.{rules}
 use native.Mathlib.Omega.{arith}
 use Rattle.outputs.proofs.is_kept.Goals as goal
 

@@ -1,6 +1,5 @@
 -- `outputs::is_kept_channel` meets its contract. Assumes nothing.
 use Rattle.outputs.proofs.Channels.{kept-other, kept-channel}
-use borrow.Author.Rules.{rules}
 use Rattle.outputs.proofs.is_kept_channel.Goals as goal
 
 pub returns-then-key-ne12 : goal.returns-then-key-ne12

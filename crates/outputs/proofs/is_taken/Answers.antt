@@ -1,6 +1,5 @@
 -- `outputs::is_taken` meets its contract. Assumes nothing.
 use Rattle.outputs.proofs.Channels.{taken-high, taken-good, taken-share, taken-empty}
-use borrow.Author.Rules.{rules}
 use Rattle.outputs.proofs.is_taken.Goals as goal
 
 pub returns-then-share-gt-HIGHEST : goal.returns-then-share-gt-HIGHEST

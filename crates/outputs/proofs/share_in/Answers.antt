@@ -1,6 +1,5 @@
 -- `outputs::share_in` meets its contract. Assumes nothing.
 use Rattle.outputs.proofs.Walks.{two_bytes}
-use borrow.Author.Rules.{rules}
 use Rattle.outputs.proofs.share_in.Goals as goal
 
 pub returns : goal.returns

@@ -1,6 +1,5 @@
 -- `ranges::apart` meets its contract: a case of the definition for each return. Assumes nothing.
 use Rattle.ranges.proofs.Checks.{one}
-use borrow.Author.Rules.{rules}
 use Rattle.ranges.proofs.apart.Goals as goal
 
 pub returns-then-o-n : goal.returns-then-o-n

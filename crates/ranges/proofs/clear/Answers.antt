@@ -1,9 +1,6 @@
 -- `ranges::clear` meets its contract: what is left of the lists at j decides what all behind i decide (`Clearing`). Assumes nothing.
-use Rattle.ranges.proofs.Checks.{Clearing, clearing-none, clearing-more, clearing-stops, clearing-all}
-use lib.ListN.{length}
-use Prim.Native.Nat.{◌-◌}
+use Rattle.ranges.proofs.Checks.{clearing-none, clearing-more, clearing-stops, clearing-all}
 use native.Mathlib.Omega.{arith}
-use borrow.Author.Rules.{rules}
 use Rattle.ranges.proofs.clear.Goals as goal
 
 pub bounds-places-i : goal.bounds-places-i

@@ -1,9 +1,7 @@
 -- `ranges::clear` meets its contract: what is left of the lists at j decides what all behind i decide (`Clearing`). Assumes nothing.
-use Rattle.ranges.proofs.Checks.{Clearing, clearing-none, clearing-more, clearing-stops, clearing-all}
+use Rattle.ranges.proofs.Checks.{Clearing}
 use lib.ListN.{length}
 use Prim.Native.Nat.{◌-◌}
-use native.Mathlib.Omega.{arith}
-use borrow.Author.Rules.{rules}
 use Rattle.ranges.proofs.clear.Given as goal
 
 abbrev pub invariant-loop-j : goal.invariant-loop-j

@@ -1,6 +1,5 @@
 -- `ranges::inside` meets its contract: a case of the definition for each return. Assumes nothing.
 use Rattle.ranges.proofs.Checks.{one}
-use borrow.Author.Rules.{rules}
 use Rattle.ranges.proofs.inside.Goals as goal
 
 pub returns-then-n-eq0 : goal.returns-then-n-eq0

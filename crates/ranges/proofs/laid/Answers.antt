@@ -1,9 +1,6 @@
 -- `ranges::laid` meets its contract: what is left of the lists at i decides what the lists decide (`Laying`). Assumes nothing.
-use Rattle.ranges.proofs.Checks.{Laying, laying-unlike, laying-none, laying-more, laying-outside, laying-over, laying-all}
-use lib.ListN.{length}
-use Prim.Native.Nat.{◌-◌}
+use Rattle.ranges.proofs.Checks.{laying-unlike, laying-none, laying-more, laying-outside, laying-over, laying-all}
 use native.Mathlib.Omega.{arith}
-use borrow.Author.Rules.{rules}
 use mathlib.Core.Path.{ap}
 use mathlib.Core.Bool.{not}
 use Rattle.ranges.proofs.laid.Goals as goal

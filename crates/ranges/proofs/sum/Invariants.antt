@@ -1,9 +1,7 @@
 -- `ranges::sum` meets its contract: s is the sum of the first i lengths (`Summing`), each of 32 bits, so that 64 of them fit. Assumes nothing.
-use Rattle.ranges.proofs.Sums.{Summing, summing-none, summing-more, summing-all}
+use Rattle.ranges.proofs.Sums.{Summing}
 use lib.ListN.{length}
-use Prim.Native.Nat.{◌-◌, ◌≤◌}
-use native.Mathlib.Omega.{arith}
-use borrow.Author.Rules.{rules}
+use Prim.Native.Nat.{◌-◌}
 use Rattle.ranges.proofs.sum.Given as goal
 
 abbrev pub invariant-loop-i : goal.invariant-loop-i

@@ -1,7 +1,6 @@
 -- `refusals::counts` meets its contract. Assumes nothing.
 use Rattle.refusals.specs.Places.{counts}
 use Rattle.phrase.proofs.Chained.{filled-four}
-use borrow.Author.Rules.{rules}
 use Rattle.refusals.proofs.counts.Goals as goal
 
 pub returns : goal.returns

@@ -1,7 +1,6 @@
 -- `refusals::headline` meets its contract. Assumes nothing.
 use Rattle.refusals.specs.Places.{headline}
 use Rattle.phrase.proofs.Chained.{filled-four}
-use borrow.Author.Rules.{rules}
 use Rattle.refusals.proofs.headline.Goals as goal
 
 pub returns : goal.returns

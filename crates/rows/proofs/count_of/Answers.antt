@@ -1,7 +1,6 @@
 -- `rows::count_of` meets its contract. Assumes nothing.
 use Rattle.format.specs.Records.{row_of}
 use Rattle.rows.proofs.Rows.{count-is, count-day, count-900}
-use borrow.Author.Rules.{rules}
 use Rattle.rows.proofs.count_of.Goals as goal
 
 pub returns-in-100 : goal.returns-in-100

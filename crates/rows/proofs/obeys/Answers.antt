@@ -1,7 +1,6 @@
 -- `rows::obeys` meets its contract. Assumes nothing.
 use Rattle.format.specs.Records.{obeys}
 use Rattle.rows.proofs.Rows.{obeys-is, obeys-number, obeys-value, obeys-graded}
-use borrow.Author.Rules.{rules}
 use Rattle.rows.proofs.obeys.Goals as goal
 
 pub returns-in-Indicator : goal.returns-in-Indicator

@@ -1,7 +1,6 @@
 -- `rows::rule_100` meets its contract. Assumes nothing.
 use Rattle.format.specs.Records.{row100}
 use Rattle.rows.proofs.Rows.{off-row}
-use borrow.Author.Rules.{rules}
 use mathlib.Core.Path.{refl}
 use native.Mathlib.Omega.{arith}
 use Rattle.rows.proofs.rule_100.Goals as goal

@@ -1,7 +1,6 @@
 -- `rows::rule_200` meets its contract. Assumes nothing.
 use Rattle.format.specs.Records.{row200}
 use Rattle.rows.proofs.Rows.{off-row, past-arms}
-use borrow.Author.Rules.{rules}
 use mathlib.Core.Path.{refl}
 use Rattle.rows.proofs.rule_200.Goals as goal
 

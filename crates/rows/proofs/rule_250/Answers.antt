@@ -1,7 +1,6 @@
 -- `rows::rule_250` meets its contract. Assumes nothing.
 use Rattle.format.specs.Records.{row250}
 use Rattle.rows.proofs.Rows.{off-row, past-arms}
-use borrow.Author.Rules.{rules}
 use mathlib.Core.Path.{◌≡◌, refl}
 use native.Mathlib.Omega.{arith}
 use Rattle.rows.proofs.rule_250.Goals as goal

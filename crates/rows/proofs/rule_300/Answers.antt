@@ -1,7 +1,6 @@
 -- `rows::rule_300` meets its contract. Assumes nothing.
 use Rattle.rows.proofs.Rows.{row-past}
 use Rattle.rows.proofs.Rows.{row-value, row-behind}
-use borrow.Author.Rules.{rules}
 use mathlib.Core.Path.{◌≡◌}
 use native.Mathlib.Omega.{arith}
 use Rattle.rows.proofs.rule_300.Goals as goal

@@ -1,7 +1,6 @@
 -- `rows::rule_at` meets its contract. Assumes nothing.
 use Rattle.format.specs.Records.{row_of}
 use Rattle.rows.proofs.Rows.{rule-is, rule-900}
-use borrow.Author.Rules.{rules}
 use Rattle.rows.proofs.rule_at.Goals as goal
 
 pub returns-in-100 : goal.returns-in-100

@@ -1,7 +1,6 @@
 -- `says::date_at` meets its contract. Assumes nothing.
 use Rattle.format.specs.Dates.{date_of}
 use Rattle.says.proofs.Fields.{says, date-below}
-use borrow.Author.Rules.{rules}
 use Rattle.says.proofs.date_at.Goals as goal
 
 pub returns : goal.returns

@@ -2,7 +2,6 @@
 use Rattle.format.specs.Numbers.{interval_of}
 use Rattle.says.proofs.Fields.{interval-below}
 use Rattle.says.proofs.Fields.{says}
-use borrow.Author.Rules.{rules}
 use Rattle.says.proofs.interval_at.Goals as goal
 
 pub returns : goal.returns

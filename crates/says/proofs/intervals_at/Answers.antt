@@ -1,6 +1,5 @@
 -- `says::intervals_at` meets its contract. Assumes nothing.
 use Rattle.says.proofs.Fields.{intervals-say}
-use borrow.Author.Rules.{rules}
 use Rattle.says.proofs.intervals_at.Goals as goal
 
 pub returns : goal.returns

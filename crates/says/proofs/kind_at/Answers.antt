@@ -1,7 +1,6 @@
 -- `says::kind_at` meets its contract. Assumes nothing.
 use Rattle.says.proofs.Fields.{kind-says}
 use Rattle.says.proofs.Fields.{kind-tried}
-use borrow.Author.Rules.{rules}
 use Rattle.says.proofs.kind_at.Goals as goal
 
 pub returns-in-Is : goal.returns-in-Is

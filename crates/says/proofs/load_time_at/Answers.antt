@@ -1,7 +1,6 @@
 -- `says::load_time_at` meets its contract. Assumes nothing.
 use Rattle.format.specs.Dates.{load_of}
 use Rattle.says.proofs.Fields.{says}
-use borrow.Author.Rules.{rules}
 use Rattle.says.proofs.load_time_at.Goals as goal
 
 pub returns : goal.returns

@@ -1,7 +1,6 @@
 -- `says::read_time_at` meets its contract. Assumes nothing.
 use Rattle.format.specs.Dates.{read_time_of}
 use Rattle.says.proofs.Fields.{says}
-use borrow.Author.Rules.{rules}
 use Rattle.says.proofs.read_time_at.Goals as goal
 
 pub returns : goal.returns

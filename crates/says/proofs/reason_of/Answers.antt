@@ -1,7 +1,6 @@
 -- `says::reason_of` meets its contract. Assumes nothing.
 use Rattle.format.specs.Numbers.{reason_of}
 use Rattle.says.proofs.Fields.{reason-fits, says}
-use borrow.Author.Rules.{rules}
 use Rattle.says.proofs.reason_of.Goals as goal
 
 pub overflow_cast-result : goal.overflow_cast-result

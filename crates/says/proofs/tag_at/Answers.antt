@@ -1,6 +1,5 @@
 -- `says::tag_at` meets its contract. Assumes nothing.
 use Rattle.says.proofs.Fields.{tag_is}
-use borrow.Author.Rules.{rules}
 use Rattle.says.proofs.tag_at.Goals as goal
 
 pub returns : goal.returns

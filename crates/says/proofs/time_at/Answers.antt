@@ -1,7 +1,6 @@
 -- `says::time_at` meets its contract. Assumes nothing.
 use Rattle.format.specs.Dates.{time_of}
 use Rattle.says.proofs.Fields.{says}
-use borrow.Author.Rules.{rules}
 use Rattle.says.proofs.time_at.Goals as goal
 
 pub returns : goal.returns

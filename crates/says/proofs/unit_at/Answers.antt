@@ -1,7 +1,6 @@
 -- `says::unit_at` meets its contract. Assumes nothing.
 use Rattle.format.specs.Units.{unit_of}
 use Rattle.says.proofs.Fields.{unit-fits, says}
-use borrow.Author.Rules.{rules}
 use Rattle.says.proofs.unit_at.Goals as goal
 
 pub overflow_cast-result : goal.overflow_cast-result

@@ -1,6 +1,5 @@
 -- `says::value_of` meets its contract. Assumes nothing.
 use Rattle.says.proofs.Fields.{value-is, value-small}
-use borrow.Author.Rules.{rules}
 use Rattle.says.proofs.value_of.Goals as goal
 
 pub returns : goal.returns

@@ -1,7 +1,6 @@
 -- `says::version_at` meets its contract. Assumes nothing.
 use Rattle.format.specs.Texts.{version_of}
 use Rattle.says.proofs.Fields.{says}
-use borrow.Author.Rules.{rules}
 use Rattle.says.proofs.version_at.Goals as goal
 
 pub returns : goal.returns

@@ -1,6 +1,5 @@
 -- `shorts::behind_three` meets its contract. Assumes nothing.
 use Rattle.shorts.proofs.Shorts.{whole-low, whole-complete, whole-point}
-use borrow.Author.Rules.{rules}
 use native.Mathlib.Omega.{arith}
 use Rattle.shorts.proofs.behind_three.Goals as goal
 

@@ -1,6 +1,5 @@
 -- `shorts::ended` meets its contract. Assumes nothing.
 use Rattle.shorts.proofs.Shorts.{complete-value}
-use borrow.Author.Rules.{rules}
 use Rattle.shorts.proofs.ended.Goals as goal
 
 pub returns : goal.returns

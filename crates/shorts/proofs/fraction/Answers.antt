@@ -1,6 +1,5 @@
 -- `shorts::fraction` meets its contract. Assumes nothing.
 use Rattle.shorts.proofs.Shorts.{in-range, point-more, point-complete}
-use borrow.Author.Rules.{rules}
 use mathlib.Core.Path.{refl}
 use native.Mathlib.Omega.{arith}
 use mathlib.Core.Path.{ap}

@@ -1,6 +1,5 @@
 -- `shorts::short_at` meets its contract. Assumes nothing.
 use Rattle.shorts.proofs.Shorts.{in-range, whole-one, whole-more, whole-point, whole-complete, whole-low}
-use borrow.Author.Rules.{rules}
 use native.Mathlib.Omega.{arith}
 use mathlib.Core.Path.{ap}
 use mathlib.Core.Bool.{not}

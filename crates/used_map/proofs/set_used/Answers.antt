@@ -1,6 +1,5 @@
 -- `used_map::set_used` meets its contract: the map or the bit is the map with the slot taken (`or-taken`). Assumes nothing.
 use Rattle.used_map.proofs.Maps.{or-taken}
-use borrow.Author.Rules.{rules}
 use Rattle.used_map.proofs.set_used.Goals as goal
 
 pub returns : goal.returns

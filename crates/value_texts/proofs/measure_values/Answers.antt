@@ -1,8 +1,5 @@
 -- `value_texts::measure_values` meets its contract. Assumes nothing.
-use Prim.Native.Nat.{◌-◌}
-use Rattle.value_texts.proofs.ValueList.{Counted, some-part, counted_none, counted-large, counted-broken, counted-more, counted-fits, counted-all}
-use borrow.Author.Rules.{rules}
-use lib.ListN.{length}
+use Rattle.value_texts.proofs.ValueList.{some-part, counted_none, counted-large, counted-broken, counted-more, counted-fits, counted-all}
 use Rattle.value_texts.proofs.measure_values.Goals as goal
 
 pub loop-i-init : goal.loop-i-init

@@ -1,7 +1,6 @@
 -- `value_texts::measure_values` meets its contract. Assumes nothing.
 use Prim.Native.Nat.{◌-◌}
-use Rattle.value_texts.proofs.ValueList.{Counted, some-part, counted_none, counted-large, counted-broken, counted-more, counted-fits, counted-all}
-use borrow.Author.Rules.{rules}
+use Rattle.value_texts.proofs.ValueList.{Counted}
 use lib.ListN.{length}
 use Rattle.value_texts.proofs.measure_values.Given as goal
 

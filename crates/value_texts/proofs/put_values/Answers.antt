@@ -1,10 +1,7 @@
 -- `value_texts::put_values` meets its contract. Assumes nothing.
-use Prim.Native.Nat.{◌-◌, ◌≤◌}
 use Rattle.value_texts.proofs.ValueList.{value_room, comma-room, values-step, values-start, values-done}
-use Rattle.format.specs.Block.{values_text}
-use Rattle.ground.proofs.Room.{Left, left-kept}
+use Rattle.ground.proofs.Room.{left-kept}
 use borrow.Author.Rules.{rules}
-use lib.ListN.{length, drop}
 use native.Mathlib.Omega.{arith}
 use Rattle.value_texts.proofs.put_values.Goals as goal
 

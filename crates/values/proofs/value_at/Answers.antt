@@ -1,6 +1,5 @@
 -- `values::value_at` meets its contract. Assumes nothing.
 use Rattle.values.proofs.Fields.{five-value, five-cut, cut-value, cut-whole}
-use borrow.Author.Rules.{rules}
 use Rattle.values.proofs.value_at.Goals as goal
 
 pub thousand-requires : goal.thousand-requires

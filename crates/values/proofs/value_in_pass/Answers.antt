@@ -1,6 +1,5 @@
 -- `values::value_in_pass` meets its contract. Assumes nothing.
 use Rattle.values.proofs.Fields.{taken_is, taken-small, taken-cut}
-use borrow.Author.Rules.{rules}
 use native.Mathlib.Omega.{arith}
 use Rattle.values.proofs.value_in_pass.Goals as goal
 

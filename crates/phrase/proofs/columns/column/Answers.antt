@@ -1,6 +1,5 @@
 -- `phrase::columns::column` meets its contract. Assumes nothing.
 use Rattle.phrase.proofs.Phrased.{column-none}
-use borrow.Author.Rules.{rules}
 use Rattle.phrase.proofs.columns.column.Goals as goal
 
 pub returns-then-to-at : goal.returns-then-to-at

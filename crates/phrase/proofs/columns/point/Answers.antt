@@ -1,6 +1,5 @@
 -- `phrase::columns::point` meets its contract. Assumes nothing.
 use Rattle.phrase.proofs.Phrased.{point-put}
-use borrow.Author.Rules.{rules}
 use Rattle.phrase.proofs.columns.point.Goals as goal
 
 pub returns : goal.returns

@@ -1,6 +1,5 @@
 -- `phrase::columns::spaces` meets its contract. Assumes nothing.
 use Rattle.phrase.proofs.Phrased.{spaces-put}
-use borrow.Author.Rules.{rules}
 use Rattle.phrase.proofs.columns.spaces.Goals as goal
 
 pub returns : goal.returns

@@ -1,7 +1,6 @@
 -- `phrase::counts::counted` meets its contract. Assumes nothing.
 use Rattle.phrase.proofs.Chained.{filled-four}
 use Rattle.phrase.specs.Phrases.{counted_text}
-use borrow.Author.Rules.{rules}
 use Rattle.phrase.proofs.counts.counted.Goals as goal
 
 pub returns : goal.returns

@@ -1,7 +1,6 @@
 -- `phrase::counts::plural` meets its contract. Assumes nothing.
 use Rattle.phrase.specs.Phrases.{plural_text}
 use Rattle.ground.proofs.Tests.{tests}
-use borrow.Author.Rules.{rules}
 use Rattle.phrase.proofs.counts.plural.Goals as goal
 
 pub returns-then-n-eq1 : goal.returns-then-n-eq1

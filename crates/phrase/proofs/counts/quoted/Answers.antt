@@ -1,7 +1,6 @@
 -- `phrase::counts::quoted` meets its contract. Assumes nothing.
 use Rattle.phrase.specs.Phrases.{quoted_text}
 use Rattle.page.proofs.Filling.{filled-then}
-use borrow.Author.Rules.{rules}
 use Rattle.phrase.proofs.counts.quoted.Goals as goal
 
 pub returns : goal.returns

@@ -1,7 +1,6 @@
 -- `phrase::times::clock` meets its contract. Assumes nothing.
 use Rattle.phrase.specs.Phrases.{clock_text}
 use Rattle.page.proofs.Filling.{filled-then}
-use borrow.Author.Rules.{rules}
 use Rattle.phrase.proofs.times.clock.Goals as goal
 
 pub returns : goal.returns

@@ -1,7 +1,6 @@
 -- `phrase::times::date` meets its contract. Assumes nothing.
 use Rattle.phrase.specs.Phrases.{date_text}
 use Rattle.page.proofs.Filling.{filled-then}
-use borrow.Author.Rules.{rules}
 use Rattle.phrase.proofs.times.date.Goals as goal
 
 pub returns : goal.returns

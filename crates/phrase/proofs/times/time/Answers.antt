@@ -1,7 +1,6 @@
 -- `phrase::times::time` meets its contract. Assumes nothing.
 use Rattle.phrase.specs.Phrases.{time_text}
 use Rattle.phrase.proofs.Chained.{filled-four}
-use borrow.Author.Rules.{rules}
 use Rattle.phrase.proofs.times.time.Goals as goal
 
 pub returns : goal.returns

@@ -1,7 +1,6 @@
 -- `phrase::times::two` meets its contract. Assumes nothing.
 use Rattle.phrase.specs.Phrases.{two_text}
 use Rattle.page.proofs.Filling.{filled-then}
-use borrow.Author.Rules.{rules}
 use Rattle.phrase.proofs.times.two.Goals as goal
 
 pub returns : goal.returns

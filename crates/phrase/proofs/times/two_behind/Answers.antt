@@ -1,7 +1,6 @@
 -- `phrase::times::two_behind` meets its contract. Assumes nothing.
 use Rattle.phrase.specs.Phrases.{two_behind}
 use Rattle.page.proofs.Filling.{filled-sign}
-use borrow.Author.Rules.{rules}
 use Rattle.phrase.proofs.times.two_behind.Goals as goal
 
 pub returns : goal.returns

@@ -1,7 +1,6 @@
 -- `phrase::times::zero` meets its contract. Assumes nothing.
 use Rattle.phrase.specs.Phrases.{zero_text}
 use Rattle.ground.proofs.Tests.{tests}
-use borrow.Author.Rules.{rules}
 use Rattle.phrase.proofs.times.zero.Goals as goal
 
 pub returns-then-n-lt10 : goal.returns-then-n-lt10

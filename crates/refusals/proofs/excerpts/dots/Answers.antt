@@ -1,6 +1,5 @@
 -- `refusals::excerpts::dots` meets its contract. Assumes nothing.
 use Rattle.refusals.proofs.Cutting.{dots-on, dots-off}
-use borrow.Author.Rules.{rules}
 use Rattle.refusals.proofs.excerpts.dots.Goals as goal
 
 pub returns-then-cut : goal.returns-then-cut

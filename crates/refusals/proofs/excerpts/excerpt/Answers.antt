@@ -1,6 +1,5 @@
 -- `refusals::excerpts::excerpt` meets its contract. Assumes nothing.
 use Rattle.refusals.proofs.Cutting.{excerpt-put}
-use borrow.Author.Rules.{rules}
 use Rattle.refusals.proofs.excerpts.excerpt.Goals as goal
 
 pub returns : goal.returns

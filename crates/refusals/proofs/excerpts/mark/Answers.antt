@@ -1,6 +1,5 @@
 -- `refusals::excerpts::mark` meets its contract. Assumes nothing.
 use Rattle.refusals.proofs.Cutting.{from-within, mark-put}
-use borrow.Author.Rules.{rules}
 use Rattle.refusals.proofs.excerpts.mark.Goals as goal
 
 pub overflow_sub-column : goal.overflow_sub-column

@@ -1,9 +1,6 @@
 -- `refusals::excerpts::put_shown` meets its contract. Assumes nothing.
-use Prim.Native.Nat.{◌-◌}
-use borrow.Author.Rules.{rules}
-use lib.ListN.{length}
-use Rattle.page.proofs.Listed.{Counted, counted_none, counted-all, counted-kept}
-use Rattle.refusals.specs.Excerpts.{shown_at, shown_text}
+use Rattle.page.proofs.Listed.{counted_none, counted-all, counted-kept}
+use Rattle.refusals.specs.Excerpts.{shown_text}
 use Rattle.refusals.proofs.Cutting.{shown-more}
 use Rattle.refusals.proofs.excerpts.put_shown.Goals as goal
 

@@ -1,7 +1,6 @@
 -- `refusals::excerpts::shown_from` meets its contract. Assumes nothing.
 use Rattle.refusals.specs.Excerpts.{shown_from}
 use Rattle.ground.proofs.Tests.{tests}
-use borrow.Author.Rules.{rules}
 use Rattle.refusals.proofs.excerpts.shown_from.Goals as goal
 
 pub returns-then-column-lt60 : goal.returns-then-column-lt60

@@ -2,7 +2,6 @@
 use Rattle.refusals.proofs.Cutting.{to-end-of}
 use Rattle.refusals.specs.Excerpts.{shown_to}
 use Rattle.ground.proofs.Tests.{tests}
-use borrow.Author.Rules.{rules}
 use Rattle.refusals.proofs.excerpts.shown_to.Goals as goal
 
 pub returns-then-length-from : goal.returns-then-length-from

@@ -1,6 +1,5 @@
 -- `refusals::hints::at_most` meets its contract. Assumes nothing.
 use Rattle.refusals.proofs.Hinting.{at-most-put}
-use borrow.Author.Rules.{rules}
 use Rattle.refusals.proofs.hints.at_most.Goals as goal
 
 pub returns : goal.returns

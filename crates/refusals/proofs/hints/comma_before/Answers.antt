@@ -1,7 +1,6 @@
 -- `refusals::hints::comma_before` meets its contract. Assumes nothing.
 use Rattle.ground.proofs.Tests.{tests}
 use Rattle.refusals.specs.Hints.{comma_before}
-use borrow.Author.Rules.{rules}
 use Rattle.refusals.proofs.hints.comma_before.Goals as goal
 
 pub returns-then-unit-eq0 : goal.returns-then-unit-eq0

@@ -1,6 +1,5 @@
 -- `refusals::hints::decimals` meets its contract. Assumes nothing.
 use Rattle.refusals.proofs.Hinting.{too-many-put}
-use borrow.Author.Rules.{rules}
 use Rattle.refusals.proofs.hints.decimals.Goals as goal
 
 pub returns : goal.returns

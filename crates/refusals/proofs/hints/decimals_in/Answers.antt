@@ -1,6 +1,5 @@
 -- `refusals::hints::decimals_in` meets its contract. Assumes nothing.
 use Rattle.refusals.proofs.Hinting.{behind-point, no-point}
-use borrow.Author.Rules.{rules}
 use Rattle.refusals.proofs.hints.decimals_in.Goals as goal
 
 pub returns-then-p-value : goal.returns-then-p-value

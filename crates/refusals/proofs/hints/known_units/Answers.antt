@@ -1,7 +1,6 @@
 -- `refusals::hints::known_units` meets its contract. Assumes nothing.
 use Rattle.page.proofs.Filling.{filled-then}
 use Rattle.refusals.specs.Hints.{known_units}
-use borrow.Author.Rules.{rules}
 use Rattle.refusals.proofs.hints.known_units.Goals as goal
 
 pub returns : goal.returns

@@ -1,7 +1,6 @@
 -- `refusals::hints::listed` meets its contract. Assumes nothing.
 use Rattle.page.proofs.Filling.{filled-then}
 use Rattle.refusals.specs.Hints.{listed}
-use borrow.Author.Rules.{rules}
 use Rattle.refusals.proofs.hints.listed.Goals as goal
 
 pub returns : goal.returns

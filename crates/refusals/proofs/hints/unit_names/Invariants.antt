@@ -1,11 +1,9 @@
 -- `refusals::hints::unit_names` meets its contract. Assumes nothing.
 use Prim.Native.Nat.{◌-◌}
-use borrow.Author.Rules.{rules}
 use lib.ListN.{length}
 use Rattle.format.specs.Units.{units}
-use Rattle.page.proofs.Listed.{Counted, counted_none, counted-kept}
+use Rattle.page.proofs.Listed.{Counted}
 use Rattle.refusals.specs.Hints.{listed}
-use Rattle.refusals.proofs.Hinting.{unit-fits, unit-less, names_more, names-all}
 use Rattle.refusals.proofs.hints.unit_names.Given as goal
 
 abbrev pub invariant-loop-page : goal.invariant-loop-page

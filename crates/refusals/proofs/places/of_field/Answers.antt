@@ -2,7 +2,6 @@
 use Rattle.refusals.specs.Places.{of_field}
 use Rattle.page.proofs.Filling.{filled-then}
 use Rattle.ground.proofs.Tests.{tests}
-use borrow.Author.Rules.{rules}
 use Rattle.refusals.proofs.places.of_field.Goals as goal
 
 pub returns-then-field-eq0 : goal.returns-then-field-eq0

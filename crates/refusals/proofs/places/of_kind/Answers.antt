@@ -2,7 +2,6 @@
 use Rattle.refusals.specs.Places.{of_kind}
 use Rattle.page.proofs.Filling.{filled-then}
 use Rattle.ground.proofs.Tests.{tests}
-use borrow.Author.Rules.{rules}
 use Rattle.refusals.proofs.places.of_kind.Goals as goal
 
 pub returns-then-kind-eq0 : goal.returns-then-kind-eq0

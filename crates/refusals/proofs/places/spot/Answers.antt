@@ -1,7 +1,6 @@
 -- `refusals::places::spot` meets its contract. Assumes nothing.
 use Rattle.refusals.specs.Places.{spot}
 use Rattle.phrase.proofs.Chained.{filled-four}
-use borrow.Author.Rules.{rules}
 use Rattle.refusals.proofs.places.spot.Goals as goal
 
 pub returns : goal.returns

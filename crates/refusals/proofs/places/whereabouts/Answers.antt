@@ -1,7 +1,6 @@
 -- `refusals::places::whereabouts` meets its contract. Assumes nothing.
 use Rattle.refusals.specs.Places.{whereabouts}
 use Rattle.page.proofs.Filling.{filled-then}
-use borrow.Author.Rules.{rules}
 use Rattle.refusals.proofs.places.whereabouts.Goals as goal
 
 pub returns : goal.returns

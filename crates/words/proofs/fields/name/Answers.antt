@@ -2,7 +2,6 @@
 use Rattle.words.proofs.Named.{name-as, name-300}
 use Rattle.words.specs.Names.{names_of, name_of}
 use Rattle.ground.proofs.Tests.{tests}
-use borrow.Author.Rules.{rules}
 use Rattle.words.proofs.fields.name.Goals as goal
 
 pub returns-in-100 : goal.returns-in-100

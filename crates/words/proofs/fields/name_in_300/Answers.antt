@@ -1,7 +1,6 @@
 -- `words::fields::name_in_300` meets its contract. Assumes nothing.
 use Rattle.words.specs.Names.{name_in300}
 use Rattle.ground.proofs.Tests.{tests}
-use borrow.Author.Rules.{rules}
 use Rattle.words.proofs.fields.name_in_300.Goals as goal
 
 pub returns-then-number-lt3 : goal.returns-then-number-lt3

@@ -1,6 +1,5 @@
 -- `words::fields::named` meets its contract. Assumes nothing.
 use Rattle.page.proofs.Filling.{filled-as}
-use borrow.Author.Rules.{rules}
 use Rattle.words.proofs.fields.named.Goals as goal
 
 pub returns : goal.returns

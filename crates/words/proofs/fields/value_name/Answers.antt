@@ -1,7 +1,6 @@
 -- `words::fields::value_name` meets its contract. Assumes nothing.
 use Rattle.words.specs.Names.{value_name}
 use Rattle.page.proofs.Filling.{filled-then}
-use borrow.Author.Rules.{rules}
 use Rattle.words.proofs.fields.value_name.Goals as goal
 
 pub returns : goal.returns

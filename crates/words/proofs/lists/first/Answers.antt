@@ -1,6 +1,5 @@
 -- `words::lists::first` meets its contract. Assumes nothing.
 use Rattle.words.proofs.Listed.{first-is}
-use borrow.Author.Rules.{rules}
 use Rattle.words.proofs.lists.first.Goals as goal
 
 pub returns : goal.returns

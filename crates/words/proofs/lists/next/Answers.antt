@@ -1,7 +1,6 @@
 -- `words::lists::next` meets its contract. Assumes nothing.
 use native.Mathlib.Omega.{arith}
 use Rattle.words.proofs.Listed.{next_more, next-none}
-use borrow.Author.Rules.{rules}
 use Rattle.words.proofs.lists.next.Goals as goal
 
 pub returns-then-n-list : goal.returns-then-n-list

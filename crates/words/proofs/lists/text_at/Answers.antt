@@ -1,7 +1,5 @@
 -- `words::lists::text_at_lem` meets its contract. Assumes nothing.
-use borrow.Author.Rules.{rules}
-use Prim.Native.Nat.{◌-◌}
-use Rattle.words.proofs.Listed.{Reached, reached-first, reached-next, reached-is}
+use Rattle.words.proofs.Listed.{reached-first, reached-next, reached-is}
 use Rattle.words.proofs.lists.text_at.Goals as goal
 
 pub loop-k-init : goal.loop-k-init

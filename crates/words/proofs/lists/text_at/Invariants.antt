@@ -1,7 +1,6 @@
 -- `words::lists::text_at_lem` meets its contract. Assumes nothing.
-use borrow.Author.Rules.{rules}
 use Prim.Native.Nat.{◌-◌}
-use Rattle.words.proofs.Listed.{Reached, reached-first, reached-next, reached-is}
+use Rattle.words.proofs.Listed.{Reached}
 use Rattle.words.proofs.lists.text_at.Given as goal
 
 abbrev pub invariant-loop-k : goal.invariant-loop-k

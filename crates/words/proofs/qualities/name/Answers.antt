@@ -2,7 +2,6 @@
 use Rattle.words.proofs.Named.{known}
 use Rattle.words.specs.Qualities.{quality_name}
 use Rattle.ground.proofs.Tests.{tests}
-use borrow.Author.Rules.{rules}
 use Rattle.words.proofs.qualities.name.Goals as goal
 
 pub returns-in-65 : goal.returns-in-65

@@ -1,7 +1,6 @@
 -- `words::refusals::meaning` meets its contract. Assumes nothing.
 use Rattle.words.specs.Meanings.{meaning_of}
 use Rattle.page.proofs.Filling.{filled-as}
-use borrow.Author.Rules.{rules}
 use Rattle.words.proofs.refusals.meaning.Goals as goal
 
 pub returns : goal.returns
