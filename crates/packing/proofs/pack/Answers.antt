@@ -1,29 +1,10 @@
 -- `packing::pack` meets its contract: the blocks before place p are packed (`Packing`), and every fact of a turn comes from one law (`turn`). Assumes nothing.
--- there are as many places as there were
--- what is known of a turn once its block is
 use mathlib.Core.Path.{◌≡◌}
 use Rattle.packing.proofs.Turns.{packing-none, as_many, packing-all, Turn, turn, even}
 use lib.ListN.{length}
 use native.Mathlib.Omega.{arith}
 use borrow.Author.Rules.{rules}
 use Rattle.packing.proofs.pack.Goals as goal
-
-many : (c : goal.At-loop-places) → length c.loop-places.places ≡ length c.args.places.now
-many c = search as_many
-
-here : (c : goal.After-wide-n)
-    → Turn
-    c.args.room.now
-    c.args.places.now
-    c.args.lengths.now
-    c.loop-places.room
-    c.loop-places.places
-    c.loop-places.p
-    c.loop-places.q
-    c.next_from-i.result
-    c.wide-o.result
-    c.wide-n.result
-here c = search turn
 
 pub loop-places-init : goal.loop-places-init
 loop-places-init c = search packing-none
@@ -35,27 +16,27 @@ pub returns-then-i-places : goal.returns-then-i-places
 returns-then-i-places c = search packing-all
 
 pub bounds-lengths-i : goal.bounds-lengths-i
-bounds-lengths-i c = omega (arith, many c.before.before.before.before.before.before)
+bounds-lengths-i c = omega (arith, (let m : length c.loop-places.places ≡ length c.args.places.now = search as_many in m))
 
 pub move_bytes-requires : goal.move_bytes-requires
-move_bytes-requires c = (here c.before).within
+move_bytes-requires c = (let u : Turn c.args.room.now c.args.places.now c.args.lengths.now c.loop-places.room c.loop-places.places c.loop-places.p c.loop-places.q c.next_from-i.result c.wide-o.result c.wide-n.result = search turn in u).within
 
 pub overflow_cast-places : goal.overflow_cast-places
 overflow_cast-places c =
-    let u = here c.before.before.before.before in
-    omega (arith, c.type_inv.places c.next_from-i.result)
+    let u : Turn c.args.room.now c.args.places.now c.args.lengths.now c.loop-places.room c.loop-places.places c.loop-places.p c.loop-places.q c.next_from-i.result c.wide-o.result c.wide-n.result = search turn in
+    omega (arith, c.wide-o.ensures.small)
 
 pub overflow_add-q : goal.overflow_add-q
-overflow_add-q c = let u = here c.before.before.before.before in omega arith
+overflow_add-q c = let u : Turn c.args.room.now c.args.places.now c.args.lengths.now c.loop-places.room c.loop-places.places c.loop-places.p c.loop-places.q c.next_from-i.result c.wide-o.result c.wide-n.result = search turn in omega arith
 
 pub overflow_add-p : goal.overflow_add-p
-overflow_add-p c = let u = here c.before.before.before.before in omega arith
+overflow_add-p c = let u : Turn c.args.room.now c.args.places.now c.args.lengths.now c.loop-places.room c.loop-places.places c.loop-places.p c.loop-places.q c.next_from-i.result c.wide-o.result c.wide-n.result = search turn in omega arith
 
 pub overflow_add-guess : goal.overflow_add-guess
-overflow_add-guess c = omega (arith, many c.before.before.before.before.before.before.before.before.before.before.before)
+overflow_add-guess c = omega (arith, (let m : length c.loop-places.places ≡ length c.args.places.now = search as_many in m))
 
 pub loop-places-smaller : goal.loop-places-smaller
-loop-places-smaller c = let u = here c.before.before.before.before in omega arith
+loop-places-smaller c = let u : Turn c.args.room.now c.args.places.now c.args.lengths.now c.loop-places.room c.loop-places.places c.loop-places.p c.loop-places.q c.next_from-i.result c.wide-o.result c.wide-n.result = search turn in omega arith
 
 pub loop-places-preserved : goal.loop-places-preserved
-loop-places-preserved c = (here c.before.before.before.before).more _ (search rules)
+loop-places-preserved c = (let u : Turn c.args.room.now c.args.places.now c.args.lengths.now c.loop-places.room c.loop-places.places c.loop-places.p c.loop-places.q c.next_from-i.result c.wide-o.result c.wide-n.result = search turn in u).more _ (search rules)
