@@ -1,0 +1,23 @@
+-- src/answers.rt:20:5
+-- src/answers.rt:21:42
+-- src/answers.rt:21:42
+-- src/answers.rt:21:9
+-- src/answers.rt:22:9
+-- src/answers.rt:20:5
+-- src/answers.rt:20:5
+-- src/answers.rt:15:1
+-- src/answers.rt:15:1
+use Rattle.answer_lines.proofs.Listed.{Listed, listed-none, listed_more, listed-all, listed_kept}
+use borrow.Author.Rules.{rules}
+use Prim.Native.Nat.{◌-◌}
+use lib.ListN.{length}
+use Rattle.answer_lines.proofs.numbers.numbers_behind.Reads as reads
+use Rattle.answer_lines.proofs.numbers.numbers_behind.Lts as lts
+use Rattle.answer_lines.proofs.numbers.number_behind.Reads as number-behind-reads
+use Rattle.answer_lines.proofs.numbers.numbers_behind.Given as goal
+
+abbrev pub invariant-loop-i : goal.invariant-loop-i
+invariant-loop-i l = Listed l.initial.page l.at l.sign l.list l.page l.p l.i
+
+abbrev pub decreases-loop-i : goal.decreases-loop-i
+decreases-loop-i l = length l.list - l.i
