@@ -1,8 +1,5 @@
 -- `classes::all_in` meets its contract. Assumes nothing.
-use Prim.Native.Nat.{◌-◌}
-use Rattle.ground.proofs.Lists.{Passed, passed_none, passed-more, passed-stops, passed-all}
-use Rattle.classes.specs.Classes.{in_class}
-use borrow.Author.Rules.{rules}
+use Rattle.ground.proofs.Lists.{passed_none, passed-more, passed-stops, passed-all}
 use Rattle.classes.proofs.all_in.Goals as goal
 
 ruleset laws = (passed_none, passed-more, passed-stops, passed-all)

@@ -1,8 +1,7 @@
 -- `classes::all_in` meets its contract. Assumes nothing.
 use Prim.Native.Nat.{◌-◌}
-use Rattle.ground.proofs.Lists.{Passed, passed_none, passed-more, passed-stops, passed-all}
+use Rattle.ground.proofs.Lists.{Passed}
 use Rattle.classes.specs.Classes.{in_class}
-use borrow.Author.Rules.{rules}
 use Rattle.classes.proofs.all_in.Given as goal
 
 abbrev pub invariant-loop-i : goal.invariant-loop-i

@@ -1,7 +1,6 @@
 -- `classes::are_all` meets its contract. Assumes nothing.
 use Rattle.format.specs.Bytes.{are_all}
 use Rattle.ground.proofs.Tests.{tests}
-use borrow.Author.Rules.{rules}
 use Rattle.classes.proofs.are_all.Goals as goal
 
 pub returns-then-n-least : goal.returns-then-n-least

@@ -1,6 +1,5 @@
 -- `classes::in_class` meets its contract. Assumes nothing.
 use Rattle.classes.proofs.Cases.{class-digit, class-capital, class-alnum, class-no-hash}
-use borrow.Author.Rules.{rules}
 use Rattle.classes.proofs.in_class.Goals as goal
 
 pub returns-in-Digit : goal.returns-in-Digit

@@ -1,6 +1,5 @@
 -- `classes::is_alnum` meets its contract. Assumes nothing.
 use Rattle.classes.proofs.Cases.{alnum-digit, alnum-letter}
-use borrow.Author.Rules.{rules}
 use Rattle.classes.proofs.is_alnum.Goals as goal
 
 pub returns-then-is_digit : goal.returns-then-is_digit

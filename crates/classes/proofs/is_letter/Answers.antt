@@ -1,6 +1,5 @@
 -- `classes::is_letter` meets its contract. Assumes nothing.
 use Rattle.classes.proofs.Cases.{letter-capital, letter-none, letter-last}
-use borrow.Author.Rules.{rules}
 use Rattle.classes.proofs.is_letter.Goals as goal
 
 pub returns-then-is_capital : goal.returns-then-is_capital

@@ -2,7 +2,6 @@
 use Rattle.date_rules.proofs.Cases.{minute-below}
 use Rattle.format.proofs.Numbers.{that-is, that-not, that-bad}
 use Rattle.format.specs.Dates.{created_of}
-use borrow.Author.Rules.{rules}
 use Rattle.date_rules.proofs.created.Goals as goal
 
 pub is_minute-requires : goal.is_minute-requires

@@ -1,7 +1,6 @@
 -- `date_rules::date` meets its contract. Assumes nothing.
 use Rattle.format.proofs.Numbers.{that-is, that-not, that-bad}
 use Rattle.format.specs.Dates.{date_of}
-use borrow.Author.Rules.{rules}
 use Rattle.date_rules.proofs.date.Goals as goal
 
 pub returns-then-is_date : goal.returns-then-is_date

@@ -1,6 +1,5 @@
 -- `date_rules::is_minute` meets its contract. Assumes nothing.
 use Rattle.format.specs.Dates.{is_minute}
-use borrow.Author.Rules.{rules}
 use Rattle.date_rules.proofs.is_minute.Goals as goal
 
 pub returns : goal.returns

@@ -1,7 +1,6 @@
 -- `date_rules::load_time` meets its contract. Assumes nothing.
 use Rattle.format.proofs.Numbers.{empty-is, empty-not}
 use Rattle.format.specs.Dates.{load_of}
-use borrow.Author.Rules.{rules}
 use Rattle.date_rules.proofs.load_time.Goals as goal
 
 pub returns-then-size-eq0 : goal.returns-then-size-eq0

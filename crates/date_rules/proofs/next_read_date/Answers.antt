@@ -1,7 +1,6 @@
 -- `date_rules::next_read_date` meets its contract. Assumes nothing.
 use Rattle.format.proofs.Numbers.{empty-is, empty-not}
 use Rattle.format.specs.Dates.{next_read_of}
-use borrow.Author.Rules.{rules}
 use Rattle.date_rules.proofs.next_read_date.Goals as goal
 
 pub returns-then-n-eq0 : goal.returns-then-n-eq0

@@ -1,7 +1,6 @@
 -- `date_rules::taken` meets its contract. Assumes nothing.
 use Rattle.format.proofs.Numbers.{that-is, that-not, that-bad}
 use Rattle.format.specs.Dates.{taken_of}
-use borrow.Author.Rules.{rules}
 use Rattle.date_rules.proofs.taken.Goals as goal
 
 pub returns-then-is_read_time : goal.returns-then-is_read_time

@@ -1,7 +1,6 @@
 -- `date_rules::time` meets its contract. Assumes nothing.
 use Rattle.format.proofs.Numbers.{that-is, that-not, that-bad}
 use Rattle.format.specs.Dates.{time_of}
-use borrow.Author.Rules.{rules}
 use Rattle.date_rules.proofs.time.Goals as goal
 
 pub returns-then-is_time : goal.returns-then-is_time

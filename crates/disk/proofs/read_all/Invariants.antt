@@ -13,10 +13,6 @@
 use mathlib.Core.Path.{◌≡◌}
 use Prim.Native.Nat.{◌-◌}
 use lib.ListN.{length}
-use borrow.Author.Rules.{rules}
-use Rattle.disk.proofs.read_all.Reads as reads
-use Rattle.disk.proofs.read_all.Lts as lts
-use Rattle.disk.proofs.read_behind.Reads as read-behind-reads
 use Rattle.disk.proofs.read_all.Given as goal
 
 abbrev pub invariant-loop-n : goal.invariant-loop-n

@@ -1,6 +1,5 @@
 -- `eights::comma_marks` meets its contract. Assumes nothing.
 use Rattle.eights.proofs.Words.{comma-first, comma-some}
-use Rattle.std.proofs.Common.{rules}
 use Rattle.eights.proofs.comma_marks.Goals as goal
 
 pub returns : goal.returns

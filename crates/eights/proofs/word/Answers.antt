@@ -1,5 +1,5 @@
 -- `eights::word` meets its contract. Assumes nothing.
-use Rattle.std.proofs.Common.{arith, rules}
+use Rattle.std.proofs.Common.{rules}
 use Rattle.eights.proofs.Words.{byte_fits, word-joined}
 use Rattle.eights.proofs.word.Goals as goal
 

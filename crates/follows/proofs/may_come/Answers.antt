@@ -1,6 +1,5 @@
 -- `follows::may_come` meets its contract. Assumes nothing.
 use Rattle.follows.proofs.Cases.{may}
-use borrow.Author.Rules.{rules}
 use Rattle.follows.proofs.may_come.Goals as goal
 
 pub returns-then-x-eq1 : goal.returns-then-x-eq1

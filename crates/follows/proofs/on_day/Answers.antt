@@ -1,5 +1,4 @@
 -- `follows::on_day` meets its contract. Assumes nothing.
-use borrow.Author.Rules.{rules}
 use native.Mathlib.Omega.{arith}
 use Rattle.follows.proofs.Cases.{not-midnight, not-given, not_after, at-midnight}
 use Rattle.follows.proofs.on_day.Goals as goal

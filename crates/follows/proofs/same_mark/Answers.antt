@@ -1,6 +1,5 @@
 -- `follows::same_mark` meets its contract. Assumes nothing.
 use Rattle.follows.proofs.Cases.{marks}
-use borrow.Author.Rules.{rules}
 use Rattle.follows.proofs.same_mark.Goals as goal
 
 pub returns-then-s-t : goal.returns-then-s-t

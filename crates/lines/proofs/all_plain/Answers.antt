@@ -1,9 +1,5 @@
 -- `lines::all_plain` meets its contract. Assumes nothing.
-use Prim.Native.Nat.{◌-◌}
-use Rattle.format.specs.Bytes.{plain}
-use Rattle.lines.proofs.Passes.{Held, passes}
-use borrow.Author.Rules.{rules}
-use lib.ListN.{length}
+use Rattle.lines.proofs.Passes.{passes}
 use Rattle.lines.proofs.all_plain.Goals as goal
 
 pub loop-i-init : goal.loop-i-init

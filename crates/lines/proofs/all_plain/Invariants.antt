@@ -1,8 +1,7 @@
 -- `lines::all_plain` meets its contract. Assumes nothing.
 use Prim.Native.Nat.{◌-◌}
 use Rattle.format.specs.Bytes.{plain}
-use Rattle.lines.proofs.Passes.{Held, passes}
-use borrow.Author.Rules.{rules}
+use Rattle.lines.proofs.Passes.{Held}
 use lib.ListN.{length}
 use Rattle.lines.proofs.all_plain.Given as goal
 

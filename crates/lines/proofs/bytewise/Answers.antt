@@ -1,9 +1,5 @@
 -- `lines::bytewise` meets its contract. Assumes nothing.
-use Prim.Native.Nat.{◌-◌}
 use Rattle.lines.proofs.Passes.{passes}
-use Rattle.lines.specs.Places.{Scanned}
-use borrow.Author.Rules.{rules}
-use lib.ListN.{length}
 use native.Mathlib.Omega.{arith}
 use Rattle.lines.proofs.bytewise.Goals as goal
 

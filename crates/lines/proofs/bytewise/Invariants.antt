@@ -1,10 +1,7 @@
 -- `lines::bytewise` meets its contract. Assumes nothing.
 use Prim.Native.Nat.{◌-◌}
-use Rattle.lines.proofs.Passes.{passes}
 use Rattle.lines.specs.Places.{Scanned}
-use borrow.Author.Rules.{rules}
 use lib.ListN.{length}
-use native.Mathlib.Omega.{arith}
 use Rattle.lines.proofs.bytewise.Given as goal
 
 abbrev pub invariant-loop-i : goal.invariant-loop-i

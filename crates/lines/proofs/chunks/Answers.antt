@@ -1,9 +1,5 @@
 -- `lines::chunks` meets its contract. Assumes nothing.
-use Prim.Native.Nat.{◌-◌}
 use Rattle.lines.proofs.Passes.{passes}
-use Rattle.lines.specs.Places.{Scanned}
-use borrow.Author.Rules.{rules}
-use lib.ListN.{length}
 use Rattle.lines.proofs.chunks.Goals as goal
 
 pub returns-then-not-all_plain : goal.returns-then-not-all_plain

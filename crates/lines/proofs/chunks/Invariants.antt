@@ -1,8 +1,6 @@
 -- `lines::chunks` meets its contract. Assumes nothing.
 use Prim.Native.Nat.{◌-◌}
-use Rattle.lines.proofs.Passes.{passes}
 use Rattle.lines.specs.Places.{Scanned}
-use borrow.Author.Rules.{rules}
 use lib.ListN.{length}
 use Rattle.lines.proofs.chunks.Given as goal
 

@@ -1,8 +1,5 @@
 -- `lines::commas_in` meets its contract. Assumes nothing.
-use Prim.Native.Nat.{◌-◌}
-use Rattle.lines.proofs.Passes.{Counted, passes}
-use borrow.Author.Rules.{rules}
-use lib.ListN.{length}
+use Rattle.lines.proofs.Passes.{passes}
 use native.Mathlib.Omega.{arith}
 use Rattle.lines.proofs.commas_in.Goals as goal
 

@@ -1,9 +1,7 @@
 -- `lines::commas_in` meets its contract. Assumes nothing.
 use Prim.Native.Nat.{◌-◌}
-use Rattle.lines.proofs.Passes.{Counted, passes}
-use borrow.Author.Rules.{rules}
+use Rattle.lines.proofs.Passes.{Counted}
 use lib.ListN.{length}
-use native.Mathlib.Omega.{arith}
 use Rattle.lines.proofs.commas_in.Given as goal
 
 abbrev pub invariant-loop-i : goal.invariant-loop-i

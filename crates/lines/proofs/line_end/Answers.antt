@@ -1,6 +1,5 @@
 -- `lines::line_end` meets its contract. Assumes nothing.
 use Rattle.lines.proofs.Ends.{line-ends}
-use borrow.Author.Rules.{rules}
 use Rattle.lines.proofs.line_end.Goals as goal
 
 pub returns : goal.returns

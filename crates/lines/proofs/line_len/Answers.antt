@@ -1,13 +1,9 @@
 -- `lines::line_len` meets its contract. Assumes nothing.
-use Prim.Native.Nat.{◌+◌, ◌≤◌, ◌-◌}
+use Prim.Native.Nat.{◌+◌}
 use Rattle.ground.proofs.Tests.{and-false}
 use Rattle.lines.proofs.Ends.{line_on, line-stop, line-out}
-use Rattle.lines.specs.Places.{line_len}
-use borrow.Author.Rules.{rules}
 use borrow.Author.Tests.{ne_eqb}
-use lib.ListN.{length, drop}
-use mathlib.Core.Logic.{⊎_elim}
-use mathlib.Core.Path.{◌≡◌, refl}
+use mathlib.Core.Path.{refl}
 use native.Mathlib.Omega.{arith}
 use Rattle.lines.proofs.line_len.Goals as goal
 use Rattle.lines.proofs.line_len.Goals.{then-s-i-eq13+else-s-i-eq10, else-s-i-eq13}

@@ -1,9 +1,5 @@
 -- `lines::no_cr` meets its contract. Assumes nothing.
-use Prim.Native.Nat.{◌-◌}
-use Rattle.ground.specs.Lists.{other}
-use Rattle.lines.proofs.Passes.{Held, passes}
-use borrow.Author.Rules.{rules}
-use lib.ListN.{length}
+use Rattle.lines.proofs.Passes.{passes}
 use Rattle.lines.proofs.no_cr.Goals as goal
 
 pub loop-i-init : goal.loop-i-init

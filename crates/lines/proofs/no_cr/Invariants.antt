@@ -1,8 +1,7 @@
 -- `lines::no_cr` meets its contract. Assumes nothing.
 use Prim.Native.Nat.{◌-◌}
 use Rattle.ground.specs.Lists.{other}
-use Rattle.lines.proofs.Passes.{Held, passes}
-use borrow.Author.Rules.{rules}
+use Rattle.lines.proofs.Passes.{Held}
 use lib.ListN.{length}
 use Rattle.lines.proofs.no_cr.Given as goal
 

@@ -1,6 +1,5 @@
 -- `lines::plain_span` meets its contract. Assumes nothing.
 use Rattle.lines.proofs.Passes.{passes}
-use borrow.Author.Rules.{rules}
 use native.Mathlib.Omega.{arith}
 use Rattle.lines.proofs.plain_span.Goals as goal
 

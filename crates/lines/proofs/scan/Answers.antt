@@ -1,6 +1,5 @@
 -- `lines::scan` meets its contract. Assumes nothing.
 use Rattle.lines.proofs.Ends.{looked}
-use borrow.Author.Rules.{rules}
 use Rattle.lines.proofs.scan.Goals as goal
 
 pub returns : goal.returns

@@ -1,10 +1,6 @@
 -- `lists::fill_usize` meets its contract. Assumes nothing.
-use Prim.Native.Nat.{◌≤◌, ◌-◌}
 use Rattle.lists.proofs.Laws.{cases}
-use borrow.Author.Rules.{rules}
-use lib.ListN.{length, length-set, replicate}
-use lib.Seq.{sets}
-use mathlib.Core.Path.{◌≡◌}
+use lib.ListN.{length-set}
 use native.Mathlib.Omega.{arith}
 use Rattle.lists.proofs.fill_usize.Goals as goal
 

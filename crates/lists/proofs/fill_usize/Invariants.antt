@@ -1,11 +1,8 @@
 -- `lists::fill_usize` meets its contract. Assumes nothing.
 use Prim.Native.Nat.{◌≤◌, ◌-◌}
-use Rattle.lists.proofs.Laws.{cases}
-use borrow.Author.Rules.{rules}
-use lib.ListN.{length, length-set, replicate}
+use lib.ListN.{length, replicate}
 use lib.Seq.{sets}
 use mathlib.Core.Path.{◌≡◌}
-use native.Mathlib.Omega.{arith}
 use Rattle.lists.proofs.fill_usize.Given as goal
 
 abbrev pub invariant-loop-i : goal.invariant-loop-i

@@ -1,8 +1,5 @@
 -- `lumps::no_less` meets its contract. Assumes nothing.
-use Prim.Native.Nat.{◌-◌}
-use Rattle.lumps.proofs.Lumps.{pairs, Held}
-use borrow.Author.Rules.{rules}
-use lib.ListN.{length}
+use Rattle.lumps.proofs.Lumps.{pairs}
 use Rattle.lumps.proofs.no_less.Goals as goal
 
 pub loop-i-init : goal.loop-i-init

@@ -1,7 +1,6 @@
 -- `lumps::no_less` meets its contract. Assumes nothing.
 use Prim.Native.Nat.{◌-◌}
-use Rattle.lumps.proofs.Lumps.{pairs, Held}
-use borrow.Author.Rules.{rules}
+use Rattle.lumps.proofs.Lumps.{Held}
 use lib.ListN.{length}
 use Rattle.lumps.proofs.no_less.Given as goal
 

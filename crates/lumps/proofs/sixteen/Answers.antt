@@ -1,7 +1,6 @@
 -- `lumps::sixteen` meets its contract. Assumes nothing.
 use Rattle.ground.proofs.Tests.{nowhere}
 use Rattle.lumps.proofs.Lumps.{alike}
-use borrow.Author.Rules.{rules}
 use Rattle.lumps.proofs.sixteen.Goals as goal
 
 pub returns-then-file-x-ne44 : goal.returns-then-file-x-ne44

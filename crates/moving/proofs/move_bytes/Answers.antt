@@ -1,6 +1,5 @@
 -- `moving::move_bytes` meets its contract: down, up, and where the bytes stay (`moved_same`). Each way is right by the test that led to it. Assumes nothing.
 use Rattle.moving.proofs.Moves.{moved_same}
-use borrow.Author.Rules.{rules}
 use Rattle.moving.proofs.move_bytes.Goals as goal
 
 pub returns-else-a-b : goal.returns-else-a-b

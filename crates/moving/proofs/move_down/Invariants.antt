@@ -1,9 +1,7 @@
 -- `moving::move_down` meets its contract: i bytes are moved, and moving what is left gives what moving all gives (`Down`). Each sum is inside by the contract and
 -- the loop's test. Assumes nothing.
 use Prim.Native.Nat.{◌-◌}
-use Rattle.moving.proofs.Moves.{Down, down-none, down-more, down-all}
-use native.Mathlib.Omega.{arith}
-use borrow.Author.Rules.{rules}
+use Rattle.moving.proofs.Moves.{Down}
 use Rattle.moving.proofs.move_down.Given as goal
 
 abbrev pub invariant-loop-i : goal.invariant-loop-i

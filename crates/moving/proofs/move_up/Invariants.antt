@@ -1,8 +1,6 @@
 -- `moving::move_up` meets its contract: i bytes are still to be moved, and moving them gives what moving all gives (`Up`). Each sum is inside by the contract and
 -- the loop's test. Assumes nothing.
-use Rattle.moving.proofs.Moves.{Up, up_none, up_more, up-all}
-use native.Mathlib.Omega.{arith}
-use borrow.Author.Rules.{rules}
+use Rattle.moving.proofs.Moves.{Up}
 use Rattle.moving.proofs.move_up.Given as goal
 
 abbrev pub invariant-loop-i : goal.invariant-loop-i

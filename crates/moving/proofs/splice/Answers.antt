@@ -1,7 +1,6 @@
 -- `moving::splice` meets its contract: the moved tail and the written block are one run of stores (`spliced-so`). Each stretch is inside by the contract. Assumes
 -- nothing.
 use Rattle.moving.proofs.Splices.{spliced-so}
-use borrow.Author.Rules.{rules}
 use Rattle.moving.proofs.splice.Goals as goal
 
 pub returns : goal.returns

@@ -1,7 +1,6 @@
 -- `number_rules::indicator` meets its contract. Assumes nothing.
 use Rattle.format.proofs.Numbers.{that-is, that-not, that-bad}
 use Rattle.format.specs.Records.{indicator_of}
-use borrow.Author.Rules.{rules}
 use Rattle.number_rules.proofs.indicator.Goals as goal
 
 pub returns-then-is_kind : goal.returns-then-is_kind

@@ -1,6 +1,5 @@
 -- `number_rules::interval` meets its contract. Assumes nothing.
 use Rattle.format.specs.Numbers.{interval_of}
-use borrow.Author.Rules.{rules}
 use Rattle.number_rules.proofs.interval.Goals as goal
 
 pub returns : goal.returns

@@ -1,7 +1,6 @@
 -- `number_rules::interval_length` meets its contract. Assumes nothing.
 use Rattle.format.proofs.Numbers.{that-is, that-not, that-bad}
 use Rattle.format.specs.Numbers.{length_of}
-use borrow.Author.Rules.{rules}
 use Rattle.number_rules.proofs.interval_length.Goals as goal
 
 pub returns-then-is_length : goal.returns-then-is_length

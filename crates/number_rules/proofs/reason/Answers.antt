@@ -1,7 +1,6 @@
 -- `number_rules::reason` meets its contract. Assumes nothing.
 use Rattle.format.proofs.Numbers.{empty-is, empty-not}
 use Rattle.format.specs.Numbers.{reason_of}
-use borrow.Author.Rules.{rules}
 use Rattle.number_rules.proofs.reason.Goals as goal
 
 pub returns-then-f-eq0 : goal.returns-then-f-eq0

@@ -1,6 +1,5 @@
 -- `quality_rules::across` meets its contract. Assumes nothing.
 use Rattle.quality_rules.proofs.Cases.{across-v, across-v-reason, across-zero, across-none, across-some}
-use borrow.Author.Rules.{rules}
 use Rattle.quality_rules.proofs.across.Goals as goal
 
 pub returns-then-reason-eq65535 : goal.returns-then-reason-eq65535

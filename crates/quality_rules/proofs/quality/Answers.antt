@@ -1,6 +1,5 @@
 -- `quality_rules::quality` meets its contract. Assumes nothing.
 use Rattle.format.proofs.Quality.{method-fits, quality-none, quality-alone, quality-long, quality-other, quality-is, quality-bad}
-use borrow.Author.Rules.{rules}
 use Rattle.quality_rules.proofs.quality.Goals as goal
 
 pub returns-then-n-eq0 : goal.returns-then-n-eq0

@@ -1,7 +1,6 @@
 -- `quick_dates::common_time` meets its contract. Assumes nothing.
 use Rattle.ground.proofs.Rows.{row}
 use Rattle.quick_dates.specs.Shapes.{is_common_time}
-use borrow.Author.Rules.{rules}
 use Rattle.quick_dates.proofs.common_time.Goals as goal
 
 pub returns-then-f-ne14 : goal.returns-then-f-ne14

@@ -1,7 +1,6 @@
 -- `quick_dates::ends_time` meets its contract. Assumes nothing.
 use Rattle.ground.proofs.Rows.{row}
 use Rattle.quick_dates.specs.Shapes.{ends_time}
-use borrow.Author.Rules.{rules}
 use Rattle.quick_dates.proofs.ends_time.Goals as goal
 
 pub returns-then-not-is_hour : goal.returns-then-not-is_hour

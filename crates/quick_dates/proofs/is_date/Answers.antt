@@ -1,7 +1,6 @@
 -- `quick_dates::is_date` meets its contract. Assumes nothing.
 use Rattle.quick_dates.proofs.CommonDates.{date-common, by-rule}
 use Rattle.ground.proofs.Rows.{told-holds}
-use borrow.Author.Rules.{rules}
 use mathlib.Core.Path.{sym}
 use Rattle.quick_dates.proofs.is_date.Goals as goal
 

@@ -2,7 +2,6 @@
 use Rattle.ground.proofs.Tests.{tests}
 use Rattle.ground.proofs.Rows.{row}
 use Rattle.quick_dates.specs.Shapes.{is_hour}
-use borrow.Author.Rules.{rules}
 use Rattle.quick_dates.proofs.is_hour.Goals as goal
 
 pub returns-then-not-is_digit : goal.returns-then-not-is_digit

@@ -1,7 +1,6 @@
 -- `quick_dates::is_sixtieth` meets its contract. Assumes nothing.
 use Rattle.ground.proofs.Tests.{tests}
 use Rattle.quick_dates.specs.Shapes.{is_sixtieth}
-use borrow.Author.Rules.{rules}
 use Rattle.quick_dates.proofs.is_sixtieth.Goals as goal
 
 pub returns-then-a-lt48 : goal.returns-then-a-lt48

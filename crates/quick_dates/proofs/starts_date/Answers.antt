@@ -1,7 +1,6 @@
 -- `quick_dates::starts_date` meets its contract. Assumes nothing.
 use Rattle.ground.proofs.Rows.{row}
 use Rattle.quick_dates.specs.Shapes.{starts_date}
-use borrow.Author.Rules.{rules}
 use Rattle.quick_dates.proofs.starts_date.Goals as goal
 
 pub returns-then-f-ne50 : goal.returns-then-f-ne50

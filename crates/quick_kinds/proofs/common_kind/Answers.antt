@@ -1,6 +1,5 @@
 -- `quick_kinds::common_kind` meets its contract. Assumes nothing.
 use Rattle.quick_kinds.proofs.Indicators.{kinds-known}
-use borrow.Author.Rules.{rules}
 use Rattle.quick_kinds.proofs.common_kind.Goals as goal
 
 pub returns-then-f-ne48 : goal.returns-then-f-ne48

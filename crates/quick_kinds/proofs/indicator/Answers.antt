@@ -1,6 +1,5 @@
 -- `quick_kinds::indicator` meets its contract. Assumes nothing.
 use Rattle.quick_kinds.proofs.Indicators.{kind-told}
-use borrow.Author.Rules.{rules}
 use Rattle.quick_kinds.proofs.indicator.Goals as goal
 
 pub returns-then-k-gt0 : goal.returns-then-k-gt0

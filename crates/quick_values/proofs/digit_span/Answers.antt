@@ -1,7 +1,5 @@
 -- `quick_values::digit_span` meets its contract. Assumes nothing.
-use Prim.Native.Nat.{◌-◌}
-use Rattle.quick_values.proofs.Spans.{Far, far_none, far-on, far-low, far-high, far-all}
-use borrow.Author.Rules.{rules}
+use Rattle.quick_values.proofs.Spans.{far_none, far-on, far-low, far-high, far-all}
 use Rattle.quick_values.proofs.digit_span.Goals as goal
 
 ruleset laws = (far_none, far-on, far-low, far-high, far-all)

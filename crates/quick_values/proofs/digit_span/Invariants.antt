@@ -1,7 +1,6 @@
 -- `quick_values::digit_span` meets its contract. Assumes nothing.
 use Prim.Native.Nat.{◌-◌}
-use Rattle.quick_values.proofs.Spans.{Far, far_none, far-on, far-low, far-high, far-all}
-use borrow.Author.Rules.{rules}
+use Rattle.quick_values.proofs.Spans.{Far}
 use Rattle.quick_values.proofs.digit_span.Given as goal
 
 abbrev pub invariant-loop-i : goal.invariant-loop-i

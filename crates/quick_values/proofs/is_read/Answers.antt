@@ -2,7 +2,6 @@
 use Rattle.format.specs.Numbers.{is_read}
 use Rattle.ground.proofs.Tests.{tests}
 use Rattle.quick_values.proofs.RegisterReads.{read_none, read-apart, read_all, read-point-last, read-fraction}
-use borrow.Author.Rules.{rules}
 use Rattle.quick_values.proofs.is_read.Goals as goal
 
 pub returns-then-n-gt15 : goal.returns-then-n-gt15

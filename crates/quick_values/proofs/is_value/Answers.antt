@@ -1,6 +1,5 @@
 -- `quick_values::is_value` meets its contract. Assumes nothing.
 use Rattle.format.proofs.Shapes.{value-no-digit, value-digits, value-all, value-apart, value-point-last, value-long, value-fraction}
-use borrow.Author.Rules.{rules}
 use Rattle.quick_values.proofs.is_value.Goals as goal
 
 pub returns-then-w-lt1 : goal.returns-then-w-lt1

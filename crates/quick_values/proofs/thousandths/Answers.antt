@@ -1,7 +1,6 @@
 -- `quick_values::thousandths` meets its contract. Assumes nothing.
 use Rattle.ground.proofs.Rows.{row}
 use Rattle.quick_values.specs.Shapes.{is_thousandths}
-use borrow.Author.Rules.{rules}
 use Rattle.quick_values.proofs.thousandths.Goals as goal
 
 pub returns-then-f-ne5 : goal.returns-then-f-ne5

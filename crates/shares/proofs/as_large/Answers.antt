@@ -1,10 +1,6 @@
 -- `shares::as_large` meets its contract. Assumes nothing.
-use native.Mathlib.Omega.{arith}
 use borrow.Author.Rules.{rules}
-use Prim.Native.Nat.{◌-◌}
-use lib.Dec.{leb}
-use mathlib.Core.Logic.{⊎_elim}
-use Rattle.shares.proofs.Loops.{Counted, counting}
+use Rattle.shares.proofs.Loops.{counting}
 use Rattle.shares.proofs.as_large.Goals as goal
 use Rattle.shares.proofs.as_large.Goals.{else-x-rs, then-x-rs}
 

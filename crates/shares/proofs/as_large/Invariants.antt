@@ -1,10 +1,7 @@
 -- `shares::as_large` meets its contract. Assumes nothing.
-use native.Mathlib.Omega.{arith}
-use borrow.Author.Rules.{rules}
 use Prim.Native.Nat.{◌-◌}
 use lib.Dec.{leb}
-use mathlib.Core.Logic.{⊎_elim}
-use Rattle.shares.proofs.Loops.{Counted, counting}
+use Rattle.shares.proofs.Loops.{Counted}
 use Rattle.shares.proofs.as_large.Given as goal
 
 abbrev pub invariant-loop-i : goal.invariant-loop-i

@@ -1,13 +1,9 @@
 -- `shares::before` meets its contract. Assumes nothing.
 use Prim.Native.Nat.{◌≤◌, ◌+◌, ◌-◌}
 use lib.ListN.{length, drop, length-take, length-drop}
-use lib.ListN.{length, length-take, length-drop}
-use Prim.Native.Nat.{◌≤◌, ◌+◌}
-use lib.ListN.{length}
 use Rattle.ground.proofs.Lists.{part-long}
 use Rattle.shares.proofs.Loops.{before-is}
 use native.Mathlib.Omega.{arith}
-use borrow.Author.Rules.{rules}
 use Rattle.shares.proofs.before.Goals as goal
 
 pub slice_bounds-lower-end : goal.slice_bounds-lower-end

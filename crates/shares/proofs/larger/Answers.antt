@@ -1,10 +1,6 @@
 -- `shares::larger` meets its contract. Assumes nothing.
-use native.Mathlib.Omega.{arith}
 use borrow.Author.Rules.{rules}
-use Prim.Native.Nat.{◌-◌}
-use lib.Dec.{ltb}
-use mathlib.Core.Logic.{⊎_elim}
-use Rattle.shares.proofs.Loops.{Counted, counting}
+use Rattle.shares.proofs.Loops.{counting}
 use Rattle.shares.proofs.larger.Goals as goal
 use Rattle.shares.proofs.larger.Goals.{else-x-rs, then-x-rs}
 

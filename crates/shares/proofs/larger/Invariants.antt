@@ -1,10 +1,7 @@
 -- `shares::larger` meets its contract. Assumes nothing.
-use native.Mathlib.Omega.{arith}
-use borrow.Author.Rules.{rules}
 use Prim.Native.Nat.{◌-◌}
 use lib.Dec.{ltb}
-use mathlib.Core.Logic.{⊎_elim}
-use Rattle.shares.proofs.Loops.{Counted, counting}
+use Rattle.shares.proofs.Loops.{Counted}
 use Rattle.shares.proofs.larger.Given as goal
 
 abbrev pub invariant-loop-i : goal.invariant-loop-i

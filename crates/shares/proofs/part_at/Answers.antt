@@ -1,7 +1,6 @@
 -- `shares::part_at` meets its contract. Assumes nothing.
-use Rattle.shares.proofs.Loops.{product-fits, part-fits, rests-long, rests-few, part-more, part-down, part-whole}
+use Rattle.shares.proofs.Loops.{part-fits, rests-long, rests-few, part-more, part-down, part-whole}
 use native.Mathlib.Omega.{arith}
-use borrow.Author.Rules.{rules}
 use Rattle.shares.proofs.part_at.Goals as goal
 
 pub bounds-rs-i : goal.bounds-rs-i

@@ -1,7 +1,5 @@
 -- `shares::put_parts` meets its contract. Assumes nothing.
-use borrow.Author.Rules.{rules}
-use Prim.Native.Nat.{◌-◌}
-use Rattle.shares.proofs.Loops.{Parting, parting}
+use Rattle.shares.proofs.Loops.{parting}
 use Rattle.shares.proofs.put_parts.Goals as goal
 
 pub loop-i-init : goal.loop-i-init

@@ -1,7 +1,6 @@
 -- `shares::put_parts` meets its contract. Assumes nothing.
-use borrow.Author.Rules.{rules}
 use Prim.Native.Nat.{◌-◌}
-use Rattle.shares.proofs.Loops.{Parting, parting}
+use Rattle.shares.proofs.Loops.{Parting}
 use Rattle.shares.proofs.put_parts.Given as goal
 
 abbrev pub invariant-loop-i : goal.invariant-loop-i

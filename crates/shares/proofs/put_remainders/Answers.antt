@@ -1,8 +1,5 @@
 -- `shares::put_remainders` meets its contract. Assumes nothing.
-use native.Mathlib.Omega.{arith}
-use borrow.Author.Rules.{rules}
-use Prim.Native.Nat.{◌-◌}
-use Rattle.shares.proofs.Loops.{Resting, resting, resting-room, product-fits}
+use Rattle.shares.proofs.Loops.{resting, resting-room}
 use Rattle.shares.proofs.put_remainders.Goals as goal
 
 pub loop-i-init : goal.loop-i-init

@@ -1,8 +1,6 @@
 -- `shares::put_remainders` meets its contract. Assumes nothing.
-use native.Mathlib.Omega.{arith}
-use borrow.Author.Rules.{rules}
 use Prim.Native.Nat.{◌-◌}
-use Rattle.shares.proofs.Loops.{Resting, resting, resting-room, product-fits}
+use Rattle.shares.proofs.Loops.{Resting}
 use Rattle.shares.proofs.put_remainders.Given as goal
 
 abbrev pub invariant-loop-i : goal.invariant-loop-i

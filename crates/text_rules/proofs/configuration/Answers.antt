@@ -1,6 +1,5 @@
 -- `text_rules::configuration` meets its contract. Assumes nothing.
 use Rattle.format.specs.Texts.{is_configuration}
-use borrow.Author.Rules.{rules}
 use Rattle.text_rules.proofs.configuration.Goals as goal
 
 pub returns : goal.returns

@@ -1,7 +1,6 @@
 -- `text_rules::data_stream` meets its contract. Assumes nothing.
 use Rattle.format.specs.Texts.{is_stream}
 use Rattle.ground.proofs.Tests.{tests}
-use borrow.Author.Rules.{rules}
 use Rattle.text_rules.proofs.data_stream.Goals as goal
 
 pub returns-then-f-eq0 : goal.returns-then-f-eq0

@@ -1,6 +1,5 @@
 -- `text_rules::description` meets its contract. Assumes nothing.
 use Rattle.format.specs.Texts.{is_description}
-use borrow.Author.Rules.{rules}
 use Rattle.text_rules.proofs.description.Goals as goal
 
 pub returns : goal.returns

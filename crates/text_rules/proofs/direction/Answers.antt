@@ -1,6 +1,5 @@
 -- `text_rules::direction` meets its contract. Assumes nothing.
 use Rattle.text_rules.proofs.Cases.{direction-import, direction-export}
-use borrow.Author.Rules.{rules}
 use Rattle.text_rules.proofs.direction.Goals as goal
 
 pub returns-then-same_bytes : goal.returns-then-same_bytes

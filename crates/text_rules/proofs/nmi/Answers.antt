@@ -1,6 +1,5 @@
 -- `text_rules::nmi` meets its contract. Assumes nothing.
 use Rattle.format.specs.Texts.{is_nmi}
-use borrow.Author.Rules.{rules}
 use Rattle.text_rules.proofs.nmi.Goals as goal
 
 pub returns : goal.returns

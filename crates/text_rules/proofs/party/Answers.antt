@@ -1,6 +1,5 @@
 -- `text_rules::party` meets its contract. Assumes nothing.
 use Rattle.text_rules.proofs.Cases.{party-is, party-not}
-use borrow.Author.Rules.{rules}
 use Rattle.text_rules.proofs.party.Goals as goal
 
 pub returns-then-text : goal.returns-then-text

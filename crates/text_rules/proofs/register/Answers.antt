@@ -1,6 +1,5 @@
 -- `text_rules::register` meets its contract. Assumes nothing.
 use Rattle.format.specs.Texts.{is_register}
-use borrow.Author.Rules.{rules}
 use Rattle.text_rules.proofs.register.Goals as goal
 
 pub returns : goal.returns

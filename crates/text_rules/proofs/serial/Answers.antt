@@ -1,6 +1,5 @@
 -- `text_rules::serial` meets its contract. Assumes nothing.
 use Rattle.format.specs.Texts.{is_serial}
-use borrow.Author.Rules.{rules}
 use Rattle.text_rules.proofs.serial.Goals as goal
 
 pub returns : goal.returns

@@ -1,6 +1,5 @@
 -- `text_rules::service_order` meets its contract. Assumes nothing.
 use Rattle.format.specs.Texts.{is_service_order}
-use borrow.Author.Rules.{rules}
 use Rattle.text_rules.proofs.service_order.Goals as goal
 
 pub returns : goal.returns

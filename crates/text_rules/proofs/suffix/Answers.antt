@@ -1,6 +1,5 @@
 -- `text_rules::suffix` meets its contract. Assumes nothing.
 use Rattle.format.specs.Texts.{is_suffix}
-use borrow.Author.Rules.{rules}
 use Rattle.text_rules.proofs.suffix.Goals as goal
 
 pub returns : goal.returns

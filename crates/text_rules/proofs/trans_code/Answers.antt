@@ -1,6 +1,5 @@
 -- `text_rules::trans_code` meets its contract. Assumes nothing.
 use Rattle.format.specs.Texts.{is_trans_code}
-use borrow.Author.Rules.{rules}
 use Rattle.text_rules.proofs.trans_code.Goals as goal
 
 pub returns : goal.returns

@@ -1,6 +1,5 @@
 -- `text_rules::version` meets its contract. Assumes nothing.
 use Rattle.text_rules.proofs.Cases.{version-12, version-13, version-none}
-use borrow.Author.Rules.{rules}
 use Rattle.text_rules.proofs.version.Goals as goal
 
 pub returns-then-same_bytes : goal.returns-then-same_bytes

@@ -1,7 +1,6 @@
 -- `units::capital` meets its contract. Assumes nothing.
 use Rattle.format.specs.Bytes.{capital}
 use Rattle.ground.proofs.Tests.{tests}
-use borrow.Author.Rules.{rules}
 use Rattle.units.proofs.capital.Goals as goal
 
 pub returns-then-b-lt97 : goal.returns-then-b-lt97

@@ -1,5 +1,4 @@
 -- `units::cell` meets its contract. Assumes nothing.
-use borrow.Author.Rules.{rules}
 use Rattle.units.proofs.cell.Goals as goal
 
 pub returns : goal.returns

@@ -1,7 +1,5 @@
 -- `units::is_named` meets its contract. Assumes nothing.
-use Prim.Native.Nat.{◌-◌}
-use Rattle.units.proofs.Names.{Spelt, named-not, named_none, named_more, named-stops, named-all}
-use borrow.Author.Rules.{rules}
+use Rattle.units.proofs.Names.{named-not, named_none, named_more, named-stops, named-all}
 use Rattle.units.proofs.is_named.Goals as goal
 
 ruleset laws = (named-not, named_none, named_more, named-stops, named-all)

@@ -1,7 +1,6 @@
 -- `units::is_named` meets its contract. Assumes nothing.
 use Prim.Native.Nat.{◌-◌}
-use Rattle.units.proofs.Names.{Spelt, named-not, named_none, named_more, named-stops, named-all}
-use borrow.Author.Rules.{rules}
+use Rattle.units.proofs.Names.{Spelt}
 use Rattle.units.proofs.is_named.Given as goal
 
 abbrev pub invariant-loop-i : goal.invariant-loop-i

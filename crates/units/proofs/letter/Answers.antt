@@ -1,6 +1,5 @@
 -- `units::letter` meets its contract. Assumes nothing.
 use Rattle.units.proofs.Cells.{name-at}
-use borrow.Author.Rules.{rules}
 use Rattle.units.proofs.letter.Goals as goal
 
 pub returns : goal.returns

@@ -1,6 +1,5 @@
 -- `units::name_len` meets its contract. Assumes nothing.
 use Rattle.units.proofs.Cells.{length_at, length-few}
-use borrow.Author.Rules.{rules}
 use Rattle.units.proofs.name_len.Goals as goal
 
 pub returns : goal.returns

@@ -1,7 +1,5 @@
 -- `units::number` meets its contract. Assumes nothing.
-use Prim.Native.Nat.{◌-◌}
-use Rattle.units.proofs.Names.{Tried, tried-none, tried-found, tried-more, tried-all}
-use borrow.Author.Rules.{rules}
+use Rattle.units.proofs.Names.{tried-none, tried-found, tried-more, tried-all}
 use Rattle.units.proofs.number.Goals as goal
 
 ruleset laws = (tried-none, tried-found, tried-more, tried-all)

@@ -1,7 +1,6 @@
 -- `units::number` meets its contract. Assumes nothing.
 use Prim.Native.Nat.{◌-◌}
-use Rattle.units.proofs.Names.{Tried, tried-none, tried-found, tried-more, tried-all}
-use borrow.Author.Rules.{rules}
+use Rattle.units.proofs.Names.{Tried}
 use Rattle.units.proofs.number.Given as goal
 
 abbrev pub invariant-loop-u : goal.invariant-loop-u

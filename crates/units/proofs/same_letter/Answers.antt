@@ -1,5 +1,4 @@
 -- `units::same_letter` meets its contract. Assumes nothing.
-use borrow.Author.Rules.{rules}
 use Rattle.units.proofs.same_letter.Goals as goal
 
 pub returns : goal.returns

@@ -1,7 +1,6 @@
 -- `value_rules::are_digits` meets its contract. Assumes nothing.
 use Rattle.format.specs.Numbers.{are_digits}
 use Rattle.ground.proofs.Tests.{tests}
-use borrow.Author.Rules.{rules}
 use Rattle.value_rules.proofs.are_digits.Goals as goal
 
 pub returns-then-f-lt1 : goal.returns-then-f-lt1

@@ -1,6 +1,5 @@
 -- `value_rules::fraction` meets its contract. Assumes nothing.
 use Rattle.format.proofs.Numbers.{fraction-fits, fraction-is, fraction-bad}
-use borrow.Author.Rules.{rules}
 use Rattle.value_rules.proofs.fraction.Goals as goal
 
 pub overflow_mul-result : goal.overflow_mul-result

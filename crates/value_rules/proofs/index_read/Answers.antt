@@ -1,7 +1,6 @@
 -- `value_rules::index_read` meets its contract. Assumes nothing.
 use Rattle.format.specs.Numbers.{is_index_read}
 use Rattle.ground.proofs.Tests.{tests}
-use borrow.Author.Rules.{rules}
 use Rattle.value_rules.proofs.index_read.Goals as goal
 
 pub returns-then-n-eq0 : goal.returns-then-n-eq0

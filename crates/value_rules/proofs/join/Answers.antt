@@ -1,6 +1,5 @@
 -- `value_rules::join` meets its contract. Assumes nothing.
 use Rattle.format.proofs.Numbers.{join-fits, join-fits-both, join_is}
-use borrow.Author.Rules.{rules}
 use Rattle.value_rules.proofs.join.Goals as goal
 
 pub overflow_mul-result : goal.overflow_mul-result

@@ -2,7 +2,6 @@
 use Rattle.format.proofs.Numbers.{read_whole, read-split, read-bad}
 use Rattle.format.specs.Numbers.{is_read}
 use Rattle.ground.proofs.Tests.{tests}
-use borrow.Author.Rules.{rules}
 use lib.ListN.{length-take}
 use native.Mathlib.Omega.{arith}
 use Rattle.value_rules.proofs.register_read.Goals as goal

@@ -1,6 +1,5 @@
 -- `value_rules::value` meets its contract. Assumes nothing.
 use Rattle.format.proofs.Numbers.{value-whole, value-split, number-under, fraction-under}
-use borrow.Author.Rules.{rules}
 use lib.ListN.{length-take}
 use native.Mathlib.Omega.{arith}
 use Rattle.value_rules.proofs.value.Goals as goal

@@ -3,7 +3,6 @@ use Prim.Native.Nat.{◌+◌, ◌≤◌}
 use mathlib.Core.Path.{refl}
 use native.Mathlib.Omega.{arith}
 use lib.ListN.{length}
-use borrow.Author.Rules.{rules}
 use Rattle.lines.proofs.Ends.{line-room}
 use Rattle.walker.proofs.Handed.{none-behind, none_here, one-here}
 use Rattle.walker.proofs.found_at.Goals as goal

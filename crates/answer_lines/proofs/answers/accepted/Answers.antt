@@ -4,11 +4,6 @@
 -- src/answers.rt:15:1
 -- src/answers.rt:15:1
 use Rattle.answer_lines.proofs.Answered.{line-accepted}
-use borrow.Author.Rules.{rules}
-use Rattle.answer_lines.proofs.answers.accepted.Reads as reads
-use Rattle.answer_lines.proofs.answers.accepted.Lts as lts
-use Rattle.answer_lines.proofs.numbers.numbers_behind.Reads as numbers-behind-reads
-use Rattle.page.proofs.texts.put.Reads as put_reads
 use Rattle.answer_lines.proofs.answers.accepted.Goals as goal
 
 pub returns : goal.returns

@@ -1,7 +1,6 @@
 -- `answer_lines::answers::block_checked` meets its contract. Assumes nothing.
 use Rattle.format.specs.Answers.{block_checked_as}
 use Rattle.answer_lines.proofs.Answered.{line-is}
-use borrow.Author.Rules.{rules}
 use Rattle.answer_lines.proofs.answers.block_checked.Goals as goal
 
 pub returns-in-Accepted : goal.returns-in-Accepted

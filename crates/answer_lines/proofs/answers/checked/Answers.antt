@@ -9,11 +9,6 @@
 -- src/answers.rt:42:1
 use Rattle.format.specs.Answers.{checked_as}
 use Rattle.answer_lines.proofs.Answered.{line-is}
-use borrow.Author.Rules.{rules}
-use Rattle.answer_lines.proofs.answers.checked.Reads as reads
-use Rattle.answer_lines.proofs.answers.checked.Lts as lts
-use Rattle.answer_lines.proofs.answers.accepted.Reads as accepted-reads
-use Rattle.answer_lines.proofs.answers.refusal.Reads as refusal-reads
 use Rattle.answer_lines.proofs.answers.checked.Goals as goal
 
 pub returns-in-Accepted : goal.returns-in-Accepted

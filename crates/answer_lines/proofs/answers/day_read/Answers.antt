@@ -1,7 +1,6 @@
 -- `answer_lines::answers::day_read` meets its contract. Assumes nothing.
 use Rattle.format.specs.Answers.{day_read_as}
 use Rattle.answer_lines.proofs.Answered.{line-is}
-use borrow.Author.Rules.{rules}
 use Rattle.answer_lines.proofs.answers.day_read.Goals as goal
 
 pub returns-in-Read : goal.returns-in-Read

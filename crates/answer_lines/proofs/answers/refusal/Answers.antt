@@ -5,11 +5,6 @@
 -- src/answers.rt:22:1
 -- src/answers.rt:22:1
 use Rattle.answer_lines.proofs.Answered.{line_refused}
-use borrow.Author.Rules.{rules}
-use Rattle.answer_lines.proofs.answers.refusal.Reads as reads
-use Rattle.answer_lines.proofs.answers.refusal.Lts as lts
-use Rattle.answer_lines.proofs.numbers.numbers_behind.Reads as numbers-behind-reads
-use Rattle.page.proofs.texts.put.Reads as put_reads
 use Rattle.answer_lines.proofs.answers.refusal.Goals as goal
 
 pub returns : goal.returns

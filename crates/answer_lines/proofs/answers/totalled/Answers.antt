@@ -9,11 +9,6 @@
 -- src/answers.rt:69:1
 use Rattle.format.specs.Answers.{totalled_as}
 use Rattle.answer_lines.proofs.Answered.{line-is}
-use borrow.Author.Rules.{rules}
-use Rattle.answer_lines.proofs.answers.totalled.Reads as reads
-use Rattle.answer_lines.proofs.answers.totalled.Lts as lts
-use Rattle.answer_lines.proofs.answers.accepted.Reads as accepted-reads
-use Rattle.answer_lines.proofs.answers.refusal.Reads as refusal-reads
 use Rattle.answer_lines.proofs.answers.totalled.Goals as goal
 
 pub returns-in-Total : goal.returns-in-Total

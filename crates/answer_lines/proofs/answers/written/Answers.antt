@@ -9,11 +9,6 @@
 -- src/answers.rt:78:1
 use Rattle.format.specs.Answers.{written_as}
 use Rattle.answer_lines.proofs.Answered.{line-is}
-use borrow.Author.Rules.{rules}
-use Rattle.answer_lines.proofs.answers.written.Reads as reads
-use Rattle.answer_lines.proofs.answers.written.Lts as lts
-use Rattle.answer_lines.proofs.answers.accepted.Reads as accepted-reads
-use Rattle.answer_lines.proofs.answers.refusal.Reads as refusal-reads
 use Rattle.answer_lines.proofs.answers.written.Goals as goal
 
 pub returns-in-Block : goal.returns-in-Block

@@ -5,13 +5,9 @@
 -- src/days.rt:87:5
 -- src/days.rt:72:1
 -- src/days.rt:72:1
-use borrow.Author.Rules.{rules}
 use Prim.Native.Nat.{◌-◌}
 use Rattle.answer_lines.specs.Lines.{interval_in}
-use Rattle.page.proofs.Listed.{Counted, counted_none, counted-more, counted-all, counted-kept}
-use Rattle.answer_lines.proofs.days.intervals.Reads as reads
-use Rattle.answer_lines.proofs.days.intervals.Lts as lts
-use Rattle.answer_lines.proofs.days.interval.Reads as interval-reads
+use Rattle.page.proofs.Listed.{Counted}
 use Rattle.answer_lines.proofs.days.intervals.Given as goal
 
 abbrev pub invariant-loop-i : goal.invariant-loop-i

@@ -7,13 +7,7 @@
 -- src/answers.rt:20:5
 -- src/answers.rt:15:1
 -- src/answers.rt:15:1
-use Rattle.answer_lines.proofs.Listed.{Listed, listed-none, listed_more, listed-all, listed_kept}
-use borrow.Author.Rules.{rules}
-use Prim.Native.Nat.{◌-◌}
-use lib.ListN.{length}
-use Rattle.answer_lines.proofs.numbers.numbers_behind.Reads as reads
-use Rattle.answer_lines.proofs.numbers.numbers_behind.Lts as lts
-use Rattle.answer_lines.proofs.numbers.number_behind.Reads as number-behind-reads
+use Rattle.answer_lines.proofs.Listed.{listed-none, listed_more, listed-all, listed_kept}
 use Rattle.answer_lines.proofs.numbers.numbers_behind.Goals as goal
 
 pub loop-i-init : goal.loop-i-init

@@ -7,13 +7,9 @@
 -- src/answers.rt:20:5
 -- src/answers.rt:15:1
 -- src/answers.rt:15:1
-use Rattle.answer_lines.proofs.Listed.{Listed, listed-none, listed_more, listed-all, listed_kept}
-use borrow.Author.Rules.{rules}
+use Rattle.answer_lines.proofs.Listed.{Listed}
 use Prim.Native.Nat.{◌-◌}
 use lib.ListN.{length}
-use Rattle.answer_lines.proofs.numbers.numbers_behind.Reads as reads
-use Rattle.answer_lines.proofs.numbers.numbers_behind.Lts as lts
-use Rattle.answer_lines.proofs.numbers.number_behind.Reads as number-behind-reads
 use Rattle.answer_lines.proofs.numbers.numbers_behind.Given as goal
 
 abbrev pub invariant-loop-i : goal.invariant-loop-i

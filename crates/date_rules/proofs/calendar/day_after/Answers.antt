@@ -1,6 +1,5 @@
 -- `date_rules::calendar::day_after` meets its contract. Assumes nothing.
 use Rattle.format.proofs.Dates.{after-day, after-month, after-year}
-use borrow.Author.Rules.{rules}
 use native.Mathlib.Omega.{arith}
 use Rattle.date_rules.proofs.calendar.day_after.Goals as goal
 

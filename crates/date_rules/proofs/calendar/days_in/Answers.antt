@@ -2,7 +2,6 @@
 use Rattle.format.proofs.Dates.{days-leap, days-short}
 use Rattle.format.specs.Dates.{days_in_month}
 use Rattle.ground.proofs.Tests.{tests}
-use borrow.Author.Rules.{rules}
 use Rattle.date_rules.proofs.calendar.days_in.Goals as goal
 
 pub returns-then-is_leap : goal.returns-then-is_leap

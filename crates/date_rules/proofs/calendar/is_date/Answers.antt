@@ -2,7 +2,6 @@
 use Rattle.format.proofs.Dates.{day-is, day-end}
 use Rattle.format.specs.Dates.{is_date}
 use Rattle.ground.proofs.Tests.{refuted}
-use borrow.Author.Rules.{rules}
 use native.Mathlib.Omega.{arith}
 use Rattle.date_rules.proofs.calendar.is_date.Goals as goal
 

@@ -1,5 +1,4 @@
 -- `date_rules::calendar::is_read_time` meets its contract. Assumes nothing.
-use borrow.Author.Rules.{rules}
 use Rattle.date_rules.proofs.Cases.{taken-time, taken-last}
 use Rattle.date_rules.proofs.calendar.is_read_time.Goals as goal
 

@@ -1,7 +1,6 @@
 -- `date_rules::calendar::is_time` meets its contract. Assumes nothing.
 use Rattle.format.proofs.Dates.{clock-is, clock-end}
 use Rattle.ground.proofs.Tests.{refuted}
-use borrow.Author.Rules.{rules}
 use native.Mathlib.Omega.{arith}
 use Rattle.date_rules.proofs.calendar.is_time.Goals as goal
 

@@ -1,6 +1,5 @@
 -- `field_texts::marks::put_load` meets its contract. Assumes nothing.
 use Rattle.field_texts.proofs.Texts.{load-room, put-no-load, put-some-load}
-use borrow.Author.Rules.{rules}
 use Rattle.field_texts.proofs.marks.put_load.Goals as goal
 
 pub returns-then-time-eq0 : goal.returns-then-time-eq0

@@ -1,6 +1,5 @@
 -- `field_texts::marks::put_quality` meets its contract. Assumes nothing.
 use Rattle.field_texts.proofs.Texts.{quality-room, method-room, put_alone, put-graded}
-use borrow.Author.Rules.{rules}
 use Rattle.field_texts.proofs.marks.put_quality.Goals as goal
 
 pub put_byte-b-requires : goal.put_byte-b-requires

@@ -1,6 +1,5 @@
 -- `field_texts::marks::put_reason` meets its contract. Assumes nothing.
 use Rattle.field_texts.proofs.Texts.{reason-room, put-no-reason, put-some-reason}
-use borrow.Author.Rules.{rules}
 use Rattle.field_texts.proofs.marks.put_reason.Goals as goal
 
 pub returns-then-reason-eq-NO_REASON : goal.returns-then-reason-eq-NO_REASON

@@ -1,6 +1,5 @@
 -- `field_texts::values::put_value` meets its contract. Assumes nothing.
 use Rattle.field_texts.proofs.Texts.{whole_room, put-plain, point-room, fraction-room, put-point}
-use borrow.Author.Rules.{rules}
 use Rattle.field_texts.proofs.values.put_value.Goals as goal
 
 pub put_dec-e-requires : goal.put_dec-e-requires

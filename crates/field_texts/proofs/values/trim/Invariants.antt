@@ -1,6 +1,5 @@
 -- `field_texts::values::trim` meets its contract. Assumes nothing.
-use Rattle.field_texts.proofs.Trimming.{Cut, cut-none, cut-more, cut-stops, cut_all}
-use native.Mathlib.Omega.{arith}
+use Rattle.field_texts.proofs.Trimming.{Cut}
 use Rattle.field_texts.proofs.values.trim.Given as goal
 
 abbrev pub invariant-loop-p : goal.invariant-loop-p

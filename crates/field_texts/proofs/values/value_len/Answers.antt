@@ -1,6 +1,5 @@
 -- `field_texts::values::value_len` meets its contract. Assumes nothing.
 use Rattle.field_texts.proofs.Texts.{value-plain, value-point}
-use borrow.Author.Rules.{rules}
 use native.Mathlib.Omega.{arith}
 use Rattle.field_texts.proofs.values.value_len.Goals as goal
 

@@ -2,7 +2,6 @@
 use Rattle.format.specs.Bytes.{end_space}
 use Rattle.ground.proofs.Tests.{tests}
 use Rattle.leaf.proofs.Cases.{no_end}
-use borrow.Author.Rules.{rules}
 use Rattle.leaf.proofs.bytes.end_space.Goals as goal
 
 pub returns-then-n-eq0 : goal.returns-then-n-eq0

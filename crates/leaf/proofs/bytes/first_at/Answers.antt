@@ -1,7 +1,5 @@
 -- `leaf::bytes::first_at` meets its contract. Assumes nothing.
-use Prim.Native.Nat.{◌-◌}
-use Rattle.ground.proofs.Lists.{Sought, sought-none, sought-more, sought-found, sought-all}
-use borrow.Author.Rules.{rules}
+use Rattle.ground.proofs.Lists.{sought-none, sought-more, sought-found, sought-all}
 use native.Mathlib.Omega.{arith}
 use Rattle.leaf.proofs.bytes.first_at.Goals as goal
 

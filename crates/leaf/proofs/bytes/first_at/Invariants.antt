@@ -1,8 +1,6 @@
 -- `leaf::bytes::first_at` meets its contract. Assumes nothing.
 use Prim.Native.Nat.{◌-◌}
-use Rattle.ground.proofs.Lists.{Sought, sought-none, sought-more, sought-found, sought-all}
-use borrow.Author.Rules.{rules}
-use native.Mathlib.Omega.{arith}
+use Rattle.ground.proofs.Lists.{Sought}
 use Rattle.leaf.proofs.bytes.first_at.Given as goal
 
 abbrev pub invariant-loop-i : goal.invariant-loop-i

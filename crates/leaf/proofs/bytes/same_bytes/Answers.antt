@@ -1,7 +1,5 @@
 -- `leaf::bytes::same_bytes` meets its contract. Assumes nothing.
-use Prim.Native.Nat.{◌-◌}
-use Rattle.ground.proofs.Lists.{Agreed, unlike, agreed-none, agreed-more, agreed-stops, agreed-all}
-use borrow.Author.Rules.{rules}
+use Rattle.ground.proofs.Lists.{unlike, agreed-none, agreed-more, agreed-stops, agreed-all}
 use Rattle.leaf.proofs.bytes.same_bytes.Goals as goal
 
 ruleset laws = (unlike, agreed-none, agreed-more, agreed-stops, agreed-all)

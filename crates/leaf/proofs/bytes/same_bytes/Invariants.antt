@@ -1,7 +1,6 @@
 -- `leaf::bytes::same_bytes` meets its contract. Assumes nothing.
 use Prim.Native.Nat.{◌-◌}
-use Rattle.ground.proofs.Lists.{Agreed, unlike, agreed-none, agreed-more, agreed-stops, agreed-all}
-use borrow.Author.Rules.{rules}
+use Rattle.ground.proofs.Lists.{Agreed}
 use Rattle.leaf.proofs.bytes.same_bytes.Given as goal
 
 abbrev pub invariant-loop-i : goal.invariant-loop-i

@@ -2,7 +2,6 @@
 use Rattle.format.specs.Bytes.{is_text}
 use Rattle.ground.proofs.Tests.{tests}
 use Rattle.leaf.proofs.Cases.{text-ends}
-use borrow.Author.Rules.{rules}
 use Rattle.leaf.proofs.bytes.text.Goals as goal
 
 pub returns-then-n-least : goal.returns-then-n-least

@@ -1,8 +1,6 @@
 -- `leaf::digits::digits` meets its contract. Assumes nothing.
-use Prim.Native.Nat.{◌-◌}
 use Rattle.format.proofs.Numbers.{number_short, number-long, number-over, number-stops, number_is}
-use Rattle.ground.proofs.Decimal.{Read, read_none, read_more, digit_low, digit-high, read_fits, read-fits-digit}
-use borrow.Author.Rules.{rules}
+use Rattle.ground.proofs.Decimal.{read_none, read_more, digit_low, digit-high, read_fits, read-fits-digit}
 use native.Mathlib.Omega.{arith}
 use Rattle.leaf.proofs.digits.digits.Goals as goal
 

@@ -1,7 +1,6 @@
 -- `leaf::digits::leading` meets its contract. Assumes nothing.
 use Rattle.format.specs.Numbers.{leading_zero}
 use Rattle.ground.proofs.Tests.{tests}
-use borrow.Author.Rules.{rules}
 use Rattle.leaf.proofs.digits.leading.Goals as goal
 
 pub returns-then-f-gt1 : goal.returns-then-f-gt1

@@ -1,6 +1,5 @@
 -- `leaf::digits::small` meets its contract. Assumes nothing.
 use Rattle.format.proofs.Numbers.{small-zero, small_is}
-use borrow.Author.Rules.{rules}
 use Rattle.leaf.proofs.digits.small.Goals as goal
 
 pub returns-then-leading : goal.returns-then-leading

@@ -1,9 +1,5 @@
 -- `lines::pieces::end_singly` meets its contract. Assumes nothing.
-use Prim.Native.Nat.{◌-◌}
-use lib.ListN.{length}
-use Rattle.ground.proofs.Lists.{Sought}
 use Rattle.lines.proofs.Steps.{singly}
-use borrow.Author.Rules.{rules}
 use Rattle.lines.proofs.pieces.end_singly.Goals as goal
 
 pub loop-i-init : goal.loop-i-init

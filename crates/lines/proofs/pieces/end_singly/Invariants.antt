@@ -2,8 +2,6 @@
 use Prim.Native.Nat.{◌-◌}
 use lib.ListN.{length}
 use Rattle.ground.proofs.Lists.{Sought}
-use Rattle.lines.proofs.Steps.{singly}
-use borrow.Author.Rules.{rules}
 use Rattle.lines.proofs.pieces.end_singly.Given as goal
 
 abbrev pub invariant-loop-i : goal.invariant-loop-i

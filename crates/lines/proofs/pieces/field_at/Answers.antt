@@ -1,6 +1,5 @@
 -- `lines::pieces::field_at` meets its contract. Assumes nothing.
 use Rattle.lines.proofs.Cuts.{cut-more, cut-last}
-use borrow.Author.Rules.{rules}
 use Rattle.lines.proofs.pieces.field_at.Goals as goal
 
 pub returns-then-b-e : goal.returns-then-b-e

@@ -1,10 +1,5 @@
 -- `lines::pieces::field_end` meets its contract. Assumes nothing.
-use Prim.Native.Nat.{◌+◌, ◌-◌}
-use mathlib.Core.Path.{◌≡◌}
-use lib.ListN.{length}
-use Rattle.ground.proofs.Lists.{Sought}
 use Rattle.lines.proofs.Steps.{eights}
-use borrow.Author.Rules.{rules}
 use Rattle.lines.proofs.pieces.field_end.Goals as goal
 
 pub loop-e-init : goal.loop-e-init

@@ -3,8 +3,6 @@ use Prim.Native.Nat.{◌+◌, ◌-◌}
 use mathlib.Core.Path.{◌≡◌}
 use lib.ListN.{length}
 use Rattle.ground.proofs.Lists.{Sought}
-use Rattle.lines.proofs.Steps.{eights}
-use borrow.Author.Rules.{rules}
 use Rattle.lines.proofs.pieces.field_end.Given as goal
 
 abbrev pub invariant-loop-e : goal.invariant-loop-e

@@ -1,6 +1,5 @@
 -- `lines::pieces::first_field` meets its contract. Assumes nothing.
 use Rattle.lines.proofs.Cuts.{first-is}
-use borrow.Author.Rules.{rules}
 use Rattle.lines.proofs.pieces.first_field.Goals as goal
 
 pub returns : goal.returns

@@ -1,7 +1,6 @@
 -- `measures::axis::height` meets its contract. Assumes nothing.
 use native.Mathlib.Omega.{arith}
 use Rattle.measures.proofs.Bounds.{top_within, height-is}
-use borrow.Author.Rules.{rules}
 use Rattle.measures.proofs.axis.height.Goals as goal
 
 pub height_on-requires : goal.height_on-requires

@@ -1,7 +1,6 @@
 -- `measures::axis::height_on` meets its contract. Assumes nothing.
 use native.Mathlib.Omega.{arith}
 use Rattle.measures.proofs.Bounds.{lower-small, height-small, on-is}
-use borrow.Author.Rules.{rules}
 use Rattle.measures.proofs.axis.height_on.Goals as goal
 
 pub overflow_mul-result : goal.overflow_mul-result

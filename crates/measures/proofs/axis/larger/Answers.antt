@@ -1,7 +1,6 @@
 -- `measures::axis::larger` meets its contract. Assumes nothing.
 use Rattle.measures.specs.Axis.{larger}
 use Rattle.ground.proofs.Tests.{tests}
-use borrow.Author.Rules.{rules}
 use Rattle.measures.proofs.axis.larger.Goals as goal
 
 pub returns-then-m-x : goal.returns-then-m-x

@@ -1,6 +1,5 @@
 -- `measures::axis::lower` meets its contract. Assumes nothing.
 use Rattle.ground.proofs.Tests.{tests}
-use borrow.Author.Rules.{rules}
 use Rattle.measures.proofs.axis.lower.Goals as goal
 
 pub returns-then-v-top : goal.returns-then-v-top

@@ -1,7 +1,5 @@
 -- `measures::axis::most_of` meets its contract. Assumes nothing.
-use Prim.Native.Nat.{◌-◌}
-use Rattle.measures.proofs.Gathering.{Largest, largest-none, largest-more, largest-all, largest-end}
-use borrow.Author.Rules.{rules}
+use Rattle.measures.proofs.Gathering.{largest-none, largest-more, largest-all, largest-end}
 use Rattle.measures.proofs.axis.most_of.Goals as goal
 
 pub loop-i-init : goal.loop-i-init

@@ -1,7 +1,6 @@
 -- `measures::axis::most_of` meets its contract. Assumes nothing.
 use Prim.Native.Nat.{◌-◌}
-use Rattle.measures.proofs.Gathering.{Largest, largest-none, largest-more, largest-all, largest-end}
-use borrow.Author.Rules.{rules}
+use Rattle.measures.proofs.Gathering.{Largest}
 use Rattle.measures.proofs.axis.most_of.Given as goal
 
 abbrev pub invariant-loop-i : goal.invariant-loop-i

@@ -1,7 +1,6 @@
 -- `measures::axis::reach_of` meets its contract. Assumes nothing.
 use Rattle.measures.specs.Axis.{reach_of}
 use Rattle.ground.proofs.Tests.{tests}
-use borrow.Author.Rules.{rules}
 use Rattle.measures.proofs.axis.reach_of.Goals as goal
 
 pub returns-then-most-eq0 : goal.returns-then-most-eq0

@@ -1,6 +1,5 @@
 -- `measures::axis::step_for` meets its contract. Assumes nothing.
 use Rattle.measures.proofs.Bounds.{reach-small, step_is}
-use borrow.Author.Rules.{rules}
 use Rattle.measures.proofs.axis.step_for.Goals as goal
 
 pub step_from-requires : goal.step_from-requires

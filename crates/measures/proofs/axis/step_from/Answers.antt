@@ -1,6 +1,5 @@
 -- `measures::axis::step_from` meets its contract. Assumes nothing.
-use Rattle.measures.proofs.Bounds.{Seeking, seeking-first, seeking-next, seeking-found, seeking-out}
-use borrow.Author.Rules.{rules}
+use Rattle.measures.proofs.Bounds.{seeking-first, seeking-next, seeking-found, seeking-out}
 use Rattle.measures.proofs.axis.step_from.Goals as goal
 
 pub loop-k-init : goal.loop-k-init

@@ -1,6 +1,5 @@
 -- `measures::axis::step_from` meets its contract. Assumes nothing.
-use Rattle.measures.proofs.Bounds.{Seeking, seeking-first, seeking-next, seeking-found, seeking-out}
-use borrow.Author.Rules.{rules}
+use Rattle.measures.proofs.Bounds.{Seeking}
 use Rattle.measures.proofs.axis.step_from.Given as goal
 
 abbrev pub invariant-loop-k : goal.invariant-loop-k

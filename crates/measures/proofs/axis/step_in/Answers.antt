@@ -1,7 +1,6 @@
 -- `measures::axis::step_in` meets its contract. Assumes nothing.
 use Rattle.measures.specs.Axis.{step_in}
 use Rattle.ground.proofs.Tests.{tests}
-use borrow.Author.Rules.{rules}
 use Rattle.measures.proofs.axis.step_in.Goals as goal
 
 pub returns-then-reach-ten : goal.returns-then-reach-ten

@@ -1,7 +1,6 @@
 -- `measures::axis::steps_for` meets its contract. Assumes nothing.
 use native.Mathlib.Omega.{arith}
 use Rattle.measures.proofs.Bounds.{reach-within, step-within, steps-is}
-use borrow.Author.Rules.{rules}
 use Rattle.measures.proofs.axis.steps_for.Goals as goal
 
 pub overflow_add-result : goal.overflow_add-result

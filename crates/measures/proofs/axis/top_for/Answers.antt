@@ -1,7 +1,6 @@
 -- `measures::axis::top_for` meets its contract. Assumes nothing.
 use native.Mathlib.Omega.{arith}
 use Rattle.measures.proofs.Bounds.{multiple-small, top-is}
-use borrow.Author.Rules.{rules}
 use Rattle.measures.proofs.axis.top_for.Goals as goal
 
 pub overflow_mul-result : goal.overflow_mul-result

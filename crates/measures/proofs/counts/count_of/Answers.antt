@@ -1,7 +1,5 @@
 -- `measures::counts::count_of` meets its contract. Assumes nothing.
-use Prim.Native.Nat.{◌-◌}
-use borrow.Author.Rules.{rules}
-use Rattle.measures.proofs.Gathering.{Found, found_none, found-more, found_all, found-end}
+use Rattle.measures.proofs.Gathering.{found_none, found-more, found_all, found-end}
 use Rattle.measures.proofs.counts.count_of.Goals as goal
 
 pub loop-i-init : goal.loop-i-init

@@ -1,7 +1,6 @@
 -- `measures::counts::count_of` meets its contract. Assumes nothing.
 use Prim.Native.Nat.{◌-◌}
-use borrow.Author.Rules.{rules}
-use Rattle.measures.proofs.Gathering.{Found, found_none, found-more, found_all, found-end}
+use Rattle.measures.proofs.Gathering.{Found}
 use Rattle.measures.proofs.counts.count_of.Given as goal
 
 abbrev pub invariant-loop-i : goal.invariant-loop-i

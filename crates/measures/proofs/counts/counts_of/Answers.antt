@@ -1,6 +1,5 @@
 -- `measures::counts::counts_of` meets its contract. Assumes nothing.
 use Rattle.measures.proofs.Gathering.{counts-are}
-use borrow.Author.Rules.{rules}
 use Rattle.measures.proofs.counts.counts_of.Goals as goal
 
 pub returns : goal.returns

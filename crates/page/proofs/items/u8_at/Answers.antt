@@ -2,9 +2,6 @@
 -- src/items.rt:42:9
 -- src/items.rt:38:1
 use Rattle.page.proofs.Listed.{past_end}
-use borrow.Author.Rules.{rules}
-use Rattle.page.proofs.items.u8_at.Reads as reads
-use Rattle.page.proofs.items.u8_at.Lts as lts
 use Rattle.page.proofs.items.u8_at.Goals as goal
 
 pub returns : goal.returns

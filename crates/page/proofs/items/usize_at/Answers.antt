@@ -3,9 +3,6 @@
 -- src/items.rt:24:9
 -- src/items.rt:20:1
 use Rattle.page.proofs.Listed.{past_end}
-use borrow.Author.Rules.{rules}
-use Rattle.page.proofs.items.usize_at.Reads as reads
-use Rattle.page.proofs.items.usize_at.Lts as lts
 use Rattle.page.proofs.items.usize_at.Goals as goal
 
 pub returns : goal.returns

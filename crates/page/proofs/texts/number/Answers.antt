@@ -6,11 +6,6 @@
 -- src/texts.rt:25:1
 -- src/texts.rt:25:1
 use Rattle.page.proofs.Filling.{filled-front, front-within, front_long, dec-room}
-use borrow.Author.Rules.{rules}
-use Rattle.page.proofs.texts.number.Reads as reads
-use Rattle.page.proofs.texts.number.Lts as lts
-use Rattle.page.proofs.texts.put.Reads as put_reads
-use Rattle.text.proofs.digits.put_dec.Reads as put-dec-reads
 use Rattle.page.proofs.texts.number.Goals as goal
 
 pub put_dec-k-requires : goal.put_dec-k-requires

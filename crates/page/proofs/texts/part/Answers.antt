@@ -11,9 +11,6 @@
 -- src/texts.rt:27:5
 -- src/texts.rt:15:1
 use Rattle.page.proofs.Parts.{part-past, part_none, part-rest}
-use borrow.Author.Rules.{rules}
-use Rattle.page.proofs.texts.part.Reads as reads
-use Rattle.page.proofs.texts.part.Lts as lts
 use Rattle.page.proofs.texts.part.Goals as goal
 
 pub returns-then-text-from : goal.returns-then-text-from

@@ -10,10 +10,6 @@
 use native.Mathlib.Omega.{arith}
 use lib.ListN.{length-take}
 use Rattle.page.proofs.Filling.{filled_none, filled-whole, filled-part, part_room}
-use borrow.Author.Rules.{rules}
-use Rattle.page.proofs.texts.put.Reads as reads
-use Rattle.page.proofs.texts.put.Lts as lts
-use Rattle.text.proofs.bytes.put_bytes.Reads as put-bytes-reads
 use Rattle.page.proofs.texts.put.Goals as goal
 
 pub returns-then-page-at : goal.returns-then-page-at

@@ -6,11 +6,6 @@
 -- src/texts.rt:34:1
 -- src/texts.rt:34:1
 use Rattle.page.proofs.Filling.{filled-front, front-within, front_long, value_room}
-use borrow.Author.Rules.{rules}
-use Rattle.page.proofs.texts.value.Reads as reads
-use Rattle.page.proofs.texts.value.Lts as lts
-use Rattle.page.proofs.texts.put.Reads as put_reads
-use Rattle.field_texts.proofs.values.put_value.Reads as put-value-reads
 use Rattle.page.proofs.texts.value.Goals as goal
 
 pub put_value-k-requires : goal.put_value-k-requires

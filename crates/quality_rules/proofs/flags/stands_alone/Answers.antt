@@ -2,7 +2,6 @@
 use Rattle.format.specs.Quality.{stands_alone}
 use Rattle.ground.proofs.Tests.{tests}
 use Rattle.quality_rules.proofs.Cases.{alone-null}
-use borrow.Author.Rules.{rules}
 use Rattle.quality_rules.proofs.flags.stands_alone.Goals as goal
 
 pub returns-then-q-eq65 : goal.returns-then-q-eq65

@@ -1,7 +1,5 @@
 -- `text::bytes::put_bytes` meets its contract. Assumes nothing.
-use Prim.Native.Nat.{◌-◌}
-use Rattle.text.proofs.Loops.{Copied, copied_none, copied_more, copied_all}
-use lib.ListN.{length}
+use Rattle.text.proofs.Loops.{copied_none, copied_more, copied_all}
 use native.Mathlib.Omega.{arith}
 use Rattle.text.proofs.bytes.put_bytes.Goals as goal
 

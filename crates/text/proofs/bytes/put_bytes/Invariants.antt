@@ -1,8 +1,7 @@
 -- `text::bytes::put_bytes` meets its contract. Assumes nothing.
 use Prim.Native.Nat.{◌-◌}
-use Rattle.text.proofs.Loops.{Copied, copied_none, copied_more, copied_all}
+use Rattle.text.proofs.Loops.{Copied}
 use lib.ListN.{length}
-use native.Mathlib.Omega.{arith}
 use Rattle.text.proofs.bytes.put_bytes.Given as goal
 
 abbrev pub invariant-loop-i : goal.invariant-loop-i

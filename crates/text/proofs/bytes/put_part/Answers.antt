@@ -1,7 +1,6 @@
 -- `text::bytes::put_part` meets its contract. Assumes nothing.
 use Prim.Native.Nat.{◌+◌, ◌≤◌}
 use Rattle.text.proofs.Texts.{inside-some, put-part-none, put-part-some}
-use borrow.Author.Rules.{rules}
 use lib.ListN.{length}
 use native.Mathlib.Omega.{arith}
 use Rattle.text.proofs.bytes.put_part.Goals as goal

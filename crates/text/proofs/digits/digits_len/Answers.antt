@@ -1,5 +1,5 @@
 -- `text::digits::digits_len` meets its contract. Assumes nothing.
-use Rattle.text.proofs.Loops.{Counted, counted_none, counted-more, counted-few, counted-fits, counted-all}
+use Rattle.text.proofs.Loops.{counted_none, counted-more, counted-few, counted-fits, counted-all}
 use native.Mathlib.Omega.{arith}
 use Rattle.text.proofs.digits.digits_len.Goals as goal
 

@@ -1,6 +1,5 @@
 -- `text::digits::put_dec` meets its contract. Assumes nothing.
 use Rattle.text.proofs.Texts.{put-as-dec, dec-room}
-use borrow.Author.Rules.{rules}
 use Rattle.text.proofs.digits.put_dec.Goals as goal
 
 pub put_digits-requires : goal.put_digits-requires

@@ -1,6 +1,5 @@
 -- `text::digits::put_digits` meets its contract. Assumes nothing.
-use Rattle.text.proofs.Loops.{Shown, shown-none, shown-more, shown-all}
-use native.Mathlib.Omega.{arith}
+use Rattle.text.proofs.Loops.{Shown}
 use Rattle.text.proofs.digits.put_digits.Given as goal
 
 abbrev pub invariant-loop-j : goal.invariant-loop-j
