@@ -6,7 +6,7 @@ use native.Mathlib.Omega.{arith}
 use Rattle.day.proofs.walk.behind.Goals as goal
 
 pub overflow_add-result : goal.overflow_add-result
-overflow_add-result c = let r : c.p-1.given.0.1.0 + 2 ≤ length c.args.file.now = search room-behind in omega arith
+overflow_add-result c = let r : c.in-At.e + 2 ≤ length c.args.file.now = search room-behind in omega arith
 
 pub returns-in-At : goal.returns-in-At
 returns-in-At c = search behind-day
