@@ -6,9 +6,8 @@ ghost use Rattle.std.specs.Prelude.{◌≤◌, length, IfOk};
 
 use std::env::Env;
 use std::fs::{File, OpenOptions};
-use std::io;
 use std::io::{ErrorKind, Read, Write};
-use std::str;
+use std::{io, str};
 
 // Linux's numbers of two errors: a descriptor that is not open, and text that is none.
 const NOT_OPEN: i32 = 9;
