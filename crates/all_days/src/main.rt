@@ -8,7 +8,7 @@ use leaf::digits::digits;
 use machine::{Machine, PAGE, WORD};
 use month::read_days;
 use months::DaysRead;
-use outward::{FAILED, REFUSED, end, write_line};
+use outward::{FAILED, REFUSED, finish, write_line};
 use page::texts::{number, part, put};
 use std::alloc::{AllocError, Global};
 
@@ -92,5 +92,5 @@ fn run(rt: &impl Machine, alloc: Global) -> Result<u8, AllocError> {
 }
 
 fn main(rt: HostRuntime) {
-    end(&rt, run(&rt, rt.alloc()));
+    finish(&rt, run(&rt, rt.alloc()));
 }

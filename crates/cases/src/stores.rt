@@ -51,7 +51,7 @@ pub fn bytes_case(
     page: &mut [u8],
     at: usize,
 ) -> Going {
-    let Passed::To(after) = text(buf, c, b"tes\n\n") else {
+    let Passed::To(after) = text(rt, buf, c, b"tes\n\n") else {
         return Going::Bad;
     };
     let p = lent_line(page, at, b"bytes ", size);

@@ -112,7 +112,7 @@ pub fn fill_line(
     let Passed::To(after) = fill(rt, buf, c, &mut list[..n]) else {
         return Passed::Bad;
     };
-    byte(buf, after, b'\n')
+    byte(rt, buf, after, b'\n')
 }
 
 // The first n places of one list, the first k of another behind them, and the line's end.

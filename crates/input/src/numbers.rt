@@ -110,7 +110,7 @@ fn row(rt: &impl Machine, buf: &mut [u8], c: Cursor, list: &mut [u64], last: u8)
 
 // The first line of a case: the rest of its word, then numbers.
 pub fn head(rt: &impl Machine, buf: &mut [u8], c: Cursor, word: &[u8], list: &mut [u64]) -> Passed {
-    let Passed::To(after) = text(buf, c, word) else {
+    let Passed::To(after) = text(rt, buf, c, word) else {
         return Passed::Bad;
     };
     row(rt, buf, after, list, b'\n')
@@ -127,7 +127,7 @@ pub fn head_alone(
     let Passed::To(after) = head(rt, buf, c, word, list) else {
         return Passed::Bad;
     };
-    byte(buf, after, b'\n')
+    byte(rt, buf, after, b'\n')
 }
 
 // A line of numbers, a space behind each.
@@ -135,5 +135,5 @@ pub fn line(rt: &impl Machine, buf: &mut [u8], c: Cursor, list: &mut [u64]) -> P
     let Passed::To(after) = row(rt, buf, c, list, b' ') else {
         return Passed::Bad;
     };
-    byte(buf, after, b'\n')
+    byte(rt, buf, after, b'\n')
 }

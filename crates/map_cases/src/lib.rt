@@ -33,6 +33,7 @@ fn lent(memory: &mut [u8], size: usize, room: usize) -> &mut [u8]
 }
 
 pub fn make_map_case(
+    rt: &impl Machine,
     buf: &mut [u8],
     c: Cursor,
     memory: &mut [u8],
@@ -41,7 +42,7 @@ pub fn make_map_case(
     page: &mut [u8],
     at: usize,
 ) -> Going {
-    let Passed::To(after) = text(buf, c, b"ap\n\n") else {
+    let Passed::To(after) = text(rt, buf, c, b"ap\n\n") else {
         return Going::Bad;
     };
     let room = copy.len();
@@ -65,7 +66,7 @@ fn entries_in(
     let Passed::To(after) = line(rt, buf, behind, shares) else {
         return Passed::Bad;
     };
-    byte(buf, after, b'\n')
+    byte(rt, buf, after, b'\n')
 }
 
 // The shares as the call takes them.

@@ -6,7 +6,7 @@ use disk::{Loaded, load_word};
 use explain::refused::explained;
 use format::{DayHead, DayRead, Written};
 use machine::{Machine, PAGE};
-use outward::{FAILED, REFUSED, end, warn, write};
+use outward::{FAILED, REFUSED, finish, warn, write};
 use page::texts::part;
 use reading::read_day::read_day;
 use std::alloc::{AllocError, Global};
@@ -165,5 +165,5 @@ fn run(rt: &impl Machine, alloc: Global) -> Result<u8, AllocError> {
 }
 
 fn main(rt: HostRuntime) {
-    end(&rt, run(&rt, rt.alloc()));
+    finish(&rt, run(&rt, rt.alloc()));
 }

@@ -16,7 +16,7 @@ use filling::read_noted;
 use format::{Checked, DayRead};
 use machine::{Machine, PAGE};
 use measures::axis::most_of;
-use outward::{DONE, FAILED, REFUSED, end, warn, write};
+use outward::{DONE, FAILED, REFUSED, finish, warn, write};
 use page::items::{u8_at, u64_at};
 use page::texts::part;
 use records::{NMI, SUFFIX, UNIT_OF_200, field};
@@ -254,5 +254,5 @@ fn run(rt: &impl Machine, alloc: Global) -> Result<u8, AllocError> {
 }
 
 fn main(rt: HostRuntime) {
-    end(&rt, run(&rt, rt.alloc()));
+    finish(&rt, run(&rt, rt.alloc()));
 }

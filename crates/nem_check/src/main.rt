@@ -4,7 +4,7 @@
 use checking::check::check;
 use disk::{Loaded, load_word};
 use machine::{Machine, PAGE, WORD};
-use outward::{DONE, FAILED, end, graver, write};
+use outward::{DONE, FAILED, finish, graver, write};
 use page::texts::{part, put};
 use std::alloc::{AllocError, Global};
 use verdict::said;
@@ -54,5 +54,5 @@ fn run(rt: &impl Machine, alloc: Global) -> Result<u8, AllocError> {
 }
 
 fn main(rt: HostRuntime) {
-    end(&rt, run(&rt, rt.alloc()));
+    finish(&rt, run(&rt, rt.alloc()));
 }

@@ -12,7 +12,7 @@ use explain::refused::explained;
 use format::Checked;
 use leaf::bytes::same_bytes;
 use machine::{Machine, PAGE, WORD};
-use outward::{FAILED, REFUSED, end, warn};
+use outward::{FAILED, REFUSED, finish, warn};
 use page::texts::part;
 use std::alloc::{AllocError, Global};
 
@@ -62,5 +62,5 @@ fn run(rt: &impl Machine, alloc: Global) -> Result<u8, AllocError> {
 }
 
 fn main(rt: HostRuntime) {
-    end(&rt, run(&rt, rt.alloc()));
+    finish(&rt, run(&rt, rt.alloc()));
 }

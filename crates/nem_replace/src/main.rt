@@ -10,7 +10,7 @@ use disk::{Loaded, load_word};
 use explain::refused::explained_as;
 use format::{BlockChecked, Refusal};
 use machine::{Machine, PAGE};
-use outward::{FAILED, REFUSED, complain, end, warn, write};
+use outward::{FAILED, REFUSED, complain, finish, warn, write};
 use page::texts::{number, part, put};
 use phrase::times::date;
 use records::record_of;
@@ -201,5 +201,5 @@ fn run(rt: &impl Machine, alloc: Global) -> Result<u8, AllocError> {
 }
 
 fn main(rt: HostRuntime) {
-    end(&rt, run(&rt, rt.alloc()));
+    finish(&rt, run(&rt, rt.alloc()));
 }

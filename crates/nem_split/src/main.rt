@@ -11,7 +11,7 @@ mod stored_day;
 use disk::{Loaded, load_word};
 use kept_files::{long_map, long_store};
 use machine::{Machine, PAGE};
-use outward::{FAILED, end};
+use outward::{FAILED, finish};
 use page::texts::part;
 use std::alloc::{AllocError, Global};
 
@@ -66,5 +66,5 @@ fn run(rt: &impl Machine, alloc: Global) -> Result<u8, AllocError> {
 }
 
 fn main(rt: HostRuntime) {
-    end(&rt, run(&rt, rt.alloc()));
+    finish(&rt, run(&rt, rt.alloc()));
 }

@@ -15,7 +15,7 @@ use kept_files::long_store;
 use leaf::bytes::same_bytes;
 use machine::{Machine, PAGE, WORD};
 use named::date_of;
-use outward::{FAILED, end};
+use outward::{FAILED, finish};
 use std::alloc::{AllocError, Global};
 use wanted::no_date;
 
@@ -124,5 +124,5 @@ fn run(rt: &impl Machine, alloc: Global) -> Result<u8, AllocError> {
 }
 
 fn main(rt: HostRuntime) {
-    end(&rt, run(&rt, rt.alloc()));
+    finish(&rt, run(&rt, rt.alloc()));
 }

@@ -10,7 +10,7 @@ mod totals;
 use disk::{Loaded, load_word};
 use leaf::bytes::same_bytes;
 use machine::{Machine, PAGE, WORD};
-use outward::{FAILED, end};
+use outward::{FAILED, finish};
 use page::texts::part;
 use std::alloc::{AllocError, Global};
 
@@ -54,5 +54,5 @@ fn run(rt: &impl Machine, alloc: Global) -> Result<u8, AllocError> {
 }
 
 fn main(rt: HostRuntime) {
-    end(&rt, run(&rt, rt.alloc()));
+    finish(&rt, run(&rt, rt.alloc()));
 }

@@ -37,7 +37,7 @@ pub fn tell(rt: &impl Machine, status: u8) {
 }
 
 // Tells what a program came to. Where there was no memory for its work, standard error says so.
-pub fn end(rt: &impl Machine, came: Result<u8, AllocError>) {
+pub fn finish(rt: &impl Machine, came: Result<u8, AllocError>) {
     match came {
         Ok(status) => tell(rt, status),
         Err(e) => {

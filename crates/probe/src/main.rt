@@ -80,7 +80,7 @@ fn making_case(
     page: &mut [u8],
     at: usize,
 ) -> Going {
-    let Passed::To(shared) = text(buf, c, b"ke") else {
+    let Passed::To(shared) = text(rt, buf, c, b"ke") else {
         return Going::Bad;
     };
     let Taken::Byte(b, after) = next(rt, buf, shared) else {
@@ -88,7 +88,7 @@ fn making_case(
     };
     match b {
         b' ' => make_case(rt, buf, after, memory, size, copy, page, at),
-        b'm' => make_map_case(buf, after, memory, size, copy, page, at),
+        b'm' => make_map_case(rt, buf, after, memory, size, copy, page, at),
         _ => Going::Bad,
     }
 }
@@ -127,7 +127,7 @@ fn splitting_case(
     page: &mut [u8],
     at: usize,
 ) -> Going {
-    let Passed::To(shared) = text(buf, c, b"lit") else {
+    let Passed::To(shared) = text(rt, buf, c, b"lit") else {
         return Going::Bad;
     };
     let Taken::Byte(b, after) = next(rt, buf, shared) else {

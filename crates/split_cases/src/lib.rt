@@ -47,7 +47,7 @@ fn shares_in(rt: &impl Machine, buf: &mut [u8], c: Cursor, shares: &mut [u64]) -
     if !below(shares, SHARES) {
         return Passed::Bad;
     }
-    byte(buf, after, b'\n')
+    byte(rt, buf, after, b'\n')
 }
 
 // The shares as the call takes them.
