@@ -27,7 +27,7 @@ every f h x =
     let j = and-true (f behind250) _ i.1 in
     let k = and-true (f behind550) _ j.1 in
     let l = and-true (f the_end) _ k.1 in
-    elim x [
+    elim x as (λ k. f k ≡ true) [
       | the100 ↦ a.0
       | first200 ↦ b.0
       | first300 ↦ c.0

@@ -42,7 +42,7 @@ keep_at c p j room h =
     ∙ keep_append c p (take j (drop p room)) (drop j (drop p room))
     ∙ ap₂ (λ (i : ℕ) (z : List ℕ). keep c p (take j (drop p room)) ++ keep c (p + i) z) (length-stretch room p j h) (drop-drop j p room)
 
-rising-from : {p : ℕ} {os ns : List ℕ} (room : List ℕ) → Rising (length room) p os ns → keep (covered os ns) p (drop p room) ≡ joined room os ns
+rising-from : (room : List ℕ) {p : ℕ} {os ns : List ℕ} → Rising (length room) p os ns → keep (covered os ns) p (drop p room) ≡ joined room os ns
 unfolding joined covered
 rising-from room (none {p} h) = keep-none (covered [] []) p (drop p room) (λ x a b. refl)
 rising-from room (then {p} {o} {n} {os} {ns} h r) =

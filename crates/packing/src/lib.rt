@@ -1,7 +1,7 @@
 // Blocks in a lent room are moved down over the holes between them.
 #![tactic(auto)]
 
-ghost use Rattle.std.specs.Prelude.{◌≡◌, ◌&&◌, length, leb, ltb, eqb};
+ghost use Rattle.std.specs.Prelude.{◌≡◌, ◌<◌, ◌&&◌, length, leb, ltb, eqb};
 ghost use Rattle.ranges.specs.Laid.{Laid};
 ghost use Rattle.packing.specs.Packing.{packed, pack_of};
 ghost use Rattle.packing.specs.Steps.{Next};
@@ -9,7 +9,8 @@ ghost use Rattle.packing.specs.Steps.{Next};
 use moving::move_bytes;
 
 fn wide(x: u32) -> usize
-    ensures { result ≡ x }
+    ensures is { result ≡ x }
+    ensures small { result < 4294967296 }
 {
     x as usize
 }

@@ -1,0 +1,10 @@
+-- `answer_lines::answers::block_checked` meets its contract. Assumes nothing.
+use Rattle.format.specs.Answers.{block_checked_as}
+use Rattle.answer_lines.proofs.Answered.{line-is}
+use Rattle.answer_lines.proofs.answers.block_checked.Goals as goal
+
+pub returns-in-Accepted : goal.returns-in-Accepted
+returns-in-Accepted c = search (line-is block_checked_as)
+
+pub returns-in-Refused : goal.returns-in-Refused
+returns-in-Refused c = search (line-is block_checked_as)

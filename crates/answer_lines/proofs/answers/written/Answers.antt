@@ -1,0 +1,18 @@
+-- src/answers.rt:82:26
+-- src/answers.rt:82:65
+-- src/answers.rt:82:46
+-- src/answers.rt:83:26
+-- src/answers.rt:83:32
+-- src/answers.rt:78:1
+-- src/answers.rt:78:1
+-- src/answers.rt:78:1
+-- src/answers.rt:78:1
+use Rattle.format.specs.Answers.{written_as}
+use Rattle.answer_lines.proofs.Answered.{line-is}
+use Rattle.answer_lines.proofs.answers.written.Goals as goal
+
+pub returns-in-Block : goal.returns-in-Block
+returns-in-Block c = search (line-is written_as)
+
+pub returns-in-Refused : goal.returns-in-Refused
+returns-in-Refused c = search (line-is written_as)

@@ -1,0 +1,17 @@
+-- src/days.rt:87:5
+-- src/days.rt:88:9
+-- src/days.rt:89:9
+-- src/days.rt:87:5
+-- src/days.rt:87:5
+-- src/days.rt:72:1
+-- src/days.rt:72:1
+use Prim.Native.Nat.{◌-◌}
+use Rattle.answer_lines.specs.Lines.{interval_in}
+use Rattle.page.proofs.Listed.{Counted}
+use Rattle.answer_lines.proofs.days.intervals.Given as goal
+
+abbrev pub invariant-loop-i : goal.invariant-loop-i
+invariant-loop-i l = Counted l.initial.page l.at (interval_in l.values l.flags l.methods l.reasons l.starts l.lengths) l.n l.page l.p l.i
+
+abbrev pub decreases-loop-i : goal.decreases-loop-i
+decreases-loop-i l = l.n - l.i

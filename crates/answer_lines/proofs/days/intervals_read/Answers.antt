@@ -1,0 +1,7 @@
+-- `answer_lines::days::intervals_read` meets its contract. Assumes nothing.
+use Rattle.answer_lines.proofs.Answered.{read-intervals}
+use borrow.Author.Rules.{rules}
+use Rattle.answer_lines.proofs.days.intervals_read.Goals as goal
+
+pub returns-in-Read : goal.returns-in-Read
+returns-in-Read c = search (read-intervals, rules)

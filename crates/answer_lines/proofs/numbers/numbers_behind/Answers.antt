@@ -1,0 +1,23 @@
+-- src/answers.rt:20:5
+-- src/answers.rt:21:42
+-- src/answers.rt:21:42
+-- src/answers.rt:21:9
+-- src/answers.rt:22:9
+-- src/answers.rt:20:5
+-- src/answers.rt:20:5
+-- src/answers.rt:15:1
+-- src/answers.rt:15:1
+use Rattle.answer_lines.proofs.Listed.{listed-none, listed_more, listed-all, listed_kept}
+use Rattle.answer_lines.proofs.numbers.numbers_behind.Goals as goal
+
+pub loop-i-init : goal.loop-i-init
+loop-i-init c = search listed-none
+
+pub loop-i-preserved : goal.loop-i-preserved
+loop-i-preserved c = search listed_more
+
+pub shape_of-page : goal.shape_of-page
+shape_of-page c = search listed_kept
+
+pub returns : goal.returns
+returns c = search listed-all

@@ -1,0 +1,19 @@
+-- src/answers.rt:20:5
+-- src/answers.rt:21:42
+-- src/answers.rt:21:42
+-- src/answers.rt:21:9
+-- src/answers.rt:22:9
+-- src/answers.rt:20:5
+-- src/answers.rt:20:5
+-- src/answers.rt:15:1
+-- src/answers.rt:15:1
+use Rattle.answer_lines.proofs.Listed.{Listed}
+use Prim.Native.Nat.{◌-◌}
+use lib.ListN.{length}
+use Rattle.answer_lines.proofs.numbers.numbers_behind.Given as goal
+
+abbrev pub invariant-loop-i : goal.invariant-loop-i
+invariant-loop-i l = Listed l.initial.page l.at l.sign l.list l.page l.p l.i
+
+abbrev pub decreases-loop-i : goal.decreases-loop-i
+decreases-loop-i l = length l.list - l.i

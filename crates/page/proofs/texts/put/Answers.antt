@@ -1,0 +1,28 @@
+-- src/texts.rt:15:9
+-- src/texts.rt:17:16
+-- src/texts.rt:19:9
+-- src/texts.rt:19:9
+-- src/texts.rt:19:9
+-- src/texts.rt:21:25
+-- src/texts.rt:21:5
+-- src/texts.rt:11:1
+-- src/texts.rt:11:1
+use native.Mathlib.Omega.{arith}
+use lib.ListN.{length-take}
+use Rattle.page.proofs.Filling.{filled_none, filled-whole, filled-part, part_room}
+use Rattle.page.proofs.texts.put.Goals as goal
+
+pub returns-then-page-at : goal.returns-then-page-at
+returns-then-page-at c = search filled_none
+
+pub returns-then-text-room : goal.returns-then-text-room
+returns-then-text-room c = search filled-whole
+
+pub slice_bounds-put_bytes-end : goal.slice_bounds-put_bytes-end
+slice_bounds-put_bytes-end c = simp length-take (omega arith)
+
+pub put_bytes-requires-2 : goal.put_bytes-requires-2
+put_bytes-requires-2 c = search part_room
+
+pub returns : goal.returns
+returns c = search filled-part

@@ -1,0 +1,9 @@
+-- `refusals::excerpts::dots` meets its contract. Assumes nothing.
+use Rattle.refusals.proofs.Cutting.{dots-on, dots-off}
+use Rattle.refusals.proofs.excerpts.dots.Goals as goal
+
+pub returns-then-cut : goal.returns-then-cut
+returns-then-cut c = search dots-on
+
+pub returns : goal.returns
+returns c = search dots-off

@@ -1,0 +1,9 @@
+-- `refusals::hints::decimals_in` meets its contract. Assumes nothing.
+use Rattle.refusals.proofs.Hinting.{behind-point, no-point}
+use Rattle.refusals.proofs.hints.decimals_in.Goals as goal
+
+pub returns-then-p-value : goal.returns-then-p-value
+returns-then-p-value c = search behind-point
+
+pub returns : goal.returns
+returns c = search no-point

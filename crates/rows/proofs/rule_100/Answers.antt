@@ -1,0 +1,9 @@
+-- `rows::rule_100` meets its contract. Assumes nothing.
+use Rattle.format.specs.Records.{row100}
+use Rattle.rows.proofs.Rows.{off-row}
+use mathlib.Core.Path.{refl}
+use native.Mathlib.Omega.{arith}
+use Rattle.rows.proofs.rule_100.Goals as goal
+
+pub returns-in_default : goal.returns-in_default
+returns-in_default c = off-row row100 c.args.i (λ h. omega arith) refl

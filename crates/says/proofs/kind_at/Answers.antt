@@ -1,0 +1,10 @@
+-- `says::kind_at` meets its contract. Assumes nothing.
+use Rattle.says.proofs.Fields.{kind-says}
+use Rattle.says.proofs.Fields.{kind-tried}
+use Rattle.says.proofs.kind_at.Goals as goal
+
+pub returns-in-Is : goal.returns-in-Is
+returns-in-Is c = search kind-tried
+
+pub returns : goal.returns
+returns c = search kind-says

@@ -1,0 +1,14 @@
+-- `sums::add_values` meets its contract. Assumes nothing.
+use Prim.Native.Nat.{◌+◌, ◌≤◌, ◌-◌}
+use Rattle.day.specs.Places.{values_from}
+use Rattle.format.specs.Cut.{fields}
+use Rattle.ground.specs.Lists.{part, sum}
+use Rattle.lines.specs.Places.{Rest}
+use mathlib.Core.Path.{◌≡◌}
+use Rattle.sums.proofs.add_values.Given as goal
+
+abbrev pub invariant-loop-i : goal.invariant-loop-i
+invariant-loop-i l = (l.i ≤ l.n) × Rest l.file (fields (part l.file l.a l.e)) l.a l.i l.x l.e × (l.acc + sum (values_from (l.n - l.i) l.i (fields (part l.file l.a l.e))) ≡ l.before + sum (values_from l.n 0 (fields (part l.file l.a l.e))))
+
+abbrev pub decreases-loop-i : goal.decreases-loop-i
+decreases-loop-i l = l.n - l.i

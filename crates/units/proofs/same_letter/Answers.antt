@@ -1,0 +1,5 @@
+-- `units::same_letter` meets its contract. Assumes nothing.
+use Rattle.units.proofs.same_letter.Goals as goal
+
+pub returns : goal.returns
+returns c = cc

@@ -1,0 +1,12 @@
+-- `used_map::is_used` meets its contract: past 64 bits every slot is free (`used-past`), and the others are looked at under the mask 1 (`tested`). Assumes nothing.
+use Rattle.used_map.proofs.Maps.{past, tested}
+use Rattle.used_map.proofs.Slots.{used-past}
+use borrow.Author.Rules.{rules}
+use mathlib.Core.Path.{sym}
+use Rattle.used_map.proofs.is_used.Goals as goal
+
+pub returns-then-s-ge-SLOTS : goal.returns-then-s-ge-SLOTS
+returns-then-s-ge-SLOTS c = sym (used-past _ _ (past _ _ c.ranges.map.fits (search rules)))
+
+pub returns : goal.returns
+returns c = tested _ _

@@ -1,0 +1,12 @@
+-- `words::lists::text_at_lem` meets its contract. Assumes nothing.
+use Rattle.words.proofs.Listed.{reached-first, reached-next, reached-is}
+use Rattle.words.proofs.lists.text_at.Goals as goal
+
+pub loop-k-init : goal.loop-k-init
+loop-k-init c = search reached-first
+
+pub loop-k-preserved : goal.loop-k-preserved
+loop-k-preserved c = search reached-next
+
+pub returns : goal.returns
+returns c = search reached-is
