@@ -26,6 +26,7 @@ pub enum Passed {
 }
 
 // The byte at the cursor, where the buffer holds one that is not yet used.
+#[tactic(auto, unfolding(crate::specs::Taking::held_of))]
 fn held(buf: &[u8], c: Cursor) -> Taken
     ensures { result ≡ held_of buf.now c }
 {
@@ -70,6 +71,7 @@ fn more(rt: &impl Machine, to: &mut [u8], n: usize) -> usize {
 }
 
 // The cursor behind n bytes that the buffer held.
+#[tactic(auto, unfolding(crate::specs::Taking::behind_of))]
 fn behind(c: Cursor, n: usize) -> Cursor
     ensures { result ≡ behind_of c n }
 {

@@ -81,6 +81,7 @@ fn number(rt: &impl Machine, buf: &mut [u8], c: Cursor, end: u8) -> Counted {
 }
 
 // The byte behind number i of n.
+#[tactic(auto, unfolding(crate::specs::Taking::end_after))]
 fn end_at(i: usize, n: usize, last: u8) -> u8
     ensures { result ≡ end_after i n last }
 {
