@@ -15,7 +15,7 @@ pub put_varied-q-requires : goal.put_varied-q-requires
 put_varied-q-requires c = search (varied-room, more-records)
 
 pub put_runs-requires : goal.put_runs-requires
-put_runs-requires c = (search ready_marked, search (cover-room, more-records))
+put_runs-requires c = record { marked = search ready_marked; n_in_bounds = search (cover-room, more-records) }
 
 pub returns : goal.returns
 returns c = search (varied-put, more-records)
