@@ -207,7 +207,7 @@ module _ (st : Due) (p k v c d : ℕ) (r : List ℕ) (ls : Lines) (ih : Told ls 
         more = record {
           blocks = b ∷ m.blocks;
           good = (g, m.good);
-          rising = rw t ((fit-300 st r fit q).1, m.rising);
+          rising = (rw t ((fit-300 st r fit q).1), subst (λ (x : Record). Rising (date_in x ∷ dates_of m.blocks)) (sym t) m.rising);
           channels = m.channels;
           each = m.each;
           last = m.last;

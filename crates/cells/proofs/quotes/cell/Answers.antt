@@ -1,0 +1,9 @@
+-- `cells::quotes::cell` meets its contract. Assumes nothing.
+use Rattle.cells.proofs.Doubling.{cell-plain, cell-quoted}
+use Rattle.cells.proofs.quotes.cell.Goals as goal
+
+pub returns-then-first_at-text : goal.returns-then-first_at-text
+returns-then-first_at-text c = search cell-plain
+
+pub returns : goal.returns
+returns c = search cell-quoted

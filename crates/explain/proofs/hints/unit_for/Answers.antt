@@ -1,0 +1,9 @@
+-- `explain::hints::unit_for` meets its contract. Assumes nothing.
+use Rattle.explain.proofs.Saying.{unit-own, unit-channel}
+use Rattle.explain.proofs.hints.unit_for.Goals as goal
+
+pub returns-then-r-eq250 : goal.returns-then-r-eq250
+returns-then-r-eq250 c = search unit-own
+
+pub returns : goal.returns
+returns c = search unit-channel

@@ -1,0 +1,6 @@
+-- `listing::lines::amounts` meets its contract. Assumes nothing.
+use Rattle.listing.proofs.Columns.{three-columns}
+use Rattle.listing.proofs.lines.amounts.Goals as goal
+
+pub returns : goal.returns
+returns c = search three-columns

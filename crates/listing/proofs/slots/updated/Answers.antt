@@ -1,0 +1,6 @@
+-- `listing::slots::updated` meets its contract. Assumes nothing.
+use Rattle.listing.proofs.Columns.{text-put}
+use Rattle.listing.proofs.slots.updated.Goals as goal
+
+pub returns : goal.returns
+returns c = search text-put

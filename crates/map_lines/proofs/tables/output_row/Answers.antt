@@ -1,0 +1,6 @@
+-- `map_lines::tables::output_row` meets its contract. Assumes nothing.
+use Rattle.map_lines.proofs.Fours.{four-columns}
+use Rattle.map_lines.proofs.tables.output_row.Goals as goal
+
+pub returns : goal.returns
+returns c = search four-columns

@@ -1,0 +1,16 @@
+-- `named::is_dashed` meets its contract. Assumes nothing.
+use Rattle.named.specs.Named.{is_dashed}
+use Rattle.ground.proofs.Tests.{tests}
+use Rattle.named.proofs.is_dashed.Goals as goal
+
+pub returns-then-word-ne10 : goal.returns-then-word-ne10
+unfolding is_dashed
+returns-then-word-ne10 c = search tests
+
+pub returns-then-word-ne45 : goal.returns-then-word-ne45
+unfolding is_dashed
+returns-then-word-ne45 c = search tests
+
+pub returns : goal.returns
+unfolding is_dashed
+returns c = search tests

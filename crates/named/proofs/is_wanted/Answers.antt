@@ -1,0 +1,13 @@
+-- `named::is_wanted` meets its contract. Assumes nothing.
+use Rattle.day.proofs.Find.{day-order, room-behind, heads-found}
+use Rattle.named.proofs.Search.{wanted-at, wanted-none}
+use Rattle.named.proofs.is_wanted.Goals as goal
+
+pub has_key-requires : goal.has_key-requires
+has_key-requires c = (search day-order, search room-behind, search heads-found)
+
+pub returns-in-At : goal.returns-in-At
+returns-in-At c = search wanted-at
+
+pub returns-in-Missing : goal.returns-in-Missing
+returns-in-Missing c = search wanted-none
