@@ -5,10 +5,15 @@
 use disk::{Loaded, load_word};
 use format::Number;
 use leaf::digits::digits;
+use machine::{Machine, PAGE, WORD};
 use month::read_days;
 use months::DaysRead;
-use outward::{FAILED, REFUSED, tell, write_line};
+use outward::{FAILED, REFUSED, finish, write_line};
 use page::texts::{number, part, put};
+use std::alloc::{AllocError, Global};
+
+// A place more than the longest file has, so that a longer one is seen to be one.
+const ROOM: usize = 1048577;
 
 // Places for the intervals and the days of the files to measure with: a file that has more is refused (15).
 const INTERVALS: usize = 174240;
@@ -16,9 +21,9 @@ const INTERVALS: usize = 174240;
 const DAYS: usize = 10240;
 
 // A day's number: 0 where the word is none.
-fn day_word(i: usize) -> usize {
-    let mut word = io::buffer();
-    let n = os::arg(i, &mut word);
+fn day_word(rt: &impl Machine, i: usize) -> usize {
+    let mut word = [0u8; WORD];
+    let n = rt.arg(i, &mut word);
     let said = digits(&word[..n], 1, 9);
     match said {
         Number::Is(v) => v as usize,
@@ -26,23 +31,23 @@ fn day_word(i: usize) -> usize {
     }
 }
 
-fn answered(page: &mut [u8], x: DaysRead) -> u8 {
+fn answered(rt: &impl Machine, page: &mut [u8], x: DaysRead) -> u8 {
     match x {
         DaysRead::Read { days, intervals } => {
             let p = number(page, 0, days as u64);
             let q = put(page, p, b" ");
             let r = number(page, q, intervals as u64);
-            write_line(page, r)
+            write_line(rt, page, r)
         }
         DaysRead::Refused(refusal) => {
             let p = number(page, 0, refusal.number);
-            write_line(page, p);
+            write_line(rt, page, p);
             REFUSED
         }
     }
 }
 
-fn read_into(page: &mut [u8], file: &[u8], first: usize, last: usize) -> u8 {
+fn read_into(rt: &impl Machine, page: &mut [u8], file: &[u8], first: usize, last: usize) -> u8 {
     let mut values = [0u64; INTERVALS];
     let mut flags = [0u8; INTERVALS];
     let mut methods = [0u8; INTERVALS];
@@ -70,23 +75,22 @@ fn read_into(page: &mut [u8], file: &[u8], first: usize, last: usize) -> u8 {
         &mut loads,
         &mut units,
     );
-    answered(page, x)
+    answered(rt, page, x)
 }
 
-fn show(page: &mut [u8], room: &mut [u8]) -> u8 {
-    let Loaded::Bytes(k) = load_word(1, room) else {
+fn show(rt: &impl Machine, page: &mut [u8], room: &mut [u8]) -> u8 {
+    let Loaded::Bytes(k) = load_word(rt, 1, room) else {
         return FAILED;
     };
-    read_into(page, part(room, 0, k), day_word(2), day_word(3))
+    read_into(rt, page, part(room, 0, k), day_word(rt, 2), day_word(rt, 3))
 }
 
-fn go(room: &mut [u8]) {
-    let mut page = io::large_buffer();
-    tell(show(&mut page, room));
+fn run(rt: &impl Machine, alloc: Global) -> Result<u8, AllocError> {
+    let mut page = [0u8; PAGE];
+    let mut room = vec![in alloc; 0u8; ROOM]?;
+    Ok(show(rt, &mut page, &mut room))
 }
 
-// A place more than the longest file has, so that a longer one is seen to be one.
-fn main() {
-    let mut room = [0u8; 1048577];
-    go(&mut room);
+fn main(rt: HostRuntime) {
+    finish(&rt, run(&rt, rt.alloc()));
 }

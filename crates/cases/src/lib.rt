@@ -12,6 +12,7 @@ use edit_calls::find;
 use input::Going;
 use input::bytes::{Cursor, Passed, fill_line};
 use input::numbers::head;
+use machine::Machine;
 use page::texts::part;
 
 // The most minutes that an interval length can be handed in as.
@@ -32,25 +33,46 @@ fn last(numbers: &[u64]) -> u64
 }
 
 // The rest of the case's word, its numbers, and the file, whose length is the last of them.
-fn file_in(buf: &mut [u8], c: Cursor, word: &[u8], numbers: &mut [u64], file: &mut [u8]) -> Passed {
-    let Passed::To(after) = head(buf, c, word, numbers) else {
+fn file_in(
+    rt: &impl Machine,
+    buf: &mut [u8],
+    c: Cursor,
+    word: &[u8],
+    numbers: &mut [u64],
+    file: &mut [u8],
+) -> Passed {
+    let Passed::To(after) = head(rt, buf, c, word, numbers) else {
         return Passed::Bad;
     };
-    fill_line(buf, after, last(numbers) as usize, file)
+    fill_line(rt, buf, after, last(numbers) as usize, file)
 }
 
-pub fn check_case(buf: &mut [u8], c: Cursor, file: &mut [u8], page: &mut [u8], at: usize) -> Going {
+pub fn check_case(
+    rt: &impl Machine,
+    buf: &mut [u8],
+    c: Cursor,
+    file: &mut [u8],
+    page: &mut [u8],
+    at: usize,
+) -> Going {
     let mut numbers = [0u64; 1];
-    let Passed::To(after) = file_in(buf, c, b"heck ", &mut numbers, file) else {
+    let Passed::To(after) = file_in(rt, buf, c, b"heck ", &mut numbers, file) else {
         return Going::Bad;
     };
     let n = numbers[0] as usize;
     Going::On(after, files::checked(part(file, 0, n), page, at))
 }
 
-pub fn total_case(buf: &mut [u8], c: Cursor, file: &mut [u8], page: &mut [u8], at: usize) -> Going {
+pub fn total_case(
+    rt: &impl Machine,
+    buf: &mut [u8],
+    c: Cursor,
+    file: &mut [u8],
+    page: &mut [u8],
+    at: usize,
+) -> Going {
     let mut numbers = [0u64; 2];
-    let Passed::To(after) = file_in(buf, c, b"otal ", &mut numbers, file) else {
+    let Passed::To(after) = file_in(rt, buf, c, b"otal ", &mut numbers, file) else {
         return Going::Bad;
     };
     let k = numbers[0] as usize;
@@ -58,9 +80,16 @@ pub fn total_case(buf: &mut [u8], c: Cursor, file: &mut [u8], page: &mut [u8], a
     Going::On(after, files::totalled(part(file, 0, n), k, page, at))
 }
 
-pub fn find_case(buf: &mut [u8], c: Cursor, file: &mut [u8], page: &mut [u8], at: usize) -> Going {
+pub fn find_case(
+    rt: &impl Machine,
+    buf: &mut [u8],
+    c: Cursor,
+    file: &mut [u8],
+    page: &mut [u8],
+    at: usize,
+) -> Going {
     let mut numbers = [0u64; 2];
-    let Passed::To(after) = file_in(buf, c, b"ind ", &mut numbers, file) else {
+    let Passed::To(after) = file_in(rt, buf, c, b"ind ", &mut numbers, file) else {
         return Going::Bad;
     };
     let k = numbers[0] as usize;
@@ -68,9 +97,16 @@ pub fn find_case(buf: &mut [u8], c: Cursor, file: &mut [u8], page: &mut [u8], at
     Going::On(after, find(part(file, 0, n), k, page, at))
 }
 
-pub fn block_case(buf: &mut [u8], c: Cursor, file: &mut [u8], page: &mut [u8], at: usize) -> Going {
+pub fn block_case(
+    rt: &impl Machine,
+    buf: &mut [u8],
+    c: Cursor,
+    file: &mut [u8],
+    page: &mut [u8],
+    at: usize,
+) -> Going {
     let mut numbers = [0u64; 3];
-    let Passed::To(after) = file_in(buf, c, b"ock ", &mut numbers, file) else {
+    let Passed::To(after) = file_in(rt, buf, c, b"ock ", &mut numbers, file) else {
         return Going::Bad;
     };
     let minutes = numbers[0];
@@ -88,9 +124,16 @@ pub fn block_case(buf: &mut [u8], c: Cursor, file: &mut [u8], page: &mut [u8], a
     )
 }
 
-pub fn day_case(buf: &mut [u8], c: Cursor, file: &mut [u8], page: &mut [u8], at: usize) -> Going {
+pub fn day_case(
+    rt: &impl Machine,
+    buf: &mut [u8],
+    c: Cursor,
+    file: &mut [u8],
+    page: &mut [u8],
+    at: usize,
+) -> Going {
     let mut numbers = [0u64; 3];
-    let Passed::To(after) = file_in(buf, c, b"y ", &mut numbers, file) else {
+    let Passed::To(after) = file_in(rt, buf, c, b"y ", &mut numbers, file) else {
         return Going::Bad;
     };
     let k = numbers[0] as usize;

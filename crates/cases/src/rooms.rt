@@ -6,28 +6,38 @@ use edit_calls::{Edited, replace};
 use input::Going;
 use input::bytes::{Cursor, Passed, fill, fill_line};
 use input::numbers::head;
+use machine::Machine;
+use output::write;
 use page::texts::part;
 
 // All of the room, and behind it a block of n bytes.
-fn room_in(buf: &mut [u8], c: Cursor, room: &mut [u8], n: usize, block: &mut [u8]) -> Passed {
-    let Passed::To(after) = fill(buf, c, room) else {
+fn room_in(
+    rt: &impl Machine,
+    buf: &mut [u8],
+    c: Cursor,
+    room: &mut [u8],
+    n: usize,
+    block: &mut [u8],
+) -> Passed {
+    let Passed::To(after) = fill(rt, buf, c, room) else {
         return Passed::Bad;
     };
-    fill_line(buf, after, n, block)
+    fill_line(rt, buf, after, n, block)
 }
 
 // The room behind its line, which is written out first.
-fn room_out(page: &[u8], room: &[u8], x: Edited) -> usize {
+fn room_out(rt: &impl Machine, page: &[u8], room: &[u8], x: Edited) -> usize {
     if x.bytes == 0 {
         return x.at;
     }
-    io::write_all(libc::STDOUT_FILENO, part(page, 0, x.at));
-    io::write_all(libc::STDOUT_FILENO, part(room, 0, x.bytes));
+    write(rt, page, x.at);
+    write(rt, room, x.bytes);
     0
 }
 
 // Day k of the n bytes in front of the room, replaced by the block, of that many bytes, that stands behind the room on standard input.
 fn replace_in(
+    rt: &impl Machine,
     buf: &mut [u8],
     c: Cursor,
     k: usize,
@@ -41,15 +51,16 @@ fn replace_in(
 ) -> Going
     requires { length room.old ≤ length copy.old }
 {
-    let Passed::To(after) = room_in(buf, c, room, bytes, block) else {
+    let Passed::To(after) = room_in(rt, buf, c, room, bytes, block) else {
         return Going::Bad;
     };
     let x = replace(room, copy, n, k, part(block, 0, bytes), page, at);
-    Going::On(after, room_out(page, room, x))
+    Going::On(after, room_out(rt, page, room, x))
 }
 
 // The room and its copy are as long as the longest room that can be handed in.
 pub fn replace_case(
+    rt: &impl Machine,
     buf: &mut [u8],
     c: Cursor,
     room: &mut [u8],
@@ -59,7 +70,7 @@ pub fn replace_case(
     at: usize,
 ) -> Going {
     let mut numbers = [0u64; 4];
-    let Passed::To(after) = head(buf, c, b"eplace ", &mut numbers) else {
+    let Passed::To(after) = head(rt, buf, c, b"eplace ", &mut numbers) else {
         return Going::Bad;
     };
     let k = numbers[0] as usize;
@@ -73,6 +84,7 @@ pub fn replace_case(
         return Going::Bad;
     }
     replace_in(
+        rt,
         buf,
         after,
         k,

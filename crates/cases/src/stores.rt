@@ -3,6 +3,8 @@ use calls::PLACES;
 use input::bytes::{Cursor, Passed, fill_both, fill_line};
 use input::numbers::{head, head_alone};
 use input::{Going, text};
+use machine::Machine;
+use output::write;
 use page::items::u64_at;
 use page::texts::{number, part, put};
 use store_calls::{delete, get, make, slot};
@@ -21,6 +23,7 @@ fn lent_line(page: &mut [u8], at: usize, word: &[u8], size: usize) -> usize {
 }
 
 pub fn memory_case(
+    rt: &impl Machine,
     buf: &mut [u8],
     c: Cursor,
     memory: &mut [u8],
@@ -28,11 +31,11 @@ pub fn memory_case(
     at: usize,
 ) -> Going {
     let mut numbers = [0u64; 1];
-    let Passed::To(after) = head(buf, c, b"mory ", &mut numbers) else {
+    let Passed::To(after) = head(rt, buf, c, b"mory ", &mut numbers) else {
         return Going::Bad;
     };
     let size = numbers[0] as usize;
-    let Passed::To(end) = fill_line(buf, after, size, memory) else {
+    let Passed::To(end) = fill_line(rt, buf, after, size, memory) else {
         return Going::Bad;
     };
     Going::Lent(end, lent_line(page, at, b"memory ", size), size)
@@ -40,6 +43,7 @@ pub fn memory_case(
 
 // The memory behind its line, which is written out first, with what stands before it on the page.
 pub fn bytes_case(
+    rt: &impl Machine,
     buf: &mut [u8],
     c: Cursor,
     memory: &[u8],
@@ -47,12 +51,12 @@ pub fn bytes_case(
     page: &mut [u8],
     at: usize,
 ) -> Going {
-    let Passed::To(after) = text(buf, c, b"tes\n\n") else {
+    let Passed::To(after) = text(rt, buf, c, b"tes\n\n") else {
         return Going::Bad;
     };
     let p = lent_line(page, at, b"bytes ", size);
-    io::write_all(libc::STDOUT_FILENO, part(page, 0, p));
-    io::write_all(libc::STDOUT_FILENO, part(memory, 0, size));
+    write(rt, page, p);
+    write(rt, memory, size);
     Going::On(after, 0)
 }
 
@@ -76,6 +80,7 @@ fn make_lent(
 
 // Behind the word and its space, which tells it from the making of a map.
 pub fn make_case(
+    rt: &impl Machine,
     buf: &mut [u8],
     c: Cursor,
     memory: &mut [u8],
@@ -85,7 +90,7 @@ pub fn make_case(
     at: usize,
 ) -> Going {
     let mut numbers = [0u64; 1];
-    let Passed::To(after) = head_alone(buf, c, b"", &mut numbers) else {
+    let Passed::To(after) = head_alone(rt, buf, c, b"", &mut numbers) else {
         return Going::Bad;
     };
     let slots = numbers[0];
@@ -96,6 +101,7 @@ pub fn make_case(
 }
 
 pub fn slot_case(
+    rt: &impl Machine,
     buf: &mut [u8],
     c: Cursor,
     memory: &[u8],
@@ -104,7 +110,7 @@ pub fn slot_case(
     at: usize,
 ) -> Going {
     let mut numbers = [0u64; 1];
-    let Passed::To(after) = head_alone(buf, c, b"ot ", &mut numbers) else {
+    let Passed::To(after) = head_alone(rt, buf, c, b"ot ", &mut numbers) else {
         return Going::Bad;
     };
     let k = numbers[0] as usize;
@@ -113,6 +119,7 @@ pub fn slot_case(
 
 // The numbers of a case that names a key, and behind its first line NMI and suffix, whose lengths are the first two of them.
 fn key_in(
+    rt: &impl Machine,
     buf: &mut [u8],
     c: Cursor,
     word: &[u8],
@@ -120,10 +127,11 @@ fn key_in(
     nmi: &mut [u8],
     suffix: &mut [u8],
 ) -> Passed {
-    let Passed::To(behind) = head(buf, c, word, numbers) else {
+    let Passed::To(behind) = head(rt, buf, c, word, numbers) else {
         return Passed::Bad;
     };
     fill_both(
+        rt,
         buf,
         behind,
         u64_at(numbers, 0) as usize,
@@ -169,6 +177,7 @@ fn get_named(
 
 // The numbers, NMI and suffix are lent to work in.
 fn get_with(
+    rt: &impl Machine,
     buf: &mut [u8],
     c: Cursor,
     memory: &[u8],
@@ -179,13 +188,14 @@ fn get_with(
     nmi: &mut [u8],
     suffix: &mut [u8],
 ) -> Going {
-    let Passed::To(after) = key_in(buf, c, b"et ", numbers, nmi, suffix) else {
+    let Passed::To(after) = key_in(rt, buf, c, b"et ", numbers, nmi, suffix) else {
         return Going::Bad;
     };
     get_named(part(memory, 0, size), numbers, nmi, suffix, after, page, at)
 }
 
 pub fn get_case(
+    rt: &impl Machine,
     buf: &mut [u8],
     c: Cursor,
     memory: &[u8],
@@ -197,6 +207,7 @@ pub fn get_case(
     let mut nmi = [0u8; MOST_KEY];
     let mut suffix = [0u8; MOST_KEY];
     get_with(
+        rt,
         buf,
         c,
         memory,
@@ -264,6 +275,7 @@ fn delete_named(
 
 // The numbers, NMI and suffix are lent to work in.
 fn delete_with(
+    rt: &impl Machine,
     buf: &mut [u8],
     c: Cursor,
     memory: &mut [u8],
@@ -275,13 +287,14 @@ fn delete_with(
     nmi: &mut [u8],
     suffix: &mut [u8],
 ) -> Going {
-    let Passed::To(after) = key_in(buf, c, b"lete ", numbers, nmi, suffix) else {
+    let Passed::To(after) = key_in(rt, buf, c, b"lete ", numbers, nmi, suffix) else {
         return Going::Bad;
     };
     delete_named(memory, size, copy, numbers, nmi, suffix, after, page, at)
 }
 
 pub fn delete_case(
+    rt: &impl Machine,
     buf: &mut [u8],
     c: Cursor,
     memory: &mut [u8],
@@ -294,6 +307,7 @@ pub fn delete_case(
     let mut nmi = [0u8; MOST_KEY];
     let mut suffix = [0u8; MOST_KEY];
     delete_with(
+        rt,
         buf,
         c,
         memory,

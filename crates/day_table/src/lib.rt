@@ -4,9 +4,11 @@
 
 use day_rows::{interval, top};
 use format::DayHead;
+use machine::Machine;
 use outward::{DONE, write};
 
 fn write_intervals(
+    rt: &impl Machine,
     page: &mut [u8],
     text: &[u8],
     n: usize,
@@ -22,7 +24,7 @@ fn write_intervals(
         let p = interval(
             page, text, i, n, values, flags, methods, reasons, starts, lengths,
         );
-        let status = write(page, p);
+        let status = write(rt, page, p);
         if status != DONE {
             return status;
         }
@@ -33,6 +35,7 @@ fn write_intervals(
 
 // The day of n intervals, whose descriptions stand in the text.
 pub fn write_table(
+    rt: &impl Machine,
     page: &mut [u8],
     text: &[u8],
     day: DayHead,
@@ -45,8 +48,8 @@ pub fn write_table(
     lengths: &[usize],
 ) -> u8 {
     let p = top(page, day, n);
-    write(page, p);
+    write(rt, page, p);
     write_intervals(
-        page, text, n, values, flags, methods, reasons, starts, lengths,
+        rt, page, text, n, values, flags, methods, reasons, starts, lengths,
     )
 }

@@ -1,22 +1,11 @@
--- A byte that is expected, a number with one more digit, below 2^64 or not, and the byte behind it. Assumes nothing.
+-- A number with one more digit, below 2^64 or not. Assumes nothing.
 use Prim.Native.Nat.{ℕ, ◌+◌, ◌-◌, ◌*◌, ◌^◌, ◌≤◌, ◌<◌}
 use mathlib.Core.Path.{◌≡◌}
 use native.Mathlib.Omega.{arith}
-use borrow.Author.Tests.{le-leb, lt-leb, lt-ltb, le-ltb, eq-eqb, ne_eqb}
+use borrow.Author.Tests.{le-leb, lt-leb, lt-ltb, le-ltb}
 use Rattle.ground.specs.Digits.{is_digit}
-use Rattle.input.specs.Taking.{expected_of, grown_of, end_after}
-use Rattle.input.specs.declared.bytes.Cursor.{Cursor}
-use Rattle.input.specs.declared.bytes.Taken.{Taken}
-use Rattle.input.specs.declared.bytes.Taken.TheVariants.{Byte}
-use Rattle.input.specs.declared.bytes.Passed.TheVariants as passed
+use Rattle.input.specs.Taking.{grown_of}
 use Rattle.input.specs.declared.numbers.Grown.TheVariants as grown
-
-module _ (t : Taken) (sign b : ℕ) (c : Cursor) (e : t ≡ Byte b c) where
-  pub expected-there : b ≡ sign → passed.To c ≡ expected_of sign t
-  expected-there h = rw (e, eq-eqb _ _ h)
-
-  pub expected-other : (b ≡ sign → ⊥) → passed.Bad ≡ expected_of sign t
-  expected-other h = rw (e, ne_eqb _ _ h)
 
 module _ (v b : ℕ) where
   pub grown-low : b < 48 → grown.Bad ≡ grown_of v b
@@ -48,16 +37,3 @@ module _ (v b : ℕ) where
 
     pub grown-last : v ≤ 1844674407370955161 → b - 48 ≤ 5 → grown.To (v * 10 + (b - 48)) ≡ grown_of v b
     grown-last k m = fits (omega arith)
-
-module _ (i n last : ℕ) where
-  pub end-past : n ≤ i → last ≡ end_after i n last
-  unfolding end_after
-  end-past h = let g : n ≤ i + 1 = omega arith in rw (le-ltb _ _ g)
-
-  pub end-last : n ≤ i + 1 → last ≡ end_after i n last
-  unfolding end_after
-  end-last h = rw (le-ltb _ _ h)
-
-  pub end-between : i + 1 < n → 32 ≡ end_after i n last
-  unfolding end_after
-  end-between h = rw (lt-ltb _ _ h)

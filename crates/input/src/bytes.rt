@@ -1,8 +1,9 @@
 // Bytes of standard input. Bytes at..end of the buffer are read and not yet used.
-ghost use Rattle.std.specs.Prelude.{◌≡◌};
+ghost use Rattle.std.specs.Prelude.{◌≡◌, ◌≤◌, length};
 ghost use Rattle.input.specs.Taking.{held_of, behind_of};
 
 use super::byte;
+use machine::Machine;
 use page::texts::{part, put};
 
 #[derive(Clone, Copy)]
@@ -25,6 +26,7 @@ pub enum Passed {
 }
 
 // The byte at the cursor, where the buffer holds one that is not yet used.
+#[tactic(auto, unfolding(crate::specs::Taking::held_of))]
 fn held(buf: &[u8], c: Cursor) -> Taken
     ensures { result ≡ held_of buf.now c }
 {
@@ -39,29 +41,37 @@ fn held(buf: &[u8], c: Cursor) -> Taken
     Taken::Byte(buf[at], Cursor { at: at + 1, end })
 }
 
+// One read: how many bytes stand at the start of the buffer then, none where there are no more or they can't be read.
+fn read(rt: &impl Machine, buf: &mut [u8]) -> usize
+    ensures { result ≤ length buf.new }
+{
+    match rt.read(buf) {
+        Ok(n) => n,
+        Err(_) => 0,
+    }
+}
+
 // The next byte, with the buffer filled anew where it is used up.
-pub fn next(buf: &mut [u8], c: Cursor) -> Taken {
+pub fn next(rt: &impl Machine, buf: &mut [u8], c: Cursor) -> Taken {
     let t = held(buf, c);
     if let Taken::Byte(b, after) = t {
         return Taken::Byte(b, after);
     }
-    let got = libc::read(libc::STDIN_FILENO, buf);
-    let n = io::count(got, buf);
+    let n = read(rt, buf);
     held(buf, Cursor { at: 0, end: n })
 }
 
 // One read behind the first n bytes of the list: how many bytes it has then.
-fn more(to: &mut [u8], n: usize) -> usize {
+fn more(rt: &impl Machine, to: &mut [u8], n: usize) -> usize {
     if to.len() <= n {
         return n;
     }
-    let rest = &mut to[n..];
-    let got = libc::read(libc::STDIN_FILENO, rest);
-    let k = io::count(got, rest);
+    let k = read(rt, &mut to[n..]);
     n + k
 }
 
 // The cursor behind n bytes that the buffer held.
+#[tactic(auto, unfolding(crate::specs::Taking::behind_of))]
 fn behind(c: Cursor, n: usize) -> Cursor
     ensures { result ≡ behind_of c n }
 {
@@ -77,11 +87,11 @@ fn behind(c: Cursor, n: usize) -> Cursor
 }
 
 // Fills the list, past the buffer where that is used up.
-pub fn fill(buf: &[u8], c: Cursor, to: &mut [u8]) -> Passed {
+pub fn fill(rt: &impl Machine, buf: &[u8], c: Cursor, to: &mut [u8]) -> Passed {
     let first = put(to, 0, part(buf, c.at, c.end));
     let mut n = first;
     while n < to.len() {
-        let k = more(to, n);
+        let k = more(rt, to, n);
         if k <= n {
             return Passed::Bad;
         }
@@ -91,18 +101,25 @@ pub fn fill(buf: &[u8], c: Cursor, to: &mut [u8]) -> Passed {
 }
 
 // The first n places of the list, and the line's end behind them.
-pub fn fill_line(buf: &mut [u8], c: Cursor, n: usize, list: &mut [u8]) -> Passed {
+pub fn fill_line(
+    rt: &impl Machine,
+    buf: &mut [u8],
+    c: Cursor,
+    n: usize,
+    list: &mut [u8],
+) -> Passed {
     if list.len() < n {
         return Passed::Bad;
     }
-    let Passed::To(after) = fill(buf, c, &mut list[..n]) else {
+    let Passed::To(after) = fill(rt, buf, c, &mut list[..n]) else {
         return Passed::Bad;
     };
-    byte(buf, after, b'\n')
+    byte(rt, buf, after, b'\n')
 }
 
 // The first n places of one list, the first k of another behind them, and the line's end.
 pub fn fill_both(
+    rt: &impl Machine,
     buf: &mut [u8],
     c: Cursor,
     n: usize,
@@ -113,8 +130,8 @@ pub fn fill_both(
     if one.len() < n {
         return Passed::Bad;
     }
-    let Passed::To(after) = fill(buf, c, &mut one[..n]) else {
+    let Passed::To(after) = fill(rt, buf, c, &mut one[..n]) else {
         return Passed::Bad;
     };
-    fill_line(buf, after, k, other)
+    fill_line(rt, buf, after, k, other)
 }

@@ -9,6 +9,7 @@ ghost use Rattle.std.specs.Prelude.{◌≡◌};
 ghost use Rattle.input.specs.Taking.{expected_of};
 
 use bytes::{Cursor, Passed, Taken, next};
+use machine::Machine;
 
 // What a case of the probe has come to: answered, with the input behind it and the page's place behind its answer; the same, and so many bytes of memory are lent
 // from now on; there was none; or it was no case.
@@ -36,16 +37,16 @@ fn expected(t: Taken, sign: u8) -> Passed
 }
 
 // The byte, and no other.
-pub fn byte(buf: &mut [u8], c: Cursor, sign: u8) -> Passed {
-    expected(next(buf, c), sign)
+pub fn byte(rt: &impl Machine, buf: &mut [u8], c: Cursor, sign: u8) -> Passed {
+    expected(next(rt, buf, c), sign)
 }
 
 // The text, and no other.
-pub fn text(buf: &mut [u8], c: Cursor, signs: &[u8]) -> Passed {
+pub fn text(rt: &impl Machine, buf: &mut [u8], c: Cursor, signs: &[u8]) -> Passed {
     let mut now = c;
     let mut i: usize = 0;
     while i < signs.len() {
-        let Passed::To(after) = byte(buf, now, signs[i]) else {
+        let Passed::To(after) = byte(rt, buf, now, signs[i]) else {
             return Passed::Bad;
         };
         now = after;

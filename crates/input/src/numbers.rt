@@ -4,6 +4,7 @@ ghost use Rattle.input.specs.Taking.{grown_of, end_after};
 
 use super::bytes::{Cursor, Passed, Taken, next};
 use super::{byte, text};
+use machine::Machine;
 
 // Nothing says that a number ends, so the loop over its digits has a count that falls.
 const TURNS: u64 = 18446744073709551615;
@@ -47,13 +48,13 @@ fn with_digit(v: u64, digit: u8) -> Grown
 }
 
 // The rest of a number whose first digits write v, up to the byte that ends it.
-fn number_from(buf: &mut [u8], c: Cursor, v: u64, end: u8) -> Counted {
+fn number_from(rt: &impl Machine, buf: &mut [u8], c: Cursor, v: u64, end: u8) -> Counted {
     let mut now = c;
     let mut sum = v;
     let mut turns = TURNS;
     while 0 < turns {
         turns -= 1;
-        let Taken::Byte(b, after) = next(buf, now) else {
+        let Taken::Byte(b, after) = next(rt, buf, now) else {
             return Counted::Bad;
         };
         if b == end {
@@ -69,17 +70,18 @@ fn number_from(buf: &mut [u8], c: Cursor, v: u64, end: u8) -> Counted {
 }
 
 // A number of a digit or more, and the byte that ends it.
-fn number(buf: &mut [u8], c: Cursor, end: u8) -> Counted {
-    let Taken::Byte(b, after) = next(buf, c) else {
+fn number(rt: &impl Machine, buf: &mut [u8], c: Cursor, end: u8) -> Counted {
+    let Taken::Byte(b, after) = next(rt, buf, c) else {
         return Counted::Bad;
     };
     let Grown::To(v) = with_digit(0, b) else {
         return Counted::Bad;
     };
-    number_from(buf, after, v, end)
+    number_from(rt, buf, after, v, end)
 }
 
 // The byte behind number i of n.
+#[tactic(auto, unfolding(crate::specs::Taking::end_after))]
 fn end_at(i: usize, n: usize, last: u8) -> u8
     ensures { result ≡ end_after i n last }
 {
@@ -93,11 +95,11 @@ fn end_at(i: usize, n: usize, last: u8) -> u8
 }
 
 // As many numbers as the list has places: a space behind each, and another byte behind the last.
-fn row(buf: &mut [u8], c: Cursor, list: &mut [u64], last: u8) -> Passed {
+fn row(rt: &impl Machine, buf: &mut [u8], c: Cursor, list: &mut [u64], last: u8) -> Passed {
     let mut now = c;
     let mut i: usize = 0;
     while i < list.len() {
-        let Counted::Is(v, after) = number(buf, now, end_at(i, list.len(), last)) else {
+        let Counted::Is(v, after) = number(rt, buf, now, end_at(i, list.len(), last)) else {
             return Passed::Bad;
         };
         list[i] = v;
@@ -108,25 +110,31 @@ fn row(buf: &mut [u8], c: Cursor, list: &mut [u64], last: u8) -> Passed {
 }
 
 // The first line of a case: the rest of its word, then numbers.
-pub fn head(buf: &mut [u8], c: Cursor, word: &[u8], list: &mut [u64]) -> Passed {
-    let Passed::To(after) = text(buf, c, word) else {
+pub fn head(rt: &impl Machine, buf: &mut [u8], c: Cursor, word: &[u8], list: &mut [u64]) -> Passed {
+    let Passed::To(after) = text(rt, buf, c, word) else {
         return Passed::Bad;
     };
-    row(buf, after, list, b'\n')
+    row(rt, buf, after, list, b'\n')
 }
 
 // The first line of a case without bytes, and the case's own line's end.
-pub fn head_alone(buf: &mut [u8], c: Cursor, word: &[u8], list: &mut [u64]) -> Passed {
-    let Passed::To(after) = head(buf, c, word, list) else {
+pub fn head_alone(
+    rt: &impl Machine,
+    buf: &mut [u8],
+    c: Cursor,
+    word: &[u8],
+    list: &mut [u64],
+) -> Passed {
+    let Passed::To(after) = head(rt, buf, c, word, list) else {
         return Passed::Bad;
     };
-    byte(buf, after, b'\n')
+    byte(rt, buf, after, b'\n')
 }
 
 // A line of numbers, a space behind each.
-pub fn line(buf: &mut [u8], c: Cursor, list: &mut [u64]) -> Passed {
-    let Passed::To(after) = row(buf, c, list, b' ') else {
+pub fn line(rt: &impl Machine, buf: &mut [u8], c: Cursor, list: &mut [u64]) -> Passed {
+    let Passed::To(after) = row(rt, buf, c, list, b' ') else {
         return Passed::Bad;
     };
-    byte(buf, after, b'\n')
+    byte(rt, buf, after, b'\n')
 }

@@ -8,6 +8,7 @@ use calls::PLACES;
 use input::bytes::{Cursor, Passed, fill_line};
 use input::numbers::{head, head_alone, line};
 use input::{Going, byte, text};
+use machine::Machine;
 use map_calls::{KEY_BYTES, add, back, make, on};
 use page::texts::part;
 use sheet::lists::{below, halves_of};
@@ -32,6 +33,7 @@ fn lent(memory: &mut [u8], size: usize, room: usize) -> &mut [u8]
 }
 
 pub fn make_map_case(
+    rt: &impl Machine,
     buf: &mut [u8],
     c: Cursor,
     memory: &mut [u8],
@@ -40,7 +42,7 @@ pub fn make_map_case(
     page: &mut [u8],
     at: usize,
 ) -> Going {
-    let Passed::To(after) = text(buf, c, b"ap\n\n") else {
+    let Passed::To(after) = text(rt, buf, c, b"ap\n\n") else {
         return Going::Bad;
     };
     let room = copy.len();
@@ -50,14 +52,21 @@ pub fn make_map_case(
 // ---- a version is added
 
 // Key bytes, a line of shares, and the case's own line's end.
-fn entries_in(buf: &mut [u8], c: Cursor, k: usize, keys: &mut [u8], shares: &mut [u64]) -> Passed {
-    let Passed::To(behind) = fill_line(buf, c, k, keys) else {
+fn entries_in(
+    rt: &impl Machine,
+    buf: &mut [u8],
+    c: Cursor,
+    k: usize,
+    keys: &mut [u8],
+    shares: &mut [u64],
+) -> Passed {
+    let Passed::To(behind) = fill_line(rt, buf, c, k, keys) else {
         return Passed::Bad;
     };
-    let Passed::To(after) = line(buf, behind, shares) else {
+    let Passed::To(after) = line(rt, buf, behind, shares) else {
         return Passed::Bad;
     };
-    byte(buf, after, b'\n')
+    byte(rt, buf, after, b'\n')
 }
 
 // The shares as the call takes them.
@@ -79,6 +88,7 @@ fn add_given(
 
 // Keys and shares are lent to work in.
 fn add_with(
+    rt: &impl Machine,
     buf: &mut [u8],
     c: Cursor,
     memory: &mut [u8],
@@ -93,7 +103,7 @@ fn add_with(
 ) -> Going
     requires { length shares.old ≤ 300 }
 {
-    let Passed::To(after) = entries_in(buf, c, k, keys, shares) else {
+    let Passed::To(after) = entries_in(rt, buf, c, k, keys, shares) else {
         return Going::Bad;
     };
     if !below(shares, SHARES) {
@@ -115,6 +125,7 @@ fn add_with(
 }
 
 pub fn add_case(
+    rt: &impl Machine,
     buf: &mut [u8],
     c: Cursor,
     memory: &mut [u8],
@@ -124,7 +135,7 @@ pub fn add_case(
     at: usize,
 ) -> Going {
     let mut numbers = [0u64; 3];
-    let Passed::To(after) = head(buf, c, b"dd ", &mut numbers) else {
+    let Passed::To(after) = head(rt, buf, c, b"dd ", &mut numbers) else {
         return Going::Bad;
     };
     let first = numbers[0];
@@ -139,6 +150,7 @@ pub fn add_case(
     let mut keys = [0u8; KEY_BYTES];
     let mut shares = [0u64; PLACES];
     add_with(
+        rt,
         buf,
         after,
         memory,
@@ -156,6 +168,7 @@ pub fn add_case(
 // ---- a version again, and the map on a date
 
 pub fn back_case(
+    rt: &impl Machine,
     buf: &mut [u8],
     c: Cursor,
     memory: &mut [u8],
@@ -165,7 +178,7 @@ pub fn back_case(
     at: usize,
 ) -> Going {
     let mut numbers = [0u64; 2];
-    let Passed::To(after) = head_alone(buf, c, b"ck ", &mut numbers) else {
+    let Passed::To(after) = head_alone(rt, buf, c, b"ck ", &mut numbers) else {
         return Going::Bad;
     };
     let version = numbers[0] as usize;
@@ -188,6 +201,7 @@ pub fn back_case(
 }
 
 pub fn on_case(
+    rt: &impl Machine,
     buf: &mut [u8],
     c: Cursor,
     memory: &[u8],
@@ -196,7 +210,7 @@ pub fn on_case(
     at: usize,
 ) -> Going {
     let mut numbers = [0u64; 3];
-    let Passed::To(after) = head_alone(buf, c, b"n ", &mut numbers) else {
+    let Passed::To(after) = head_alone(rt, buf, c, b"n ", &mut numbers) else {
         return Going::Bad;
     };
     let date = numbers[0];

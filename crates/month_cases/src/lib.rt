@@ -10,6 +10,7 @@ use calls::kept::end_line;
 use input::Going;
 use input::bytes::{Cursor, Passed, fill_line};
 use input::numbers::head;
+use machine::Machine;
 use month_calls::begin_line;
 use month_calls::kept::DATE_MARK;
 use output::make_room;
@@ -23,6 +24,7 @@ const DAYS: usize = 400;
 
 // The first n intervals, which leave the page where it is full.
 fn intervals(
+    rt: &impl Machine,
     page: &mut [u8],
     at: usize,
     n: usize,
@@ -37,13 +39,14 @@ fn intervals(
     let mut i: usize = 0;
     while i < n {
         let q = interval(page, p, i, values, flags, methods, reasons, starts, lengths);
-        p = make_room(page, q);
+        p = make_room(rt, page, q);
         i += 1;
     }
     p
 }
 
 fn month_in(
+    rt: &impl Machine,
     file: &[u8],
     first: usize,
     last: usize,
@@ -65,8 +68,9 @@ fn month_in(
         file, first, last, page, at, values, flags, methods, reasons, starts, lengths, dates,
         counts, updates, loads, units,
     );
-    let p = make_room(page, b.at);
+    let p = make_room(rt, page, b.at);
     let q = intervals(
+        rt,
         page,
         p,
         b.intervals,
@@ -82,6 +86,7 @@ fn month_in(
 
 // Days first to last, into six lists of w places and five of d. The long lists stand here alone, so that no other case has them.
 fn month(
+    rt: &impl Machine,
     file: &[u8],
     first: usize,
     last: usize,
@@ -104,6 +109,7 @@ fn month(
     let mut loads = [WIDE_MARK; DAYS];
     let mut units = [BYTE_MARK; DAYS];
     month_in(
+        rt,
         file,
         first,
         last,
@@ -123,9 +129,16 @@ fn month(
     )
 }
 
-pub fn month_case(buf: &mut [u8], c: Cursor, file: &mut [u8], page: &mut [u8], at: usize) -> Going {
+pub fn month_case(
+    rt: &impl Machine,
+    buf: &mut [u8],
+    c: Cursor,
+    file: &mut [u8],
+    page: &mut [u8],
+    at: usize,
+) -> Going {
     let mut numbers = [0u64; 5];
-    let Passed::To(behind) = head(buf, c, b"nth ", &mut numbers) else {
+    let Passed::To(behind) = head(rt, buf, c, b"nth ", &mut numbers) else {
         return Going::Bad;
     };
     let first = numbers[0] as usize;
@@ -139,8 +152,11 @@ pub fn month_case(buf: &mut [u8], c: Cursor, file: &mut [u8], page: &mut [u8], a
     if DAYS < d {
         return Going::Bad;
     }
-    let Passed::To(after) = fill_line(buf, behind, n, file) else {
+    let Passed::To(after) = fill_line(rt, buf, behind, n, file) else {
         return Going::Bad;
     };
-    Going::On(after, month(part(file, 0, n), first, last, w, d, page, at))
+    Going::On(
+        after,
+        month(rt, part(file, 0, n), first, last, w, d, page, at),
+    )
 }

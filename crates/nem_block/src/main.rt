@@ -5,29 +5,35 @@ use day_rows::{minutes, refused};
 use disk::{Loaded, load_word};
 use explain::refused::explained;
 use format::{DayHead, DayRead, Written};
-use outward::{FAILED, REFUSED, tell, warn, write};
+use machine::{Machine, PAGE};
+use outward::{FAILED, REFUSED, finish, warn, write};
 use page::texts::part;
 use reading::read_day::read_day;
+use std::alloc::{AllocError, Global};
 use wanted::{Wanted, wanted_day};
 use writing::write_day;
+
+// A place more than the longest file has, so that a longer one is seen to be one.
+const ROOM: usize = 1048577;
 
 const MOST: usize = 288;
 
 // More than the longest block has.
 const MOST_ROOM: usize = 131072;
 
-fn block_out(page: &mut [u8], file: &[u8], x: Written, room: &[u8]) -> u8 {
+fn block_out(rt: &impl Machine, page: &mut [u8], file: &[u8], x: Written, room: &[u8]) -> u8 {
     match x {
-        Written::Block { bytes, records: _ } => write(room, bytes),
+        Written::Block { bytes, records: _ } => write(rt, room, bytes),
         Written::Refused(y) => {
             let p = explained(page, 0, file, y);
-            warn(page, p);
+            warn(rt, page, p);
             REFUSED
         }
     }
 }
 
 fn block_in(
+    rt: &impl Machine,
     page: &mut [u8],
     file: &[u8],
     day: DayHead,
@@ -42,10 +48,11 @@ fn block_in(
     let x = write_day(
         day, values, flags, methods, reasons, starts, lengths, file, room,
     );
-    block_out(page, file, x, room)
+    block_out(rt, page, file, x, room)
 }
 
 fn block(
+    rt: &impl Machine,
     page: &mut [u8],
     file: &[u8],
     day: DayHead,
@@ -58,11 +65,12 @@ fn block(
 ) -> u8 {
     let mut room = [0u8; MOST_ROOM];
     block_in(
-        page, file, day, values, flags, methods, reasons, starts, lengths, &mut room,
+        rt, page, file, day, values, flags, methods, reasons, starts, lengths, &mut room,
     )
 }
 
 fn answer(
+    rt: &impl Machine,
     page: &mut [u8],
     file: &[u8],
     x: DayRead,
@@ -89,18 +97,19 @@ fn answer(
                 unit,
             };
             block(
-                page, file, day, values, flags, methods, reasons, starts, lengths,
+                rt, page, file, day, values, flags, methods, reasons, starts, lengths,
             )
         }
         DayRead::Refused(y) => {
             let p = refused(page, file, y);
-            warn(page, p);
+            warn(rt, page, p);
             REFUSED
         }
     }
 }
 
 fn show_in(
+    rt: &impl Machine,
     page: &mut [u8],
     file: &[u8],
     k: usize,
@@ -113,11 +122,11 @@ fn show_in(
 ) -> u8 {
     let x = read_day(file, k, values, flags, methods, reasons, starts, lengths);
     answer(
-        page, file, x, values, flags, methods, reasons, starts, lengths,
+        rt, page, file, x, values, flags, methods, reasons, starts, lengths,
     )
 }
 
-fn show_day(page: &mut [u8], file: &[u8], k: usize) -> u8 {
+fn show_day(rt: &impl Machine, page: &mut [u8], file: &[u8], k: usize) -> u8 {
     let mut values = [0u64; MOST];
     let mut flags = [0u8; MOST];
     let mut methods = [0u8; MOST];
@@ -125,6 +134,7 @@ fn show_day(page: &mut [u8], file: &[u8], k: usize) -> u8 {
     let mut starts = [0usize; MOST];
     let mut lengths = [0usize; MOST];
     show_in(
+        rt,
         page,
         file,
         k,
@@ -137,24 +147,23 @@ fn show_day(page: &mut [u8], file: &[u8], k: usize) -> u8 {
     )
 }
 
-fn show(page: &mut [u8], room: &mut [u8]) -> u8 {
-    let Loaded::Bytes(n) = load_word(2, room) else {
+fn show(rt: &impl Machine, page: &mut [u8], room: &mut [u8]) -> u8 {
+    let Loaded::Bytes(n) = load_word(rt, 2, room) else {
         return FAILED;
     };
     let file = part(room, 0, n);
-    match wanted_day(page, file) {
-        Wanted::Day(k) => show_day(page, file, k),
+    match wanted_day(rt, page, file) {
+        Wanted::Day(k) => show_day(rt, page, file, k),
         Wanted::Nothing(status) => status,
     }
 }
 
-fn go(room: &mut [u8]) {
-    let mut page = io::large_buffer();
-    tell(show(&mut page, room));
+fn run(rt: &impl Machine, alloc: Global) -> Result<u8, AllocError> {
+    let mut page = [0u8; PAGE];
+    let mut room = vec![in alloc; 0u8; ROOM]?;
+    Ok(show(rt, &mut page, &mut room))
 }
 
-// A place more than the longest file has, so that a longer one is seen to be one.
-fn main() {
-    let mut room = [0u8; 1048577];
-    go(&mut room);
+fn main(rt: HostRuntime) {
+    finish(&rt, run(&rt, rt.alloc()));
 }

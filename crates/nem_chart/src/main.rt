@@ -14,18 +14,24 @@ use disk::{Loaded, load_word};
 use explain::refused::explained;
 use filling::read_noted;
 use format::{Checked, DayRead};
+use machine::{Machine, PAGE};
 use measures::axis::most_of;
-use outward::{DONE, FAILED, REFUSED, tell, warn, write};
+use outward::{DONE, FAILED, REFUSED, finish, warn, write};
 use page::items::{u8_at, u64_at};
 use page::texts::part;
 use records::{NMI, SUFFIX, UNIT_OF_200, field};
+use std::alloc::{AllocError, Global};
 use sums::day_sum;
 use wanted::{Wanted, wanted_day};
+
+// A place more than the longest file has, so that a longer one is seen to be one.
+const ROOM: usize = 1048577;
 
 const MOST: usize = 288;
 
 // The bar of interval i, and the status of writing it out.
 fn bar_out(
+    rt: &impl Machine,
     page: &mut [u8],
     i: usize,
     n: usize,
@@ -44,13 +50,21 @@ fn bar_out(
         most,
         unit,
     );
-    write(page, p)
+    write(rt, page, p)
 }
 
-fn bars(page: &mut [u8], n: usize, most: u64, unit: &[u8], values: &[u64], flags: &[u8]) -> u8 {
+fn bars(
+    rt: &impl Machine,
+    page: &mut [u8],
+    n: usize,
+    most: u64,
+    unit: &[u8],
+    values: &[u64],
+    flags: &[u8],
+) -> u8 {
     let mut i: usize = 0;
     while i < n {
-        let status = bar_out(page, i, n, most, unit, values, flags);
+        let status = bar_out(rt, page, i, n, most, unit, values, flags);
         if status != DONE {
             return status;
         }
@@ -60,7 +74,15 @@ fn bars(page: &mut [u8], n: usize, most: u64, unit: &[u8], values: &[u64], flags
 }
 
 // What stands before the bars: the titles and the axes.
-fn front(page: &mut [u8], record: &[u8], date: u32, n: usize, sum: u64, most: u64) -> u8 {
+fn front(
+    rt: &impl Machine,
+    page: &mut [u8],
+    record: &[u8],
+    date: u32,
+    n: usize,
+    sum: u64,
+    most: u64,
+) -> u8 {
     let unit = field(record, UNIT_OF_200);
     let p = head(
         page,
@@ -73,18 +95,19 @@ fn front(page: &mut [u8], record: &[u8], date: u32, n: usize, sum: u64, most: u6
         sum,
     );
     let q = grid(page, p, most, unit);
-    write(page, q)
+    write(rt, page, q)
 }
 
 // What stands behind them: the legend.
-fn back(page: &mut [u8], flags: &[u8], n: usize) -> u8 {
+fn back(rt: &impl Machine, page: &mut [u8], flags: &[u8], n: usize) -> u8 {
     let p = legend(page, 0, flags, n);
     let q = end(page, p);
-    write(page, q)
+    write(rt, page, q)
 }
 
 // The picture of a day, whose 200 is given.
 fn picture(
+    rt: &impl Machine,
     page: &mut [u8],
     record: &[u8],
     date: u32,
@@ -94,19 +117,20 @@ fn picture(
     flags: &[u8],
 ) -> u8 {
     let most = most_of(values, n);
-    let status = front(page, record, date, n, sum, most);
+    let status = front(rt, page, record, date, n, sum, most);
     if status != DONE {
         return status;
     }
-    let drawn = bars(page, n, most, field(record, UNIT_OF_200), values, flags);
+    let drawn = bars(rt, page, n, most, field(record, UNIT_OF_200), values, flags);
     if drawn != DONE {
         return drawn;
     }
-    back(page, flags, n)
+    back(rt, page, flags, n)
 }
 
 // The day at a place, as it was read; or why there is none.
 fn placed(
+    rt: &impl Machine,
     page: &mut [u8],
     file: &[u8],
     place: Place,
@@ -118,7 +142,7 @@ fn placed(
     match x {
         DayRead::Refused(y) => {
             let p = refused(page, file, y);
-            warn(page, p);
+            warn(rt, page, p);
             REFUSED
         }
         DayRead::Read {
@@ -132,6 +156,7 @@ fn placed(
                 return REFUSED;
             };
             picture(
+                rt,
                 page,
                 part(file, under.at, under.end),
                 date,
@@ -145,6 +170,7 @@ fn placed(
 }
 
 fn show_in(
+    rt: &impl Machine,
     page: &mut [u8],
     file: &[u8],
     k: usize,
@@ -164,11 +190,11 @@ fn show_in(
     let place = t.place;
     let answer = t.answer;
     let sum = day_sum(file, place);
-    placed(page, file, place, answer, sum, values, flags)
+    placed(rt, page, file, place, answer, sum, values, flags)
 }
 
 // Day k of an accepted file, and from where it is found.
-fn show_found(page: &mut [u8], file: &[u8], k: usize, from: DayStart) -> u8
+fn show_found(rt: &impl Machine, page: &mut [u8], file: &[u8], k: usize, from: DayStart) -> u8
     requires { IsAccepted file.now × DayAhead file.now k from }
 {
     let mut values = [0u64; MOST];
@@ -178,6 +204,7 @@ fn show_found(page: &mut [u8], file: &[u8], k: usize, from: DayStart) -> u8
     let mut starts = [0usize; MOST];
     let mut lengths = [0usize; MOST];
     show_in(
+        rt,
         page,
         file,
         k,
@@ -191,7 +218,7 @@ fn show_found(page: &mut [u8], file: &[u8], k: usize, from: DayStart) -> u8
     )
 }
 
-fn show_day(page: &mut [u8], file: &[u8], k: usize) -> u8 {
+fn show_day(rt: &impl Machine, page: &mut [u8], file: &[u8], k: usize) -> u8 {
     let noted = check_and_note(file, k, 0);
     let answer = noted.answer;
     let from = noted.day;
@@ -200,33 +227,32 @@ fn show_day(page: &mut [u8], file: &[u8], k: usize) -> u8 {
             version: _,
             channels: _,
             days: _,
-        } => show_found(page, file, k, from),
+        } => show_found(rt, page, file, k, from),
         Checked::Refused(x) => {
             let p = explained(page, 0, file, x);
-            warn(page, p);
+            warn(rt, page, p);
             REFUSED
         }
     }
 }
 
-fn show(page: &mut [u8], room: &mut [u8]) -> u8 {
-    let Loaded::Bytes(n) = load_word(2, room) else {
+fn show(rt: &impl Machine, page: &mut [u8], room: &mut [u8]) -> u8 {
+    let Loaded::Bytes(n) = load_word(rt, 2, room) else {
         return FAILED;
     };
     let file = part(room, 0, n);
-    match wanted_day(page, file) {
-        Wanted::Day(k) => show_day(page, file, k),
+    match wanted_day(rt, page, file) {
+        Wanted::Day(k) => show_day(rt, page, file, k),
         Wanted::Nothing(status) => status,
     }
 }
 
-fn go(room: &mut [u8]) {
-    let mut page = io::large_buffer();
-    tell(show(&mut page, room));
+fn run(rt: &impl Machine, alloc: Global) -> Result<u8, AllocError> {
+    let mut page = [0u8; PAGE];
+    let mut room = vec![in alloc; 0u8; ROOM]?;
+    Ok(show(rt, &mut page, &mut room))
 }
 
-// A place more than the longest file has, so that a longer one is seen to be one.
-fn main() {
-    let mut room = [0u8; 1048577];
-    go(&mut room);
+fn main(rt: HostRuntime) {
+    finish(&rt, run(&rt, rt.alloc()));
 }

@@ -8,13 +8,21 @@ use csv_rows::rows::{daily, daily_heading, front};
 use day::head::head_at;
 use day::walk::find_day;
 use day::{DayStart, Place};
+use machine::Machine;
 use outward::{DONE, write};
 use page::texts::part;
 use records::{NMI, SUFFIX, UNIT_OF_200, field};
 use sums::day_sum;
 
 // The row of a day, whose 200 is given.
-fn row(page: &mut [u8], at: usize, channel: &[u8], date: u32, sum: u64) -> Sheet {
+fn row(
+    rt: &impl Machine,
+    page: &mut [u8],
+    at: usize,
+    channel: &[u8],
+    date: u32,
+    sum: u64,
+) -> Sheet {
     let mut head = [0u8; 64];
     let h = front(
         &mut head,
@@ -24,43 +32,64 @@ fn row(page: &mut [u8], at: usize, channel: &[u8], date: u32, sum: u64) -> Sheet
         field(channel, UNIT_OF_200),
     );
     let p = daily(page, at, part(&head, 0, h), date as u64, sum);
-    behind(page, p)
+    behind(rt, page, p)
 }
 
 // The row of the day at a place.
-fn placed(page: &mut [u8], at: usize, file: &[u8], place: Place, sum: u64) -> Sheet
+fn placed(
+    rt: &impl Machine,
+    page: &mut [u8],
+    at: usize,
+    file: &[u8],
+    place: Place,
+    sum: u64,
+) -> Sheet
     requires { inside file.now place }
 {
     match place {
         Place::At(a, e, under) => {
             let head = head_at(file, a, e);
-            row(page, at, part(file, under.at, under.end), head.date, sum)
+            row(
+                rt,
+                page,
+                at,
+                part(file, under.at, under.end),
+                head.date,
+                sum,
+            )
         }
         Place::Missing => Sheet { at, status: DONE },
     }
 }
 
 // The row of the day of a number.
-fn turn(page: &mut [u8], at: usize, file: &[u8], k: usize, from: DayStart) -> Passed
+fn turn(
+    rt: &impl Machine,
+    page: &mut [u8],
+    at: usize,
+    file: &[u8],
+    k: usize,
+    from: DayStart,
+) -> Passed
     requires { IsAccepted file.now × DayAhead file.now k from }
     ensures { DayAhead file.now (k + 1) result.next }
 {
     let place = find_day(file, k, from);
     let sum = day_sum(file, place);
     let next = day::walk::behind(file, place);
-    let sheet = placed(page, at, file, place, sum);
+    let sheet = placed(rt, page, at, file, place, sum);
     Passed { sheet, next }
 }
 
 // Day after day.
-pub fn show(page: &mut [u8], file: &[u8], days: usize, first: DayStart) -> u8
+pub fn show(rt: &impl Machine, page: &mut [u8], file: &[u8], days: usize, first: DayStart) -> u8
     requires { IsAccepted file.now × DayAhead file.now 0 first }
 {
     let mut at = daily_heading(page, 0);
     let mut from = first;
     let mut k: usize = 0;
     while k < days {
-        let t = turn(page, at, file, k, from);
+        let t = turn(rt, page, at, file, k, from);
         let sheet = t.sheet;
         if sheet.status != DONE {
             return sheet.status;
@@ -69,5 +98,5 @@ pub fn show(page: &mut [u8], file: &[u8], days: usize, first: DayStart) -> u8
         from = t.next;
         k += 1;
     }
-    write(page, at)
+    write(rt, page, at)
 }

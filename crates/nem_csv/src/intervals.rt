@@ -10,6 +10,7 @@ use date_rules::calendar::day_after;
 use day::{DayStart, Place};
 use filling::read_noted;
 use format::DayRead;
+use machine::Machine;
 use outward::{DONE, write};
 use page::items::{u8_at, u16_at, u64_at, usize_at};
 use page::texts::part;
@@ -19,6 +20,7 @@ const MOST: usize = 288;
 
 // The row of interval i, behind what the rows of its day have in common.
 fn row(
+    rt: &impl Machine,
     page: &mut [u8],
     at: usize,
     file: &[u8],
@@ -48,11 +50,12 @@ fn row(
         u16_at(reasons, i),
         text_at(file, usize_at(starts, i), usize_at(lengths, i)),
     );
-    behind(page, p)
+    behind(rt, page, p)
 }
 
 // The rows of a day's intervals.
 fn rows(
+    rt: &impl Machine,
     page: &mut [u8],
     from: usize,
     file: &[u8],
@@ -71,7 +74,7 @@ fn rows(
     let mut i: usize = 0;
     while i < n {
         let sheet = row(
-            page, at, file, front, today, after, i, n, values, flags, methods, reasons, starts,
+            rt, page, at, file, front, today, after, i, n, values, flags, methods, reasons, starts,
             lengths,
         );
         if sheet.status != DONE {
@@ -85,6 +88,7 @@ fn rows(
 
 // The rows of a day, whose 200 is given.
 fn day_rows(
+    rt: &impl Machine,
     page: &mut [u8],
     at: usize,
     file: &[u8],
@@ -111,6 +115,7 @@ fn day_rows(
     let mut after = [0u8; 32];
     let a = day(&mut after, 0, day_after(date as u64));
     rows(
+        rt,
         page,
         at,
         file,
@@ -129,6 +134,7 @@ fn day_rows(
 
 // The day at a place, as it was read.
 fn placed(
+    rt: &impl Machine,
     page: &mut [u8],
     at: usize,
     file: &[u8],
@@ -155,6 +161,7 @@ fn placed(
         return Sheet { at, status: DONE };
     };
     day_rows(
+        rt,
         page,
         at,
         file,
@@ -172,6 +179,7 @@ fn placed(
 
 // The rows of the day of a number, read into lent lists.
 fn turn_in(
+    rt: &impl Machine,
     page: &mut [u8],
     at: usize,
     file: &[u8],
@@ -194,13 +202,20 @@ fn turn_in(
     let answer = t.answer;
     let next = t.next;
     let sheet = placed(
-        page, at, file, place, answer, values, flags, methods, reasons, starts, lengths,
+        rt, page, at, file, place, answer, values, flags, methods, reasons, starts, lengths,
     );
     Passed { sheet, next }
 }
 
 // The rows of the day of a number.
-fn turn(page: &mut [u8], at: usize, file: &[u8], k: usize, from: DayStart) -> Passed
+fn turn(
+    rt: &impl Machine,
+    page: &mut [u8],
+    at: usize,
+    file: &[u8],
+    k: usize,
+    from: DayStart,
+) -> Passed
     requires { IsAccepted file.now × DayAhead file.now k from }
     ensures { DayAhead file.now (k + 1) result.next }
 {
@@ -211,6 +226,7 @@ fn turn(page: &mut [u8], at: usize, file: &[u8], k: usize, from: DayStart) -> Pa
     let mut starts = [0usize; MOST];
     let mut lengths = [0usize; MOST];
     turn_in(
+        rt,
         page,
         at,
         file,
@@ -226,14 +242,14 @@ fn turn(page: &mut [u8], at: usize, file: &[u8], k: usize, from: DayStart) -> Pa
 }
 
 // Day after day.
-pub fn show(page: &mut [u8], file: &[u8], days: usize, first: DayStart) -> u8
+pub fn show(rt: &impl Machine, page: &mut [u8], file: &[u8], days: usize, first: DayStart) -> u8
     requires { IsAccepted file.now × DayAhead file.now 0 first }
 {
     let mut at = heading(page, 0);
     let mut from = first;
     let mut k: usize = 0;
     while k < days {
-        let t = turn(page, at, file, k, from);
+        let t = turn(rt, page, at, file, k, from);
         let sheet = t.sheet;
         if sheet.status != DONE {
             return sheet.status;
@@ -242,5 +258,5 @@ pub fn show(page: &mut [u8], file: &[u8], days: usize, first: DayStart) -> u8
         from = t.next;
         k += 1;
     }
-    write(page, at)
+    write(rt, page, at)
 }

@@ -11,10 +11,15 @@ use disk::{Loaded, load_word};
 use explain::refused::explained;
 use format::Checked;
 use leaf::bytes::same_bytes;
-use outward::{FAILED, REFUSED, tell, warn};
+use machine::{Machine, PAGE, WORD};
+use outward::{FAILED, REFUSED, finish, warn};
 use page::texts::part;
+use std::alloc::{AllocError, Global};
 
-fn table(page: &mut [u8], file: &[u8], command: &[u8]) -> u8 {
+// A place more than the longest file has, so that a longer one is seen to be one.
+const ROOM: usize = 1048577;
+
+fn table(rt: &impl Machine, page: &mut [u8], file: &[u8], command: &[u8]) -> u8 {
     let noted = check_and_note(file, 0, 0);
     let answer = noted.answer;
     let day = noted.day;
@@ -26,37 +31,36 @@ fn table(page: &mut [u8], file: &[u8], command: &[u8]) -> u8 {
             days,
         } => {
             if same_bytes(command, b"daily") {
-                return days::show(page, file, days, day);
+                return days::show(rt, page, file, days, day);
             }
             if version == 13 {
-                return reads::show(page, file, channels, channel);
+                return reads::show(rt, page, file, channels, channel);
             }
-            intervals::show(page, file, days, day)
+            intervals::show(rt, page, file, days, day)
         }
         Checked::Refused(x) => {
             let p = explained(page, 0, file, x);
-            warn(page, p);
+            warn(rt, page, p);
             REFUSED
         }
     }
 }
 
-fn show(page: &mut [u8], room: &mut [u8]) -> u8 {
-    let mut command = io::buffer();
-    let n = os::arg(1, &mut command);
-    let Loaded::Bytes(k) = load_word(2, room) else {
+fn show(rt: &impl Machine, page: &mut [u8], room: &mut [u8]) -> u8 {
+    let mut command = [0u8; WORD];
+    let n = rt.arg(1, &mut command);
+    let Loaded::Bytes(k) = load_word(rt, 2, room) else {
         return FAILED;
     };
-    table(page, part(room, 0, k), &command[..n])
+    table(rt, page, part(room, 0, k), &command[..n])
 }
 
-fn go(room: &mut [u8]) {
-    let mut page = io::large_buffer();
-    tell(show(&mut page, room));
+fn run(rt: &impl Machine, alloc: Global) -> Result<u8, AllocError> {
+    let mut page = [0u8; PAGE];
+    let mut room = vec![in alloc; 0u8; ROOM]?;
+    Ok(show(rt, &mut page, &mut room))
 }
 
-// A place more than the longest file has, so that a longer one is seen to be one.
-fn main() {
-    let mut room = [0u8; 1048577];
-    go(&mut room);
+fn main(rt: HostRuntime) {
+    finish(&rt, run(&rt, rt.alloc()));
 }

@@ -6,6 +6,7 @@ use channel::{Channel, ChannelStart, walk};
 use csv_rows::rows::{front, heading, reading};
 use format::Number;
 use leaf::digits::digits;
+use machine::Machine;
 use outward::{DONE, write};
 use page::texts::part;
 use records::reads::{Place, read_of};
@@ -25,7 +26,7 @@ fn time_in(record: &[u8], field: Place) -> u64 {
 }
 
 // The row of a 250.
-fn row(page: &mut [u8], at: usize, record: &[u8]) -> Sheet {
+fn row(rt: &impl Machine, page: &mut [u8], at: usize, record: &[u8]) -> Sheet {
     let read = read_of(record);
     let mut head = [0u8; 64];
     let h = front(
@@ -46,19 +47,25 @@ fn row(page: &mut [u8], at: usize, record: &[u8]) -> Sheet {
         text(record, read.reason),
         text(record, read.description),
     );
-    behind(page, p)
+    behind(rt, page, p)
 }
 
 // The channel at a place.
-fn placed(page: &mut [u8], at: usize, file: &[u8], place: Channel) -> Sheet {
+fn placed(rt: &impl Machine, page: &mut [u8], at: usize, file: &[u8], place: Channel) -> Sheet {
     let Channel::Quantity(a, e) = place else {
         return Sheet { at, status: DONE };
     };
-    row(page, at, part(file, a, e))
+    row(rt, page, at, part(file, a, e))
 }
 
 // Channel after channel.
-pub fn show(page: &mut [u8], file: &[u8], channels: usize, first: ChannelStart) -> u8
+pub fn show(
+    rt: &impl Machine,
+    page: &mut [u8],
+    file: &[u8],
+    channels: usize,
+    first: ChannelStart,
+) -> u8
     requires { ChannelAhead file.now 0 first }
 {
     let mut at = heading(page, 0);
@@ -66,7 +73,7 @@ pub fn show(page: &mut [u8], file: &[u8], channels: usize, first: ChannelStart) 
     let mut k: usize = 0;
     while k < channels {
         let place = walk::find_channel(file, k, from);
-        let sheet = placed(page, at, file, place);
+        let sheet = placed(rt, page, at, file, place);
         if sheet.status != DONE {
             return sheet.status;
         }
@@ -74,5 +81,5 @@ pub fn show(page: &mut [u8], file: &[u8], channels: usize, first: ChannelStart) 
         from = walk::behind(file, place);
         k += 1;
     }
-    write(page, at)
+    write(rt, page, at)
 }

@@ -1,5 +1,6 @@
 // The page that rows are put on: it is written out where it is half full, and no row is as long as the other half.
 use day::DayStart;
+use machine::Machine;
 use outward::{DONE, write};
 
 const HALF: usize = 32768;
@@ -12,13 +13,13 @@ pub struct Sheet {
 }
 
 // Behind a row.
-pub fn behind(page: &[u8], at: usize) -> Sheet {
+pub fn behind(rt: &impl Machine, page: &[u8], at: usize) -> Sheet {
     if at < HALF {
         return Sheet { at, status: DONE };
     }
     Sheet {
         at: 0,
-        status: write(page, at),
+        status: write(rt, page, at),
     }
 }
 

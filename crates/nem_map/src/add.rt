@@ -4,6 +4,7 @@ use super::asked::{Asked, FIRST, date};
 use super::refused::{of_adding, of_table};
 use super::table::{Table, read_table};
 use disk::{Loaded, load_word};
+use machine::{Machine, PAGE};
 use outward::{FAILED, REFUSED, complain};
 use page::texts::{part, put};
 use tenant_map::add_version;
@@ -12,26 +13,34 @@ use tenants::Versioned;
 // The word that names the table's file.
 const TABLE: usize = 5;
 
-fn too_long(page: &mut [u8]) {
+fn too_long(rt: &impl Machine, page: &mut [u8]) {
     let p = put(
         page,
         0,
         b"nem: the table is longer than 65,535 bytes; it has a line for an output, 128 at the most",
     );
-    complain(page, p);
+    complain(rt, page, p);
 }
 
-fn add_given(page: &mut [u8], map: &mut [u8], first: u32, keys: &[u8], shares: &[u16]) -> u8 {
+fn add_given(
+    rt: &impl Machine,
+    page: &mut [u8],
+    map: &mut [u8],
+    first: u32,
+    keys: &[u8],
+    shares: &[u16],
+) -> u8 {
     match add_version(map, first, keys, shares) {
-        Versioned::Version(_) => keep_appended(page, map),
+        Versioned::Version(_) => keep_appended(rt, page, map),
         Versioned::Refused(x) => {
-            of_adding(page, x, map);
+            of_adding(rt, page, x, map);
             REFUSED
         }
     }
 }
 
 fn add_in(
+    rt: &impl Machine,
     page: &mut [u8],
     map: &mut [u8],
     first: u32,
@@ -40,41 +49,47 @@ fn add_in(
     shares: &mut [u16],
 ) -> u8 {
     match read_table(text, keys, shares) {
-        Table::Read => add_given(page, map, first, keys, shares),
+        Table::Read => add_given(rt, page, map, first, keys, shares),
         Table::Wrong {
             line,
             from,
             to,
             fault,
         } => {
-            of_table(page, line, part(text, from, to), fault);
+            of_table(rt, page, line, part(text, from, to), fault);
             REFUSED
         }
     }
 }
 
-fn add_text(page: &mut [u8], map: &mut [u8], first: u32, text: &[u8]) -> u8 {
+fn add_text(rt: &impl Machine, page: &mut [u8], map: &mut [u8], first: u32, text: &[u8]) -> u8 {
     let mut keys = [0u8; 1536];
     let mut shares = [0u16; 128];
-    add_in(page, map, first, text, &mut keys, &mut shares)
+    add_in(rt, page, map, first, text, &mut keys, &mut shares)
 }
 
 // The room has a place more than the longest table.
-fn add_loaded(page: &mut [u8], map: &mut [u8], first: u32, room: &mut [u8]) -> u8 {
-    let Loaded::Bytes(n) = load_word(TABLE, room) else {
+fn add_loaded(
+    rt: &impl Machine,
+    page: &mut [u8],
+    map: &mut [u8],
+    first: u32,
+    room: &mut [u8],
+) -> u8 {
+    let Loaded::Bytes(n) = load_word(rt, TABLE, room) else {
         return FAILED;
     };
     if room.len() <= n {
-        too_long(page);
+        too_long(rt, page);
         return FAILED;
     }
-    add_text(page, map, first, part(room, 0, n))
+    add_text(rt, page, map, first, part(room, 0, n))
 }
 
-pub fn add(page: &mut [u8], map: &mut [u8]) -> u8 {
-    let Asked::Date(first) = date(page, FIRST) else {
+pub fn add(rt: &impl Machine, page: &mut [u8], map: &mut [u8]) -> u8 {
+    let Asked::Date(first) = date(rt, page, FIRST) else {
         return FAILED;
     };
-    let mut room = io::large_buffer();
-    add_loaded(page, map, first, &mut room)
+    let mut room = [0u8; PAGE];
+    add_loaded(rt, page, map, first, &mut room)
 }

@@ -1,4 +1,5 @@
 // A map with a version more, kept and told of.
+use machine::Machine;
 use map_counts::{channels, used};
 use map_lines::added;
 use outward::{DONE, keep, write_line};
@@ -13,8 +14,8 @@ fn last(map: &[u8]) -> u32 {
     n - 1
 }
 
-pub fn keep_appended(page: &mut [u8], map: &[u8]) -> u8 {
-    let status = keep(map);
+pub fn keep_appended(rt: &impl Machine, page: &mut [u8], map: &[u8]) -> u8 {
+    let status = keep(rt, map);
     if status != DONE {
         return status;
     }
@@ -28,5 +29,5 @@ pub fn keep_appended(page: &mut [u8], map: &[u8]) -> u8 {
         used(entries),
         channels(entries),
     );
-    write_line(page, p)
+    write_line(rt, page, p)
 }

@@ -2,6 +2,7 @@
 use date_rules::calendar::is_date;
 use format::Number;
 use leaf::digits::digits;
+use machine::{Machine, WORD};
 use named::date_of;
 use outward::complain;
 use page::texts::put;
@@ -21,19 +22,19 @@ pub enum Asked {
     Nothing,
 }
 
-pub fn date(page: &mut [u8], i: usize) -> Asked {
-    let mut word = io::buffer();
-    let n = os::arg(i, &mut word);
+pub fn date(rt: &impl Machine, page: &mut [u8], i: usize) -> Asked {
+    let mut word = [0u8; WORD];
+    let n = rt.arg(i, &mut word);
     if let Number::Is(day) = date_of(&word[..n]) {
         if is_date(day) {
             return Asked::Date((day % EIGHT_DIGITS) as u32);
         }
     }
-    no_date(page, &word[..n]);
+    no_date(rt, page, &word[..n]);
     Asked::Nothing
 }
 
-fn no_version(page: &mut [u8], word: &[u8]) {
+fn no_version(rt: &impl Machine, page: &mut [u8], word: &[u8]) {
     let p = put(page, 0, b"nem: ");
     let q = quoted(page, p, word);
     let r = put(
@@ -41,16 +42,16 @@ fn no_version(page: &mut [u8], word: &[u8]) {
         q,
         b" is no version number; nem map history lists the versions",
     );
-    complain(page, r);
+    complain(rt, page, r);
 }
 
 // The number of a version, where the word is one.
-pub fn version(page: &mut [u8], i: usize) -> Number {
-    let mut word = io::buffer();
-    let n = os::arg(i, &mut word);
+pub fn version(rt: &impl Machine, page: &mut [u8], i: usize) -> Number {
+    let mut word = [0u8; WORD];
+    let n = rt.arg(i, &mut word);
     let x = digits(&word[..n], 1, 14);
     if let Number::Bad = x {
-        no_version(page, &word[..n]);
+        no_version(rt, page, &word[..n]);
     }
     x
 }

@@ -3,26 +3,27 @@ use super::appended::keep_appended;
 use super::asked::{Asked, FIRST, date, version};
 use super::refused::of_going_back;
 use format::Number;
+use machine::Machine;
 use outward::{FAILED, REFUSED};
 use tenant_map::back_to;
 use tenants::Versioned;
 
-fn go_back(page: &mut [u8], map: &mut [u8], k: u64, first: u32) -> u8 {
+fn go_back(rt: &impl Machine, page: &mut [u8], map: &mut [u8], k: u64, first: u32) -> u8 {
     match back_to(map, k as usize, first) {
-        Versioned::Version(_) => keep_appended(page, map),
+        Versioned::Version(_) => keep_appended(rt, page, map),
         Versioned::Refused(x) => {
-            of_going_back(page, x, map);
+            of_going_back(rt, page, x, map);
             REFUSED
         }
     }
 }
 
-pub fn back(page: &mut [u8], map: &mut [u8]) -> u8 {
-    let Number::Is(k) = version(page, FIRST) else {
+pub fn back(rt: &impl Machine, page: &mut [u8], map: &mut [u8]) -> u8 {
+    let Number::Is(k) = version(rt, page, FIRST) else {
         return FAILED;
     };
-    match date(page, FIRST + 1) {
-        Asked::Date(first) => go_back(page, map, k, first),
+    match date(rt, page, FIRST + 1) {
+        Asked::Date(first) => go_back(rt, page, map, k, first),
         Asked::Nothing => FAILED,
     }
 }

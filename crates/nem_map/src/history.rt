@@ -1,5 +1,6 @@
 // All versions of a map, a line for each.
 use leaf::bytes::same_bytes;
+use machine::Machine;
 use map_counts::{channels, used};
 use map_lines::out_of;
 use map_lines::tables::version_row;
@@ -24,7 +25,7 @@ fn earlier(map: &[u8], i: u32) -> u32 {
 }
 
 // The line of the version of a number, which stands at place i.
-fn line(page: &mut [u8], map: &[u8], v: u32, i: u32) -> u8 {
+fn line(rt: &impl Machine, page: &mut [u8], map: &[u8], v: u32, i: u32) -> u8 {
     let entries = entries_at(map, i);
     let p = version_row(
         page,
@@ -35,14 +36,14 @@ fn line(page: &mut [u8], map: &[u8], v: u32, i: u32) -> u8 {
         channels(entries),
         earlier(map, i),
     );
-    write_line(page, p)
+    write_line(rt, page, p)
 }
 
-fn lines(page: &mut [u8], map: &[u8], n: u32) -> u8 {
+fn lines(rt: &impl Machine, page: &mut [u8], map: &[u8], n: u32) -> u8 {
     let mut i: u32 = 0;
     while i < n {
         let v = i + 1;
-        let status = line(page, map, v, i);
+        let status = line(rt, page, map, v, i);
         if status != DONE {
             return status;
         }
@@ -51,25 +52,25 @@ fn lines(page: &mut [u8], map: &[u8], n: u32) -> u8 {
     DONE
 }
 
-fn headed(page: &mut [u8]) -> u8 {
+fn headed(rt: &impl Machine, page: &mut [u8]) -> u8 {
     let p = put(page, 0, b"version  from        outputs  channels");
-    write_line(page, p)
+    write_line(rt, page, p)
 }
 
-fn last_line(page: &mut [u8], n: u32) -> u8 {
+fn last_line(rt: &impl Machine, page: &mut [u8], n: u32) -> u8 {
     let p = out_of(page, 0, n as u64, b"32 versions");
-    write_line(page, p)
+    write_line(rt, page, p)
 }
 
-pub fn history(page: &mut [u8], map: &[u8]) -> u8 {
+pub fn history(rt: &impl Machine, page: &mut [u8], map: &[u8]) -> u8 {
     let n = count(map);
-    let status = headed(page);
+    let status = headed(rt, page);
     if status != DONE {
         return status;
     }
-    let printed = lines(page, map, n);
+    let printed = lines(rt, page, map, n);
     if printed != DONE {
         return printed;
     }
-    last_line(page, n)
+    last_line(rt, page, n)
 }

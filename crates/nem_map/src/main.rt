@@ -16,6 +16,7 @@ mod table;
 use disk::{Loaded, load_word};
 use kept_files::{long_map, no_map};
 use leaf::bytes::same_bytes;
+use machine::{Machine, PAGE, WORD};
 use outward::{FAILED, REFUSED, tell};
 use versions::is_map;
 
@@ -25,46 +26,53 @@ const WHAT: usize = 2;
 const MAP: usize = 3;
 
 // What is done with a file that is there.
-fn with_file(page: &mut [u8], map: &mut [u8], what: &[u8]) -> u8 {
+fn with_file(rt: &impl Machine, page: &mut [u8], map: &mut [u8], what: &[u8]) -> u8 {
     if !is_map(map) {
-        no_map(page);
+        no_map(rt, page);
         return REFUSED;
     }
     if same_bytes(what, b"add") {
-        return add::add(page, map);
+        return add::add(rt, page, map);
     }
     if same_bytes(what, b"back") {
-        return back::back(page, map);
+        return back::back(rt, page, map);
     }
     if same_bytes(what, b"history") {
-        return history::history(page, map);
+        return history::history(rt, page, map);
     }
-    show::show(page, map)
+    show::show(rt, page, map)
 }
 
 // The file has so many bytes of the memory, which has a place more than the longest one.
-fn with_sized(page: &mut [u8], memory: &mut [u8], bytes: usize, what: &[u8]) -> u8 {
+fn with_sized(
+    rt: &impl Machine,
+    page: &mut [u8],
+    memory: &mut [u8],
+    bytes: usize,
+    what: &[u8],
+) -> u8 {
     if memory.len() <= bytes {
-        long_map(page);
+        long_map(rt, page);
         return FAILED;
     }
-    with_file(page, &mut memory[..bytes], what)
+    with_file(rt, page, &mut memory[..bytes], what)
 }
 
-fn act(page: &mut [u8], memory: &mut [u8]) -> u8 {
-    let mut what = io::buffer();
-    let n = os::arg(WHAT, &mut what);
+fn act(rt: &impl Machine, page: &mut [u8], memory: &mut [u8]) -> u8 {
+    let mut what = [0u8; WORD];
+    let n = rt.arg(WHAT, &mut what);
     if same_bytes(&what[..n], b"make") {
-        return make::make(page, memory);
+        return make::make(rt, page, memory);
     }
-    let Loaded::Bytes(k) = load_word(MAP, memory) else {
+    let Loaded::Bytes(k) = load_word(rt, MAP, memory) else {
         return FAILED;
     };
-    with_sized(page, memory, k, &what[..n])
+    with_sized(rt, page, memory, k, &what[..n])
 }
 
-fn main() {
-    let mut page = io::large_buffer();
-    let mut memory = io::large_buffer();
-    tell(act(&mut page, &mut memory));
+// The memory has a place more than the longest file of a map.
+fn main(rt: HostRuntime) {
+    let mut page = [0u8; PAGE];
+    let mut memory = [0u8; PAGE];
+    tell(&rt, act(&rt, &mut page, &mut memory));
 }

@@ -1,5 +1,6 @@
 // A map made in a new file.
 use super::refused::other;
+use machine::Machine;
 use map_lines::out_of;
 use outward::{DONE, REFUSED, keep, write_line};
 use page::texts::{part, put};
@@ -8,19 +9,19 @@ use tenants::Versioned;
 use versions::BYTES;
 
 // The memory is longer than a map; the file is not.
-pub fn make(page: &mut [u8], memory: &mut [u8]) -> u8 {
+pub fn make(rt: &impl Machine, page: &mut [u8], memory: &mut [u8]) -> u8 {
     match make_map(memory) {
         Versioned::Version(_) => {
-            let status = keep(part(memory, 0, BYTES));
+            let status = keep(rt, part(memory, 0, BYTES));
             if status != DONE {
                 return status;
             }
             let p = put(page, 0, b"made: ");
             let q = out_of(page, p, 0, b"32 versions");
-            write_line(page, q)
+            write_line(rt, page, q)
         }
         Versioned::Refused(x) => {
-            other(page, x);
+            other(rt, page, x);
             REFUSED
         }
     }

@@ -2,6 +2,7 @@
 use day::fields::skip;
 use format::Refusal;
 use kept_files::no_versions;
+use machine::Machine;
 use map_lines::at_fault;
 use map_table::{FIELDS, NO_KEY, SHARE, TWICE};
 use outward::complain;
@@ -13,78 +14,78 @@ use refusals::headline;
 use versions::{count, first_date, latest_date};
 
 // A refusal that nothing more is known of.
-pub fn other(page: &mut [u8], x: Refusal) {
+pub fn other(rt: &impl Machine, page: &mut [u8], x: Refusal) {
     let p = headline(page, 0, x.number);
-    complain(page, p);
+    complain(rt, page, p);
 }
 
 // ---- dates
 
-fn too_early(page: &mut [u8], map: &[u8]) {
+fn too_early(rt: &impl Machine, page: &mut [u8], map: &[u8]) {
     let p = put(
         page,
         0,
         b"refused: 14, no version holds then: version 1 begins on ",
     );
     let q = date(page, p, first_date(map, 0) as u64);
-    complain(page, q);
+    complain(rt, page, q);
 }
 
 // No version holds on the date that is asked for.
-pub fn of_asking(page: &mut [u8], map: &[u8]) {
+pub fn of_asking(rt: &impl Machine, page: &mut [u8], map: &[u8]) {
     if count(map) == 0 {
-        no_versions(page);
+        no_versions(rt, page);
     } else {
-        too_early(page, map);
+        too_early(rt, page, map);
     }
 }
 
 // ---- a version more
 
-fn falls(page: &mut [u8], map: &[u8]) {
+fn falls(rt: &impl Machine, page: &mut [u8], map: &[u8]) {
     let p = put(
         page,
         0,
         b"refused: 24, the first date falls: the newest version begins on ",
     );
     let q = date(page, p, latest_date(map) as u64);
-    complain(page, q);
+    complain(rt, page, q);
 }
 
-fn full(page: &mut [u8]) {
+fn full(rt: &impl Machine, page: &mut [u8]) {
     let p = put(
         page,
         0,
         b"refused: 23, the map is full: it holds 32 versions\n\
         begin a new map (nem map make) for the dates to come, and keep this one for those before",
     );
-    complain(page, p);
+    complain(rt, page, p);
 }
 
-pub fn of_adding(page: &mut [u8], x: Refusal, map: &[u8]) {
+pub fn of_adding(rt: &impl Machine, page: &mut [u8], x: Refusal, map: &[u8]) {
     if x.number == 24 {
-        falls(page, map);
+        falls(rt, page, map);
         return;
     }
     if x.number == 23 {
-        full(page);
+        full(rt, page);
         return;
     }
-    other(page, x);
+    other(rt, page, x);
 }
 
-fn no_version(page: &mut [u8], map: &[u8]) {
+fn no_version(rt: &impl Machine, page: &mut [u8], map: &[u8]) {
     let p = put(page, 0, b"refused: 14, no such version: the map has ");
     let q = counted(page, p, count(map) as u64, b"version");
-    complain(page, q);
+    complain(rt, page, q);
 }
 
-pub fn of_going_back(page: &mut [u8], x: Refusal, map: &[u8]) {
+pub fn of_going_back(rt: &impl Machine, page: &mut [u8], x: Refusal, map: &[u8]) {
     if x.number == 14 {
-        no_version(page, map);
+        no_version(rt, page, map);
         return;
     }
-    of_adding(page, x, map);
+    of_adding(rt, page, x, map);
 }
 
 // ---- a table
@@ -104,12 +105,12 @@ fn before(fault: u8) -> usize {
 }
 
 // The line by its number from 1, what is wrong with it, and a mark under the field.
-pub fn of_table(page: &mut [u8], number: u64, line: &[u8], fault: u8) {
+pub fn of_table(rt: &impl Machine, page: &mut [u8], number: u64, line: &[u8], fault: u8) {
     let column = skip(line, 0, line.len(), before(fault));
     let p = at_fault(page, 0, number, fault);
     let q = put(page, p, b"\n");
     let r = excerpt(page, q, line, column);
     let s = put(page, r, b"\n");
     let t = mark(page, s, column);
-    complain(page, t);
+    complain(rt, page, t);
 }

@@ -1,6 +1,7 @@
 // A version as tables: its outputs in use, and its channels.
 use super::asked::{Asked, FIRST, date};
 use super::refused::of_asking;
+use machine::Machine;
 use map_counts::{OUTPUTS, is_first, is_used, key_at, outputs_on, share_at, shares_on, used};
 use map_lines::tables::{channel_row, output_row};
 use map_lines::{out_of, span};
@@ -11,7 +12,7 @@ use versions::{count, entries_at, first_date, version_on};
 // ---- outputs
 
 // The line of an output, none where it is unused.
-fn output(page: &mut [u8], entries: &[u8], i: u32) -> u8 {
+fn output(rt: &impl Machine, page: &mut [u8], entries: &[u8], i: u32) -> u8 {
     if !is_used(entries, i) {
         return DONE;
     }
@@ -24,13 +25,13 @@ fn output(page: &mut [u8], entries: &[u8], i: u32) -> u8 {
         part(key, 10, 12),
         share_at(entries, i),
     );
-    write_line(page, p)
+    write_line(rt, page, p)
 }
 
-fn outputs(page: &mut [u8], entries: &[u8]) -> u8 {
+fn outputs(rt: &impl Machine, page: &mut [u8], entries: &[u8]) -> u8 {
     let mut i: u32 = 0;
     while i < OUTPUTS {
-        let status = output(page, entries, i);
+        let status = output(rt, page, entries, i);
         if status != DONE {
             return status;
         }
@@ -42,7 +43,7 @@ fn outputs(page: &mut [u8], entries: &[u8]) -> u8 {
 // ---- channels
 
 // The line of the channel whose first output it is.
-fn channel(page: &mut [u8], entries: &[u8], i: u32) -> u8 {
+fn channel(rt: &impl Machine, page: &mut [u8], entries: &[u8], i: u32) -> u8 {
     if !is_first(entries, i) {
         return DONE;
     }
@@ -55,13 +56,13 @@ fn channel(page: &mut [u8], entries: &[u8], i: u32) -> u8 {
         outputs_on(entries, key),
         shares_on(entries, key),
     );
-    write_line(page, p)
+    write_line(rt, page, p)
 }
 
-fn channels(page: &mut [u8], entries: &[u8]) -> u8 {
+fn channels(rt: &impl Machine, page: &mut [u8], entries: &[u8]) -> u8 {
     let mut i: u32 = 0;
     while i < OUTPUTS {
-        let status = channel(page, entries, i);
+        let status = channel(rt, page, entries, i);
         if status != DONE {
             return status;
         }
@@ -73,33 +74,33 @@ fn channels(page: &mut [u8], entries: &[u8]) -> u8 {
 // ---- a version
 
 // From when to when it holds, and the headings of its outputs.
-fn top(page: &mut [u8], v: u32, first: u32, next: u32) -> u8 {
+fn top(rt: &impl Machine, page: &mut [u8], v: u32, first: u32, next: u32) -> u8 {
     let p = span(page, 0, v, first as u64, next as u64);
     let q = put(page, p, b"\noutput  NMI         suffix  share");
-    write_line(page, q)
+    write_line(rt, page, q)
 }
 
 // How many outputs are in use, and the headings of the channels.
-fn middle(page: &mut [u8], entries: &[u8]) -> u8 {
+fn middle(rt: &impl Machine, page: &mut [u8], entries: &[u8]) -> u8 {
     let p = out_of(
         page,
         0,
         used(entries),
         b"128 outputs in use\n\nNMI         suffix  outputs  shares",
     );
-    write_line(page, p)
+    write_line(rt, page, p)
 }
 
-fn tables(page: &mut [u8], entries: &[u8]) -> u8 {
-    let status = outputs(page, entries);
+fn tables(rt: &impl Machine, page: &mut [u8], entries: &[u8]) -> u8 {
+    let status = outputs(rt, page, entries);
     if status != DONE {
         return status;
     }
-    let printed = middle(page, entries);
+    let printed = middle(rt, page, entries);
     if printed != DONE {
         return printed;
     }
-    channels(page, entries)
+    channels(rt, page, entries)
 }
 
 // The first date of the version at a place, 0 where there is none.
@@ -111,32 +112,32 @@ fn date_at(map: &[u8], i: u32) -> u32 {
 }
 
 // The version of a number, which stands at place i.
-fn version(page: &mut [u8], map: &[u8], v: u32, i: u32) -> u8 {
-    let status = top(page, v, first_date(map, i), date_at(map, v));
+fn version(rt: &impl Machine, page: &mut [u8], map: &[u8], v: u32, i: u32) -> u8 {
+    let status = top(rt, page, v, first_date(map, i), date_at(map, v));
     if status != DONE {
         return status;
     }
-    tables(page, entries_at(map, i))
+    tables(rt, page, entries_at(map, i))
 }
 
 // ---- which
 
 // The version of a number, 0 for none.
-fn show_version(page: &mut [u8], map: &[u8], v: u32) -> u8 {
+fn show_version(rt: &impl Machine, page: &mut [u8], map: &[u8], v: u32) -> u8 {
     if v == 0 {
-        of_asking(page, map);
+        of_asking(rt, page, map);
         return REFUSED;
     }
-    version(page, map, v, v - 1)
+    version(rt, page, map, v, v - 1)
 }
 
 // The version that holds on the date that is asked for, or the newest.
-pub fn show(page: &mut [u8], map: &[u8]) -> u8 {
-    if os::arg_count() <= FIRST {
-        return show_version(page, map, count(map));
+pub fn show(rt: &impl Machine, page: &mut [u8], map: &[u8]) -> u8 {
+    if rt.arg_count() <= FIRST {
+        return show_version(rt, page, map, count(map));
     }
-    let Asked::Date(day) = date(page, FIRST) else {
+    let Asked::Date(day) = date(rt, page, FIRST) else {
         return FAILED;
     };
-    show_version(page, map, version_on(map, day))
+    show_version(rt, page, map, version_on(map, day))
 }

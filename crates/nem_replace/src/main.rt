@@ -9,13 +9,18 @@ use day_rows::refused;
 use disk::{Loaded, load_word};
 use explain::refused::explained_as;
 use format::{BlockChecked, Refusal};
-use outward::{FAILED, REFUSED, complain, tell, warn, write};
+use machine::{Machine, PAGE};
+use outward::{FAILED, REFUSED, complain, finish, warn, write};
 use page::texts::{number, part, put};
 use phrase::times::date;
 use records::record_of;
 use replacing::{Replaced, replace_day};
+use std::alloc::{AllocError, Global};
 use wanted::{Wanted, last_word, wanted_before_last};
 use whose::{DayFound, find_day};
+
+// A place more than the longest file has, so that a longer one is seen to be one; and as many for the block.
+const ROOM: usize = 1048577;
 
 // Room in front of the block for the 200 of its day, which has some three hundred bytes at most: what is said of a block's refusal looks at both.
 const FRONT: usize = 1024;
@@ -36,23 +41,23 @@ fn date_of(block: &[u8], minutes: u32, unit: u8) -> u64 {
     }
 }
 
-fn another_date(page: &mut [u8], k: usize, old: u64, new: u64) {
+fn another_date(rt: &impl Machine, page: &mut [u8], k: usize, old: u64, new: u64) {
     let p = put(page, 0, b"refused: 8, another date: the block has ");
     let q = date(page, p, new);
     let r = put(page, q, b", day ");
     let s = number(page, r, k as u64);
     let t = put(page, s, b" has ");
     let u = date(page, t, old);
-    complain(page, u);
+    complain(rt, page, u);
 }
 
-fn too_long(page: &mut [u8]) {
+fn too_long(rt: &impl Machine, page: &mut [u8]) {
     let p = put(
         page,
         0,
         b"refused: 1, the edited file would be longer than 1,048,576 bytes",
     );
-    complain(page, p);
+    complain(rt, page, p);
 }
 
 // Puts a record in front of the block, with its CR LF; answers how many bytes that are, 0 where there is no room for them.
@@ -85,22 +90,38 @@ fn placed_in(x: Refusal, text: &[u8], before: usize) -> Refusal {
 }
 
 // The block's own refusal, behind the 200 whose NMI stands at a place of the file. The block ends at `end`.
-fn of_block(page: &mut [u8], file: &[u8], nmi: usize, blocks: &mut [u8], end: usize, x: Refusal) {
+fn of_block(
+    rt: &impl Machine,
+    page: &mut [u8],
+    file: &[u8],
+    nmi: usize,
+    blocks: &mut [u8],
+    end: usize,
+    x: Refusal,
+) {
     let head = record_of(file, nmi);
     let before = put_in_front(blocks, part(file, head.start, head.end));
     let text = part(blocks, FRONT - before, end);
     let y = placed_in(x, text, before);
     let p = put(page, 0, b"in the block: ");
     let q = explained_as(page, p, text, y, x);
-    warn(page, q);
+    warn(rt, page, q);
 }
 
 // Whose refusal it is: the file's own, or that there is no such day; else the block's, or one of both together.
-fn say(page: &mut [u8], file: &[u8], k: usize, blocks: &mut [u8], end: usize, x: Refusal) {
+fn say(
+    rt: &impl Machine,
+    page: &mut [u8],
+    file: &[u8],
+    k: usize,
+    blocks: &mut [u8],
+    end: usize,
+    x: Refusal,
+) {
     match find_day(file, k) {
         DayFound::Refused(_) => {
             let p = refused(page, file, x);
-            warn(page, p);
+            warn(rt, page, p);
         }
         DayFound::At {
             channel: _,
@@ -112,13 +133,13 @@ fn say(page: &mut [u8], file: &[u8], k: usize, blocks: &mut [u8], end: usize, x:
             end: behind,
         } => {
             if x.number == 1 {
-                too_long(page);
+                too_long(rt, page);
             } else if x.number == 8 {
                 let old = date_of(part(file, start, behind), length, unit);
                 let new = date_of(part(blocks, FRONT, end), length, unit);
-                another_date(page, k, old, new);
+                another_date(rt, page, k, old, new);
             } else {
-                of_block(page, file, nmi, blocks, end, x);
+                of_block(rt, page, file, nmi, blocks, end, x);
             }
         }
     }
@@ -126,23 +147,31 @@ fn say(page: &mut [u8], file: &[u8], k: usize, blocks: &mut [u8], end: usize, x:
 
 // ---- the command
 
-fn edit(page: &mut [u8], room: &mut [u8], n: usize, k: usize, blocks: &mut [u8], end: usize) -> u8 {
+fn edit(
+    rt: &impl Machine,
+    page: &mut [u8],
+    room: &mut [u8],
+    n: usize,
+    k: usize,
+    blocks: &mut [u8],
+    end: usize,
+) -> u8 {
     match replace_day(room, n, k, part(blocks, FRONT, end)) {
-        Replaced::Length(l) => write(room, l),
+        Replaced::Length(l) => write(rt, room, l),
         Replaced::Refused(x) => {
-            say(page, part(room, 0, n), k, blocks, end, x);
+            say(rt, page, part(room, 0, n), k, blocks, end, x);
             REFUSED
         }
     }
 }
 
 // The block, behind the room in front of it; answers where it ends.
-fn load_block(blocks: &mut [u8]) -> Loaded {
+fn load_block(rt: &impl Machine, blocks: &mut [u8]) -> Loaded {
     if blocks.len() < FRONT {
         return Loaded::Failed;
     }
     let most = blocks.len() - FRONT;
-    let Loaded::Bytes(m) = load_word(last_word(), &mut blocks[FRONT..]) else {
+    let Loaded::Bytes(m) = load_word(rt, last_word(rt), &mut blocks[FRONT..]) else {
         return Loaded::Failed;
     };
     if most < m {
@@ -151,27 +180,26 @@ fn load_block(blocks: &mut [u8]) -> Loaded {
     Loaded::Bytes(FRONT + m)
 }
 
-fn replace(page: &mut [u8], room: &mut [u8], blocks: &mut [u8]) -> u8 {
-    let Loaded::Bytes(n) = load_word(2, room) else {
+fn replace(rt: &impl Machine, page: &mut [u8], room: &mut [u8], blocks: &mut [u8]) -> u8 {
+    let Loaded::Bytes(n) = load_word(rt, 2, room) else {
         return FAILED;
     };
-    let Loaded::Bytes(end) = load_block(blocks) else {
+    let Loaded::Bytes(end) = load_block(rt, blocks) else {
         return FAILED;
     };
-    match wanted_before_last(page, part(room, 0, n)) {
-        Wanted::Day(k) => edit(page, room, n, k, blocks, end),
+    match wanted_before_last(rt, page, part(room, 0, n)) {
+        Wanted::Day(k) => edit(rt, page, room, n, k, blocks, end),
         Wanted::Nothing(status) => status,
     }
 }
 
-fn go(room: &mut [u8], blocks: &mut [u8]) {
-    let mut page = io::large_buffer();
-    tell(replace(&mut page, room, blocks));
+fn run(rt: &impl Machine, alloc: Global) -> Result<u8, AllocError> {
+    let mut page = [0u8; PAGE];
+    let mut room = vec![in alloc; 0u8; ROOM]?;
+    let mut blocks = vec![in alloc; 0u8; FRONT + ROOM]?;
+    Ok(replace(rt, &mut page, &mut room, &mut blocks))
 }
 
-// A place more than the longest file has, so that a longer one is seen to be one; and as many for the block.
-fn main() {
-    let mut room = [0u8; 1048577];
-    let mut blocks = [0u8; 1049601];
-    go(&mut room, &mut blocks);
+fn main(rt: HostRuntime) {
+    finish(&rt, run(&rt, rt.alloc()));
 }

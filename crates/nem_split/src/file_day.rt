@@ -4,6 +4,7 @@ ghost use Rattle.day_sums.specs.Sought.{Within};
 use super::shown::{Day, show};
 use day_rows::refused;
 use day_sums::{DayAt, DaySought, date_of, nmi_of, seek_day, suffix_of, sum_of};
+use machine::Machine;
 use outward::{REFUSED, warn};
 use page::texts::part;
 use records::{UNIT_OF_200, unit_in};
@@ -16,7 +17,14 @@ const NUMBER: usize = 4;
 const OUTPUTS: usize = 128;
 
 // Day k, which stands there.
-fn split_found(page: &mut [u8], map: &[u8], file: &[u8], k: usize, at: DayAt) -> u8
+fn split_found(
+    rt: &impl Machine,
+    page: &mut [u8],
+    map: &[u8],
+    file: &[u8],
+    k: usize,
+    at: DayAt,
+) -> u8
     requires { Within file.now at }
 {
     let mut parts = [0u64; OUTPUTS];
@@ -27,6 +35,7 @@ fn split_found(page: &mut [u8], map: &[u8], file: &[u8], k: usize, at: DayAt) ->
         total: sum_of(file, at),
     };
     show(
+        rt,
         page,
         map,
         nmi_of(file, at),
@@ -37,21 +46,21 @@ fn split_found(page: &mut [u8], map: &[u8], file: &[u8], k: usize, at: DayAt) ->
     )
 }
 
-fn split_numbered(page: &mut [u8], map: &[u8], file: &[u8], k: usize) -> u8 {
+fn split_numbered(rt: &impl Machine, page: &mut [u8], map: &[u8], file: &[u8], k: usize) -> u8 {
     let sought = seek_day(file, k);
     match sought {
-        DaySought::Found(at) => split_found(page, map, file, k, at),
+        DaySought::Found(at) => split_found(rt, page, map, file, k, at),
         DaySought::Refused(x) => {
             let p = refused(page, file, x);
-            warn(page, p);
+            warn(rt, page, p);
             REFUSED
         }
     }
 }
 
-pub fn split(page: &mut [u8], map: &[u8], file: &[u8]) -> u8 {
-    match by_number(page, NUMBER) {
-        Wanted::Day(k) => split_numbered(page, map, file, k),
+pub fn split(rt: &impl Machine, page: &mut [u8], map: &[u8], file: &[u8]) -> u8 {
+    match by_number(rt, page, NUMBER) {
+        Wanted::Day(k) => split_numbered(rt, page, map, file, k),
         Wanted::Nothing(status) => status,
     }
 }

@@ -10,8 +10,13 @@ mod stored_day;
 
 use disk::{Loaded, load_word};
 use kept_files::{long_map, long_store};
-use outward::{FAILED, tell};
+use machine::{Machine, PAGE};
+use outward::{FAILED, finish};
 use page::texts::part;
+use std::alloc::{AllocError, Global};
+
+// A place more than the longest store that has a use has, 64 slots and 1,048,576 bytes of room; a file that is too long is seen to be so too.
+const ROOM: usize = 1050273;
 
 // The words behind the command's.
 const MAP: usize = 2;
@@ -22,45 +27,44 @@ const HOLDER: usize = 3;
 const OF_STORE: usize = 7;
 
 // The holder's bytes are so many of the room, which has a place more than the longest store.
-fn with_store(page: &mut [u8], map: &[u8], room: &[u8], bytes: usize) -> u8 {
+fn with_store(rt: &impl Machine, page: &mut [u8], map: &[u8], room: &[u8], bytes: usize) -> u8 {
     if room.len() <= bytes {
-        long_store(page);
+        long_store(rt, page);
         return FAILED;
     }
-    stored_day::split(page, map, part(room, 0, bytes))
+    stored_day::split(rt, page, map, part(room, 0, bytes))
 }
 
 // What holds the day, a store or a file.
-fn with_map(page: &mut [u8], map: &[u8], room: &mut [u8]) -> u8 {
-    let Loaded::Bytes(n) = load_word(HOLDER, room) else {
+fn with_map(rt: &impl Machine, page: &mut [u8], map: &[u8], room: &mut [u8]) -> u8 {
+    let Loaded::Bytes(n) = load_word(rt, HOLDER, room) else {
         return FAILED;
     };
-    if os::arg_count() == OF_STORE {
-        return with_store(page, map, room, n);
+    if rt.arg_count() == OF_STORE {
+        return with_store(rt, page, map, room, n);
     }
-    file_day::split(page, map, part(room, 0, n))
+    file_day::split(rt, page, map, part(room, 0, n))
 }
 
 // The memory has a place more than the longest file of a map.
-fn act(page: &mut [u8], memory: &mut [u8], room: &mut [u8]) -> u8 {
-    let Loaded::Bytes(n) = load_word(MAP, memory) else {
+fn act(rt: &impl Machine, page: &mut [u8], memory: &mut [u8], room: &mut [u8]) -> u8 {
+    let Loaded::Bytes(n) = load_word(rt, MAP, memory) else {
         return FAILED;
     };
     if memory.len() <= n {
-        long_map(page);
+        long_map(rt, page);
         return FAILED;
     }
-    with_map(page, part(memory, 0, n), room)
+    with_map(rt, page, part(memory, 0, n), room)
 }
 
-fn go(room: &mut [u8]) {
-    let mut page = io::large_buffer();
-    let mut memory = io::large_buffer();
-    tell(act(&mut page, &mut memory, room));
+fn run(rt: &impl Machine, alloc: Global) -> Result<u8, AllocError> {
+    let mut page = [0u8; PAGE];
+    let mut memory = [0u8; PAGE];
+    let mut room = vec![in alloc; 0u8; ROOM]?;
+    Ok(act(rt, &mut page, &mut memory, &mut room))
 }
 
-// A place more than the longest store that has a use has, 64 slots and 1,048,576 bytes of room; a file that is too long is seen to be so too.
-fn main() {
-    let mut room = [0u8; 1050273];
-    go(&mut room);
+fn main(rt: HostRuntime) {
+    finish(&rt, run(&rt, rt.alloc()));
 }

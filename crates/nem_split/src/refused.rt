@@ -1,5 +1,6 @@
 // What is said where the map has nothing to split a day by, with what would be right.
 use kept_files::no_versions;
+use machine::Machine;
 use outward::complain;
 use page::texts::{number, put};
 use phrase::times::date;
@@ -8,7 +9,7 @@ use versions::{count, first_date};
 
 // ---- no version on the day's date
 
-fn too_early(page: &mut [u8], map: &[u8], day: u32) {
+fn too_early(rt: &impl Machine, page: &mut [u8], map: &[u8], day: u32) {
     let p = put(page, 0, b"refused: 14, no version of the map holds on ");
     let q = date(page, p, day as u64);
     let r = put(page, q, b": version 1 begins on ");
@@ -18,14 +19,14 @@ fn too_early(page: &mut [u8], map: &[u8], day: u32) {
         s,
         b"\nno version can be added before it: make a map anew (nem map make) whose first one begins by then (nem map add)",
     );
-    complain(page, t);
+    complain(rt, page, t);
 }
 
-pub fn no_version(page: &mut [u8], map: &[u8], day: u32) {
+pub fn no_version(rt: &impl Machine, page: &mut [u8], map: &[u8], day: u32) {
     if count(map) == 0 {
-        no_versions(page);
+        no_versions(rt, page);
     } else {
-        too_early(page, map, day);
+        too_early(rt, page, map, day);
     }
 }
 
@@ -53,7 +54,15 @@ fn what_to_do(page: &mut [u8], at: usize, day: u32) -> usize {
     )
 }
 
-pub fn no_shares(page: &mut [u8], nmi: &[u8], suffix: &[u8], day: u32, v: u32, key_len: usize) {
+pub fn no_shares(
+    rt: &impl Machine,
+    page: &mut [u8],
+    nmi: &[u8],
+    suffix: &[u8],
+    day: u32,
+    v: u32,
+    key_len: usize,
+) {
     let p = put(page, 0, b"refused: 26, ");
     let q = why(page, p, key_len);
     let r = key(page, q, nmi, suffix, day as u64);
@@ -61,5 +70,5 @@ pub fn no_shares(page: &mut [u8], nmi: &[u8], suffix: &[u8], day: u32, v: u32, k
     let t = number(page, s, v as u64);
     let u = put(page, t, b" of the map");
     let w = what_to_do(page, u, day);
-    complain(page, w);
+    complain(rt, page, w);
 }

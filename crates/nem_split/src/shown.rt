@@ -3,6 +3,7 @@ use super::refused::{no_shares, no_version};
 use kept_files::no_map;
 use keys::same_capitals;
 use leaf::bytes::same_bytes;
+use machine::Machine;
 use map_counts::{OUTPUTS, key_at, share_at, shares_on};
 use outward::{DONE, REFUSED, write_line};
 use page::items::u64_at;
@@ -24,7 +25,14 @@ pub struct Day {
 // ---- the table
 
 // The line of an output, none where it has another key.
-fn output(page: &mut [u8], entries: &[u8], key: &[u8], parts: &[u64], i: u32) -> u8 {
+fn output(
+    rt: &impl Machine,
+    page: &mut [u8],
+    entries: &[u8],
+    key: &[u8],
+    parts: &[u64],
+    i: u32,
+) -> u8 {
     if !same_bytes(key_at(entries, i), key) {
         return DONE;
     }
@@ -37,13 +45,13 @@ fn output(page: &mut [u8], entries: &[u8], key: &[u8], parts: &[u64], i: u32) ->
         share_at(entries, i),
         u64_at(parts, i as usize),
     );
-    write_line(page, p)
+    write_line(rt, page, p)
 }
 
-fn outputs(page: &mut [u8], entries: &[u8], key: &[u8], parts: &[u64]) -> u8 {
+fn outputs(rt: &impl Machine, page: &mut [u8], entries: &[u8], key: &[u8], parts: &[u64]) -> u8 {
     let mut i: u32 = 0;
     while i < OUTPUTS {
-        let status = output(page, entries, key, parts, i);
+        let status = output(rt, page, entries, key, parts, i);
         if status != DONE {
             return status;
         }
@@ -64,17 +72,18 @@ fn sum_of(parts: &[u64]) -> u64 {
 }
 
 // What the columns add up to, and behind it what to think of the unit.
-fn bottom(page: &mut [u8], shares: u64, sum: u64, unit: &[u8]) -> u8 {
+fn bottom(rt: &impl Machine, page: &mut [u8], shares: u64, sum: u64, unit: &[u8]) -> u8 {
     let p = sum_row(page, 0, shares, sum);
     if is_energy(unit) {
-        return write_line(page, p);
+        return write_line(rt, page, p);
     }
     let q = put(page, p, b"\n");
     let r = note(page, q, unit);
-    write_line(page, r)
+    write_line(rt, page, r)
 }
 
 fn top(
+    rt: &impl Machine,
     page: &mut [u8],
     nmi: &[u8],
     suffix: &[u8],
@@ -86,15 +95,24 @@ fn top(
     let p = title(page, 0, nmi, suffix, date as u64, total, unit, v);
     let q = put(page, p, b"\n");
     let r = headings(page, q);
-    write_line(page, r)
+    write_line(rt, page, r)
 }
 
 // The table of the outputs that have the key in a version's entries.
-fn table(page: &mut [u8], entries: &[u8], key: &[u8], day: Day, v: u32, parts: &[u64]) -> u8 {
+fn table(
+    rt: &impl Machine,
+    page: &mut [u8],
+    entries: &[u8],
+    key: &[u8],
+    day: Day,
+    v: u32,
+    parts: &[u64],
+) -> u8 {
     let s: Spelling = units::name(day.unit);
     let bytes = s.bytes;
     let unit = part(&bytes, 0, s.length);
     let status = top(
+        rt,
         page,
         part(key, 0, 10),
         part(key, 10, 12),
@@ -106,11 +124,11 @@ fn table(page: &mut [u8], entries: &[u8], key: &[u8], day: Day, v: u32, parts: &
     if status != DONE {
         return status;
     }
-    let printed = outputs(page, entries, key, parts);
+    let printed = outputs(rt, page, entries, key, parts);
     if printed != DONE {
         return printed;
     }
-    bottom(page, shares_on(entries, key), sum_of(parts), unit)
+    bottom(rt, page, shares_on(entries, key), sum_of(parts), unit)
 }
 
 // ---- which
@@ -137,6 +155,7 @@ fn key_on<'a>(entries: &'a [u8], nmi: &[u8], suffix: &[u8]) -> &'a [u8] {
 
 // What was answered by the entries of a version: of 21 and 14 there is none, and 15, 25 and 27 can't come of a day and a map, so a refusal is 26.
 fn show_by(
+    rt: &impl Machine,
     page: &mut [u8],
     entries: &[u8],
     nmi: &[u8],
@@ -148,9 +167,9 @@ fn show_by(
 ) -> u8 {
     let key = key_on(entries, nmi, suffix);
     match answer {
-        Split::Done { outputs: _ } => table(page, entries, key, day, v, parts),
+        Split::Done { outputs: _ } => table(rt, page, entries, key, day, v, parts),
         Split::Refused(_) => {
-            no_shares(page, nmi, suffix, day.date, v, key.len());
+            no_shares(rt, page, nmi, suffix, day.date, v, key.len());
             REFUSED
         }
     }
@@ -158,6 +177,7 @@ fn show_by(
 
 // What was answered of a day that is there, by its channel's NMI and suffix.
 pub fn show(
+    rt: &impl Machine,
     page: &mut [u8],
     map: &[u8],
     nmi: &[u8],
@@ -167,15 +187,16 @@ pub fn show(
     parts: &[u64],
 ) -> u8 {
     if !is_map(map) {
-        no_map(page);
+        no_map(rt, page);
         return REFUSED;
     }
     let v = version_on(map, day.date);
     if v == 0 {
-        no_version(page, map, day.date);
+        no_version(rt, page, map, day.date);
         return REFUSED;
     }
     show_by(
+        rt,
         page,
         entries_at(map, v - 1),
         nmi,

@@ -2,6 +2,7 @@
 use super::shown::{Day, show};
 use format::{Number, Totalled};
 use kept_files::no_day;
+use machine::{Machine, WORD};
 use named::date_of;
 use outward::{FAILED, REFUSED};
 use seeking::find_slot;
@@ -32,6 +33,7 @@ fn unit_of(store: &[u8], nmi: &[u8], suffix: &[u8], date: u32) -> u8 {
 
 // The day of a key, whose values add up to a total.
 fn split_held(
+    rt: &impl Machine,
     page: &mut [u8],
     map: &[u8],
     store: &[u8],
@@ -47,10 +49,11 @@ fn split_held(
         unit: unit_of(store, nmi, suffix, date),
         total,
     };
-    show(page, map, nmi, suffix, day, answer, &parts)
+    show(rt, page, map, nmi, suffix, day, answer, &parts)
 }
 
 fn split_key(
+    rt: &impl Machine,
     page: &mut [u8],
     map: &[u8],
     store: &[u8],
@@ -60,23 +63,24 @@ fn split_key(
 ) -> u8 {
     let stored = stored_sum(store, nmi, suffix, date);
     match stored {
-        Totalled::Total(total) => split_held(page, map, store, nmi, suffix, date, total),
+        Totalled::Total(total) => split_held(rt, page, map, store, nmi, suffix, date, total),
         Totalled::Refused(x) => {
-            no_day(page, x, nmi, suffix, date);
+            no_day(rt, page, x, nmi, suffix, date);
             REFUSED
         }
     }
 }
 
-pub fn split(page: &mut [u8], map: &[u8], store: &[u8]) -> u8 {
-    let mut nmi = io::buffer();
-    let n = os::arg(NMI, &mut nmi);
-    let mut suffix = io::buffer();
-    let m = os::arg(SUFFIX, &mut suffix);
-    let mut date = io::buffer();
-    let k = os::arg(DATE, &mut date);
+pub fn split(rt: &impl Machine, page: &mut [u8], map: &[u8], store: &[u8]) -> u8 {
+    let mut nmi = [0u8; WORD];
+    let n = rt.arg(NMI, &mut nmi);
+    let mut suffix = [0u8; WORD];
+    let m = rt.arg(SUFFIX, &mut suffix);
+    let mut date = [0u8; WORD];
+    let k = rt.arg(DATE, &mut date);
     match date_of(&date[..k]) {
         Number::Is(day) => split_key(
+            rt,
             page,
             map,
             store,
@@ -85,7 +89,7 @@ pub fn split(page: &mut [u8], map: &[u8], store: &[u8]) -> u8 {
             (day % EIGHT_DIGITS) as u32,
         ),
         Number::Bad => {
-            no_date(page, &date[..k]);
+            no_date(rt, page, &date[..k]);
             FAILED
         }
     }

@@ -1,22 +1,30 @@
 // The day of a key deleted.
 use deleting::delete_day;
 use kept_files::no_day;
+use machine::Machine;
 use outward::{DONE, REFUSED, keep, write_line};
 use store::Kept;
 use store_lines::deleted;
 
-pub fn delete(page: &mut [u8], store: &mut [u8], nmi: &[u8], suffix: &[u8], date: u32) -> u8 {
+pub fn delete(
+    rt: &impl Machine,
+    page: &mut [u8],
+    store: &mut [u8],
+    nmi: &[u8],
+    suffix: &[u8],
+    date: u32,
+) -> u8 {
     match delete_day(store, nmi, suffix, date) {
         Kept::Days(days) => {
-            let status = keep(store);
+            let status = keep(rt, store);
             if status != DONE {
                 return status;
             }
             let p = deleted(page, 0, days);
-            write_line(page, p)
+            write_line(rt, page, p)
         }
         Kept::Refused(x) => {
-            no_day(page, x, nmi, suffix, date);
+            no_day(rt, page, x, nmi, suffix, date);
             REFUSED
         }
     }

@@ -4,11 +4,13 @@ use day_table::write_table;
 use format::{DayHead, DayRead};
 use getting::get_day;
 use kept_files::no_day;
+use machine::Machine;
 use outward::REFUSED;
 
 const MOST: usize = 288;
 
 fn table(
+    rt: &impl Machine,
     page: &mut [u8],
     store: &[u8],
     x: DayRead,
@@ -38,17 +40,18 @@ fn table(
                 unit,
             };
             write_table(
-                page, store, head, n, values, flags, methods, reasons, starts, lengths,
+                rt, page, store, head, n, values, flags, methods, reasons, starts, lengths,
             )
         }
         DayRead::Refused(y) => {
-            no_day(page, y, nmi, suffix, asked);
+            no_day(rt, page, y, nmi, suffix, asked);
             REFUSED
         }
     }
 }
 
 fn get_in(
+    rt: &impl Machine,
     page: &mut [u8],
     store: &[u8],
     nmi: &[u8],
@@ -65,11 +68,18 @@ fn get_in(
         store, nmi, suffix, date, values, flags, methods, reasons, starts, lengths,
     );
     table(
-        page, store, x, nmi, suffix, date, values, flags, methods, reasons, starts, lengths,
+        rt, page, store, x, nmi, suffix, date, values, flags, methods, reasons, starts, lengths,
     )
 }
 
-pub fn get(page: &mut [u8], store: &[u8], nmi: &[u8], suffix: &[u8], date: u32) -> u8 {
+pub fn get(
+    rt: &impl Machine,
+    page: &mut [u8],
+    store: &[u8],
+    nmi: &[u8],
+    suffix: &[u8],
+    date: u32,
+) -> u8 {
     let mut values = [0u64; MOST];
     let mut flags = [0u8; MOST];
     let mut methods = [0u8; MOST];
@@ -77,6 +87,7 @@ pub fn get(page: &mut [u8], store: &[u8], nmi: &[u8], suffix: &[u8], date: u32) 
     let mut starts = [0usize; MOST];
     let mut lengths = [0usize; MOST];
     get_in(
+        rt,
         page,
         store,
         nmi,

@@ -1,6 +1,7 @@
 // The used slots of a store as a table, a line for each, and a line of what it holds.
 use kept_files::no_store;
 use listing::slots::{headings, held, row};
+use machine::Machine;
 use opening::{Opened, open_store};
 use outward::{DONE, REFUSED, write_line};
 use page::texts::part;
@@ -10,13 +11,13 @@ use slot_reading::read_slot;
 use store::{Header, SlotRead};
 use units::Spelling;
 
-fn headed(page: &mut [u8]) -> u8 {
+fn headed(rt: &impl Machine, page: &mut [u8]) -> u8 {
     let p = headings(page, 0);
-    write_line(page, p)
+    write_line(rt, page, p)
 }
 
 // The line of a slot, none where it is free.
-fn line(page: &mut [u8], store: &[u8], slot: usize) -> u8 {
+fn line(rt: &impl Machine, page: &mut [u8], store: &[u8], slot: usize) -> u8 {
     let SlotRead::Used {
         nmi,
         suffix,
@@ -44,13 +45,13 @@ fn line(page: &mut [u8], store: &[u8], slot: usize) -> u8 {
         update,
         part(store, start, end).len(),
     );
-    write_line(page, p)
+    write_line(rt, page, p)
 }
 
-fn lines(page: &mut [u8], store: &[u8], slots: usize) -> u8 {
+fn lines(rt: &impl Machine, page: &mut [u8], store: &[u8], slots: usize) -> u8 {
     let mut slot: usize = 0;
     while slot < slots {
-        let status = line(page, store, slot);
+        let status = line(rt, page, store, slot);
         if status != DONE {
             return status;
         }
@@ -67,7 +68,7 @@ fn free(room: usize, used: usize) -> usize {
     room - used
 }
 
-fn last_line(page: &mut [u8], store: &[u8], h: Header) -> u8 {
+fn last_line(rt: &impl Machine, page: &mut [u8], store: &[u8], h: Header) -> u8 {
     let used = live_bytes(store, h, h.map);
     let p = held(
         page,
@@ -77,18 +78,18 @@ fn last_line(page: &mut [u8], store: &[u8], h: Header) -> u8 {
         used,
         free(h.size as usize, used),
     );
-    write_line(page, p)
+    write_line(rt, page, p)
 }
 
-pub fn list(page: &mut [u8], store: &[u8]) -> u8 {
+pub fn list(rt: &impl Machine, page: &mut [u8], store: &[u8]) -> u8 {
     let Opened::Is(h) = open_store(store) else {
-        no_store(page);
+        no_store(rt, page);
         return REFUSED;
     };
-    headed(page);
-    let status = lines(page, store, h.slots as usize);
+    headed(rt, page);
+    let status = lines(rt, page, store, h.slots as usize);
     if status != DONE {
         return status;
     }
-    last_line(page, store, h)
+    last_line(rt, page, store, h)
 }

@@ -13,9 +13,17 @@ use disk::{Loaded, load_word};
 use format::Number;
 use kept_files::long_store;
 use leaf::bytes::same_bytes;
+use machine::{Machine, PAGE, WORD};
 use named::date_of;
-use outward::{FAILED, tell};
+use outward::{FAILED, finish};
+use std::alloc::{AllocError, Global};
 use wanted::no_date;
+
+// A place more than the longest store that has a use has, 64 slots and 1,048,576 bytes of room.
+const MEMORY: usize = 1050273;
+
+// One more than the longest file has.
+const ROOM: usize = 1048577;
 
 // The words behind the command's.
 const WHAT: usize = 2;
@@ -29,6 +37,7 @@ const EIGHT_DIGITS: u64 = 100000000;
 
 // What is done with the day of a key.
 fn of_key(
+    rt: &impl Machine,
     page: &mut [u8],
     store: &mut [u8],
     what: &[u8],
@@ -37,44 +46,51 @@ fn of_key(
     date: u32,
 ) -> u8 {
     if same_bytes(what, b"delete") {
-        return delete::delete(page, store, nmi, suffix, date);
+        return delete::delete(rt, page, store, nmi, suffix, date);
     }
-    get::get(page, store, nmi, suffix, date)
+    get::get(rt, page, store, nmi, suffix, date)
 }
 
 // The key that the words give.
-fn by_key(page: &mut [u8], store: &mut [u8], what: &[u8]) -> u8 {
-    let mut nmi = io::buffer();
-    let n = os::arg(FIRST, &mut nmi);
-    let mut suffix = io::buffer();
-    let m = os::arg(FIRST + 1, &mut suffix);
-    let mut word = io::buffer();
-    let k = os::arg(FIRST + 2, &mut word);
+fn by_key(rt: &impl Machine, page: &mut [u8], store: &mut [u8], what: &[u8]) -> u8 {
+    let mut nmi = [0u8; WORD];
+    let n = rt.arg(FIRST, &mut nmi);
+    let mut suffix = [0u8; WORD];
+    let m = rt.arg(FIRST + 1, &mut suffix);
+    let mut word = [0u8; WORD];
+    let k = rt.arg(FIRST + 2, &mut word);
     match date_of(&word[..k]) {
         Number::Is(day) => {
             let date = (day % EIGHT_DIGITS) as u32;
-            of_key(page, store, what, &nmi[..n], &suffix[..m], date)
+            of_key(rt, page, store, what, &nmi[..n], &suffix[..m], date)
         }
         Number::Bad => {
-            no_date(page, &word[..k]);
+            no_date(rt, page, &word[..k]);
             FAILED
         }
     }
 }
 
 // What is done with a store that is there. The room is for another file.
-fn with_store(page: &mut [u8], store: &mut [u8], room: &mut [u8], what: &[u8]) -> u8 {
+fn with_store(
+    rt: &impl Machine,
+    page: &mut [u8],
+    store: &mut [u8],
+    room: &mut [u8],
+    what: &[u8],
+) -> u8 {
     if same_bytes(what, b"put") {
-        return put::put(page, store, room);
+        return put::put(rt, page, store, room);
     }
     if same_bytes(what, b"list") {
-        return list::list(page, store);
+        return list::list(rt, page, store);
     }
-    by_key(page, store, what)
+    by_key(rt, page, store, what)
 }
 
 // The store has so many bytes of the memory, which has a place more than the longest one.
 fn with_sized(
+    rt: &impl Machine,
     page: &mut [u8],
     memory: &mut [u8],
     bytes: usize,
@@ -82,32 +98,31 @@ fn with_sized(
     what: &[u8],
 ) -> u8 {
     if memory.len() <= bytes {
-        long_store(page);
+        long_store(rt, page);
         return FAILED;
     }
-    with_store(page, &mut memory[..bytes], room, what)
+    with_store(rt, page, &mut memory[..bytes], room, what)
 }
 
-fn act(page: &mut [u8], memory: &mut [u8], room: &mut [u8]) -> u8 {
-    let mut what = io::buffer();
-    let n = os::arg(WHAT, &mut what);
+fn act(rt: &impl Machine, page: &mut [u8], memory: &mut [u8], room: &mut [u8]) -> u8 {
+    let mut what = [0u8; WORD];
+    let n = rt.arg(WHAT, &mut what);
     if same_bytes(&what[..n], b"make") {
-        return make::make(page, memory);
+        return make::make(rt, page, memory);
     }
-    let Loaded::Bytes(k) = load_word(STORE, memory) else {
+    let Loaded::Bytes(k) = load_word(rt, STORE, memory) else {
         return FAILED;
     };
-    with_sized(page, memory, k, room, &what[..n])
+    with_sized(rt, page, memory, k, room, &what[..n])
 }
 
-fn go(memory: &mut [u8], room: &mut [u8]) {
-    let mut page = io::large_buffer();
-    tell(act(&mut page, memory, room));
+fn run(rt: &impl Machine, alloc: Global) -> Result<u8, AllocError> {
+    let mut page = [0u8; PAGE];
+    let mut memory = vec![in alloc; 0u8; MEMORY]?;
+    let mut room = vec![in alloc; 0u8; ROOM]?;
+    Ok(act(rt, &mut page, &mut memory, &mut room))
 }
 
-// A place more than the longest store that has a use has, 64 slots and 1,048,576 bytes of room; and one more than the longest file.
-fn main() {
-    let mut memory = [0u8; 1050273];
-    let mut room = [0u8; 1048577];
-    go(&mut memory, &mut room);
+fn main(rt: HostRuntime) {
+    finish(&rt, run(&rt, rt.alloc()));
 }

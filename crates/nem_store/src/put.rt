@@ -11,6 +11,7 @@ use explain::refused::explained;
 use filling::read_noted;
 use format::{Checked, DayHead, DayRead, Refusal};
 use kept_files::no_store;
+use machine::Machine;
 use opening::{Opened, open_store};
 use outward::{DONE, FAILED, REFUSED, graver, keep, warn, write_line};
 use page::texts::part;
@@ -50,25 +51,26 @@ struct Filled {
 // ---- a day
 
 // The line ends, and the day's status stands unless it can't be written.
-fn told(page: &mut [u8], at: usize, held: usize, status: u8) -> Turned {
+fn told(rt: &impl Machine, page: &mut [u8], at: usize, held: usize, status: u8) -> Turned {
     Turned {
         held,
-        status: graver(status, write_line(page, at)),
+        status: graver(status, write_line(rt, page, at)),
     }
 }
 
-fn is_kept(page: &mut [u8], at: usize, before: usize, held: usize) -> Turned {
+fn is_kept(rt: &impl Machine, page: &mut [u8], at: usize, before: usize, held: usize) -> Turned {
     let p = kept(page, at, before, held);
-    told(page, p, held, DONE)
+    told(rt, page, p, held, DONE)
 }
 
-fn not_kept(page: &mut [u8], at: usize, before: usize, x: Refusal) -> Turned {
+fn not_kept(rt: &impl Machine, page: &mut [u8], at: usize, before: usize, x: Refusal) -> Turned {
     let p = headline(page, at, x.number);
-    told(page, p, before, REFUSED)
+    told(rt, page, p, before, REFUSED)
 }
 
 // Day k of a channel, whose 200 is given, into a store that holds so many days.
 fn put_one(
+    rt: &impl Machine,
     page: &mut [u8],
     store: &mut [u8],
     file: &[u8],
@@ -89,13 +91,14 @@ fn put_one(
     match put_day(
         store, nmi, suffix, day, values, flags, methods, reasons, starts, lengths, file,
     ) {
-        Kept::Days(held) => is_kept(page, p, before, held),
-        Kept::Refused(x) => not_kept(page, p, before, x),
+        Kept::Days(held) => is_kept(rt, page, p, before, held),
+        Kept::Refused(x) => not_kept(rt, page, p, before, x),
     }
 }
 
 // The day at a place, as it was read. In an accepted file each number before its days' has one.
 fn put_placed(
+    rt: &impl Machine,
     page: &mut [u8],
     store: &mut [u8],
     file: &[u8],
@@ -137,6 +140,7 @@ fn put_placed(
         unit,
     };
     put_one(
+        rt,
         page,
         store,
         file,
@@ -155,6 +159,7 @@ fn put_placed(
 
 // The day of a number, read into lent lists.
 fn turn_in(
+    rt: &impl Machine,
     page: &mut [u8],
     store: &mut [u8],
     file: &[u8],
@@ -178,7 +183,7 @@ fn turn_in(
     let answer = t.answer;
     let next = t.next;
     let turned = put_placed(
-        page, store, file, k, before, place, answer, values, flags, methods, reasons, starts,
+        rt, page, store, file, k, before, place, answer, values, flags, methods, reasons, starts,
         lengths,
     );
     Passed { turned, next }
@@ -186,6 +191,7 @@ fn turn_in(
 
 // The day of a number.
 fn turn(
+    rt: &impl Machine,
     page: &mut [u8],
     store: &mut [u8],
     file: &[u8],
@@ -203,6 +209,7 @@ fn turn(
     let mut starts = [0usize; MOST];
     let mut lengths = [0usize; MOST];
     turn_in(
+        rt,
         page,
         store,
         file,
@@ -233,6 +240,7 @@ fn and_this(kept: usize, days: usize, status: u8) -> usize {
 
 // Day after day, until one can't be told of.
 fn put_days(
+    rt: &impl Machine,
     page: &mut [u8],
     store: &mut [u8],
     file: &[u8],
@@ -248,7 +256,7 @@ fn put_days(
     let mut from = first;
     let mut k: usize = 0;
     while k < days {
-        let t = turn(page, store, file, k, held, from);
+        let t = turn(rt, page, store, file, k, held, from);
         let turned = t.turned;
         if turned.status == FAILED {
             return Filled {
@@ -267,14 +275,14 @@ fn put_days(
 }
 
 // The store's bytes go out where a day was kept.
-fn store_out(store: &[u8], kept: usize, status: u8) -> u8 {
+fn store_out(rt: &impl Machine, store: &[u8], kept: usize, status: u8) -> u8 {
     if kept == 0 {
         return DONE;
     }
     if status == FAILED {
         return FAILED;
     }
-    keep(store)
+    keep(rt, store)
 }
 
 // Those of all days that were not kept.
@@ -287,6 +295,7 @@ fn others(days: usize, kept: usize) -> usize {
 
 // Where a line can't be written nothing is kept, as nobody is told.
 fn fill(
+    rt: &impl Machine,
     page: &mut [u8],
     store: &mut [u8],
     file: &[u8],
@@ -296,16 +305,25 @@ fn fill(
 ) -> u8
     requires { IsAccepted file.now × DayAhead file.now 0 first }
 {
-    let filled = put_days(page, store, file, days, first, before);
-    let status = graver(filled.status, store_out(store, filled.kept, filled.status));
+    let filled = put_days(rt, page, store, file, days, first, before);
+    let status = graver(
+        filled.status,
+        store_out(rt, store, filled.kept, filled.status),
+    );
     if status == FAILED {
         return FAILED;
     }
     let p = summary(page, 0, filled.kept, others(days, filled.kept), filled.held);
-    graver(status, write_line(page, p))
+    graver(status, write_line(rt, page, p))
 }
 
-fn put_file(page: &mut [u8], store: &mut [u8], file: &[u8], before: usize) -> u8 {
+fn put_file(
+    rt: &impl Machine,
+    page: &mut [u8],
+    store: &mut [u8],
+    file: &[u8],
+    before: usize,
+) -> u8 {
     let noted = check_and_note(file, 0, 0);
     let answer = noted.answer;
     let first = noted.day;
@@ -314,22 +332,22 @@ fn put_file(page: &mut [u8], store: &mut [u8], file: &[u8], before: usize) -> u8
             version: _,
             channels: _,
             days,
-        } => fill(page, store, file, days, first, before),
+        } => fill(rt, page, store, file, days, first, before),
         Checked::Refused(x) => {
             let p = explained(page, 0, file, x);
-            warn(page, p);
+            warn(rt, page, p);
             REFUSED
         }
     }
 }
 
-pub fn put(page: &mut [u8], store: &mut [u8], room: &mut [u8]) -> u8 {
+pub fn put(rt: &impl Machine, page: &mut [u8], store: &mut [u8], room: &mut [u8]) -> u8 {
     let Opened::Is(h) = open_store(store) else {
-        no_store(page);
+        no_store(rt, page);
         return REFUSED;
     };
-    let Loaded::Bytes(n) = load_word(FILE, room) else {
+    let Loaded::Bytes(n) = load_word(rt, FILE, room) else {
         return FAILED;
     };
-    put_file(page, store, part(room, 0, n), h.days as usize)
+    put_file(rt, page, store, part(room, 0, n), h.days as usize)
 }

@@ -10,6 +10,7 @@ use explain::refused::explained;
 use filling::read_noted;
 use format::{Checked, DayRead};
 use listing::lines::{headings, row};
+use machine::Machine;
 use measures::counts::counts_of;
 use outward::{DONE, REFUSED, warn, write};
 use page::texts::{part, put};
@@ -56,6 +57,7 @@ struct Passed {
 
 // The line of day k of a channel, whose 200 is given.
 fn line(
+    rt: &impl Machine,
     page: &mut [u8],
     k: usize,
     channel: usize,
@@ -79,11 +81,12 @@ fn line(
         counts_of(flags, n),
     );
     let q = put(page, p, b"\n");
-    write(page, q)
+    write(rt, page, q)
 }
 
 // The day at a place, as it was read.
 fn placed(
+    rt: &impl Machine,
     page: &mut [u8],
     file: &[u8],
     k: usize,
@@ -116,12 +119,13 @@ fn placed(
     let record = part(file, two_hundred.at, two_hundred.end);
     Shown {
         under,
-        status: line(page, k, under.channel, record, date, n, sum, flags),
+        status: line(rt, page, k, under.channel, record, date, n, sum, flags),
     }
 }
 
 // The line of the day of a number, read into lent lists.
 fn turn_in(
+    rt: &impl Machine,
     page: &mut [u8],
     file: &[u8],
     k: usize,
@@ -144,12 +148,19 @@ fn turn_in(
     let answer = t.answer;
     let next = t.next;
     let sum = day_sum(file, place);
-    let shown = placed(page, file, k, before, place, answer, sum, flags);
+    let shown = placed(rt, page, file, k, before, place, answer, sum, flags);
     Passed { shown, next }
 }
 
 // The line of the day of a number.
-fn turn(page: &mut [u8], file: &[u8], k: usize, before: Under, from: DayStart) -> Passed
+fn turn(
+    rt: &impl Machine,
+    page: &mut [u8],
+    file: &[u8],
+    k: usize,
+    before: Under,
+    from: DayStart,
+) -> Passed
     requires { IsAccepted file.now × DayAhead file.now k from }
     ensures { DayAhead file.now (k + 1) result.next }
 {
@@ -160,6 +171,7 @@ fn turn(page: &mut [u8], file: &[u8], k: usize, before: Under, from: DayStart) -
     let mut starts = [0usize; MOST];
     let mut lengths = [0usize; MOST];
     turn_in(
+        rt,
         page,
         file,
         k,
@@ -175,14 +187,14 @@ fn turn(page: &mut [u8], file: &[u8], k: usize, before: Under, from: DayStart) -
 }
 
 // Day after day.
-fn lines(page: &mut [u8], file: &[u8], days: usize, first: DayStart) -> u8
+fn lines(rt: &impl Machine, page: &mut [u8], file: &[u8], days: usize, first: DayStart) -> u8
     requires { IsAccepted file.now × DayAhead file.now 0 first }
 {
     let mut under = Under { at: 0, channel: 0 };
     let mut from = first;
     let mut k: usize = 0;
     while k < days {
-        let t = turn(page, file, k, under, from);
+        let t = turn(rt, page, file, k, under, from);
         let shown = t.shown;
         if shown.status != DONE {
             return shown.status;
@@ -194,13 +206,13 @@ fn lines(page: &mut [u8], file: &[u8], days: usize, first: DayStart) -> u8
     DONE
 }
 
-fn headed(page: &mut [u8]) -> u8 {
+fn headed(rt: &impl Machine, page: &mut [u8]) -> u8 {
     let p = headings(page, 0);
     let q = put(page, p, b"\n");
-    write(page, q)
+    write(rt, page, q)
 }
 
-pub fn show(page: &mut [u8], file: &[u8]) -> u8 {
+pub fn show(rt: &impl Machine, page: &mut [u8], file: &[u8]) -> u8 {
     let noted = check_and_note(file, 0, 0);
     let answer = noted.answer;
     let first = noted.day;
@@ -210,12 +222,12 @@ pub fn show(page: &mut [u8], file: &[u8]) -> u8 {
             channels: _,
             days,
         } => {
-            headed(page);
-            lines(page, file, days, first)
+            headed(rt, page);
+            lines(rt, page, file, days, first)
         }
         Checked::Refused(x) => {
             let p = explained(page, 0, file, x);
-            warn(page, p);
+            warn(rt, page, p);
             REFUSED
         }
     }

@@ -9,46 +9,50 @@ mod totals;
 
 use disk::{Loaded, load_word};
 use leaf::bytes::same_bytes;
-use outward::{FAILED, tell};
+use machine::{Machine, PAGE, WORD};
+use outward::{FAILED, finish};
 use page::texts::part;
+use std::alloc::{AllocError, Global};
+
+// A place more than the longest file has, so that a longer one is seen to be one.
+const ROOM: usize = 1048577;
 
 // How many words there are where the first and the last day are given.
 const FROM_TO: usize = 5;
 
 // All days, a line each, or some of them as tables.
-fn days(page: &mut [u8], file: &[u8]) -> u8 {
-    if os::arg_count() == FROM_TO {
-        return some_days::show(page, file);
+fn days(rt: &impl Machine, page: &mut [u8], file: &[u8]) -> u8 {
+    if rt.arg_count() == FROM_TO {
+        return some_days::show(rt, page, file);
     }
-    all_days::show(page, file)
+    all_days::show(rt, page, file)
 }
 
-fn table(page: &mut [u8], file: &[u8], command: &[u8]) -> u8 {
+fn table(rt: &impl Machine, page: &mut [u8], file: &[u8], command: &[u8]) -> u8 {
     if same_bytes(command, b"totals") {
-        return totals::show(page, file);
+        return totals::show(rt, page, file);
     }
     if same_bytes(command, b"days") {
-        return days(page, file);
+        return days(rt, page, file);
     }
-    one_day::show(page, file)
+    one_day::show(rt, page, file)
 }
 
-fn show(page: &mut [u8], room: &mut [u8]) -> u8 {
-    let mut command = io::buffer();
-    let n = os::arg(1, &mut command);
-    let Loaded::Bytes(k) = load_word(2, room) else {
+fn show(rt: &impl Machine, page: &mut [u8], room: &mut [u8]) -> u8 {
+    let mut command = [0u8; WORD];
+    let n = rt.arg(1, &mut command);
+    let Loaded::Bytes(k) = load_word(rt, 2, room) else {
         return FAILED;
     };
-    table(page, part(room, 0, k), &command[..n])
+    table(rt, page, part(room, 0, k), &command[..n])
 }
 
-fn go(room: &mut [u8]) {
-    let mut page = io::large_buffer();
-    tell(show(&mut page, room));
+fn run(rt: &impl Machine, alloc: Global) -> Result<u8, AllocError> {
+    let mut page = [0u8; PAGE];
+    let mut room = vec![in alloc; 0u8; ROOM]?;
+    Ok(show(rt, &mut page, &mut room))
 }
 
-// A place more than the longest file has, so that a longer one is seen to be one.
-fn main() {
-    let mut room = [0u8; 1048577];
-    go(&mut room);
+fn main(rt: HostRuntime) {
+    finish(&rt, run(&rt, rt.alloc()));
 }

@@ -2,6 +2,7 @@
 use day_rows::{minutes, refused};
 use day_table::write_table;
 use format::{DayHead, DayRead};
+use machine::Machine;
 use outward::{REFUSED, warn};
 use reading::read_day::read_day;
 use wanted::{Wanted, wanted_day};
@@ -10,6 +11,7 @@ const MOST: usize = 288;
 
 // The day as it was read; or why there is none.
 pub fn table(
+    rt: &impl Machine,
     page: &mut [u8],
     file: &[u8],
     x: DayRead,
@@ -36,18 +38,19 @@ pub fn table(
                 unit,
             };
             write_table(
-                page, file, day, n, values, flags, methods, reasons, starts, lengths,
+                rt, page, file, day, n, values, flags, methods, reasons, starts, lengths,
             )
         }
         DayRead::Refused(y) => {
             let p = refused(page, file, y);
-            warn(page, p);
+            warn(rt, page, p);
             REFUSED
         }
     }
 }
 
 fn show_in(
+    rt: &impl Machine,
     page: &mut [u8],
     file: &[u8],
     k: usize,
@@ -60,11 +63,11 @@ fn show_in(
 ) -> u8 {
     let x = read_day(file, k, values, flags, methods, reasons, starts, lengths);
     table(
-        page, file, x, values, flags, methods, reasons, starts, lengths,
+        rt, page, file, x, values, flags, methods, reasons, starts, lengths,
     )
 }
 
-fn show_day(page: &mut [u8], file: &[u8], k: usize) -> u8 {
+fn show_day(rt: &impl Machine, page: &mut [u8], file: &[u8], k: usize) -> u8 {
     let mut values = [0u64; MOST];
     let mut flags = [0u8; MOST];
     let mut methods = [0u8; MOST];
@@ -72,6 +75,7 @@ fn show_day(page: &mut [u8], file: &[u8], k: usize) -> u8 {
     let mut starts = [0usize; MOST];
     let mut lengths = [0usize; MOST];
     show_in(
+        rt,
         page,
         file,
         k,
@@ -84,9 +88,9 @@ fn show_day(page: &mut [u8], file: &[u8], k: usize) -> u8 {
     )
 }
 
-pub fn show(page: &mut [u8], file: &[u8]) -> u8 {
-    match wanted_day(page, file) {
-        Wanted::Day(k) => show_day(page, file, k),
+pub fn show(rt: &impl Machine, page: &mut [u8], file: &[u8]) -> u8 {
+    match wanted_day(rt, page, file) {
+        Wanted::Day(k) => show_day(rt, page, file, k),
         Wanted::Nothing(status) => status,
     }
 }

@@ -10,6 +10,7 @@ use day_rows::no_such_day;
 use explain::refused::explained;
 use filling::read_noted;
 use format::Checked;
+use machine::Machine;
 use outward::{DONE, REFUSED, complain, warn, write_line};
 use page::texts::{number, put};
 use wanted::{Wanted, by_number};
@@ -33,6 +34,7 @@ struct Turned {
 
 // The table of the day of a number, read into lent lists.
 fn turn_in(
+    rt: &impl Machine,
     page: &mut [u8],
     file: &[u8],
     k: usize,
@@ -53,13 +55,13 @@ fn turn_in(
     let answer = t.answer;
     let next = t.next;
     let status = table(
-        page, file, answer, values, flags, methods, reasons, starts, lengths,
+        rt, page, file, answer, values, flags, methods, reasons, starts, lengths,
     );
     Turned { status, next }
 }
 
 // The table of the day of a number.
-fn turn(page: &mut [u8], file: &[u8], k: usize, from: DayStart) -> Turned
+fn turn(rt: &impl Machine, page: &mut [u8], file: &[u8], k: usize, from: DayStart) -> Turned
     requires { IsAccepted file.now × DayAhead file.now k from }
     ensures { DayAhead file.now (k + 1) result.next }
 {
@@ -70,6 +72,7 @@ fn turn(page: &mut [u8], file: &[u8], k: usize, from: DayStart) -> Turned
     let mut starts = [0usize; MOST];
     let mut lengths = [0usize; MOST];
     turn_in(
+        rt,
         page,
         file,
         k,
@@ -84,26 +87,33 @@ fn turn(page: &mut [u8], file: &[u8], k: usize, from: DayStart) -> Turned
 }
 
 // The empty line before each table but the first.
-fn parted(page: &mut [u8], k: usize, first: usize) -> u8 {
+fn parted(rt: &impl Machine, page: &mut [u8], k: usize, first: usize) -> u8 {
     if k == first {
         return DONE;
     }
-    write_line(page, 0)
+    write_line(rt, page, 0)
 }
 
 // The tables of the days from the first up to the end, which is left out; all are there. Day after day gives what `month::read_days` answers and leaves of them in
 // one call, whose long lists would bound how many days can be printed.
-fn tables(page: &mut [u8], file: &[u8], first: usize, end: usize, start: DayStart) -> u8
+fn tables(
+    rt: &impl Machine,
+    page: &mut [u8],
+    file: &[u8],
+    first: usize,
+    end: usize,
+    start: DayStart,
+) -> u8
     requires { IsAccepted file.now × DayAhead file.now first start }
 {
     let mut from = start;
     let mut k = first;
     while k < end {
-        let apart = parted(page, k, first);
+        let apart = parted(rt, page, k, first);
         if apart != DONE {
             return apart;
         }
-        let t = turn(page, file, k, from);
+        let t = turn(rt, page, file, k, from);
         if t.status != DONE {
             return t.status;
         }
@@ -116,13 +126,13 @@ fn tables(page: &mut [u8], file: &[u8], first: usize, end: usize, start: DayStar
 // ---- which days
 
 // Someone who wrote the higher number first is told why no table comes: it is no refusal, so the status does not say it.
-fn say_none(page: &mut [u8], first: usize, last: usize) {
+fn say_none(rt: &impl Machine, page: &mut [u8], first: usize, last: usize) {
     let p = put(page, 0, b"nem: no days from ");
     let q = number(page, p, first as u64);
     let r = put(page, q, b" to ");
     let s = number(page, r, last as u64);
     let t = put(page, s, b": the lower number comes first");
-    complain(page, t);
+    complain(rt, page, t);
 }
 
 // Which day is said not to be there, in a file of so many days that has not the last: the first, where it has not that either.
@@ -135,6 +145,7 @@ fn lacking(first: usize, last: usize, days: usize) -> usize {
 
 // The days of an accepted file that has so many. Whether all of them are there is known before the first is printed.
 fn show_all(
+    rt: &impl Machine,
     page: &mut [u8],
     file: &[u8],
     first: usize,
@@ -145,18 +156,18 @@ fn show_all(
     requires { IsAccepted file.now × DayAhead file.now first start }
 {
     if last < first {
-        say_none(page, first, last);
+        say_none(rt, page, first, last);
         return DONE;
     }
     if days <= last {
         let p = no_such_day(page, lacking(first, last, days), days);
-        warn(page, p);
+        warn(rt, page, p);
         return REFUSED;
     }
-    tables(page, file, first, last + 1, start)
+    tables(rt, page, file, first, last + 1, start)
 }
 
-fn show_days(page: &mut [u8], file: &[u8], first: usize, last: usize) -> u8 {
+fn show_days(rt: &impl Machine, page: &mut [u8], file: &[u8], first: usize, last: usize) -> u8 {
     let noted = check_and_note(file, first, 0);
     let answer = noted.answer;
     let start = noted.day;
@@ -165,25 +176,25 @@ fn show_days(page: &mut [u8], file: &[u8], first: usize, last: usize) -> u8 {
             version: _,
             channels: _,
             days,
-        } => show_all(page, file, first, last, days, start),
+        } => show_all(rt, page, file, first, last, days, start),
         Checked::Refused(x) => {
             let p = explained(page, 0, file, x);
-            warn(page, p);
+            warn(rt, page, p);
             REFUSED
         }
     }
 }
 
-fn show_from(page: &mut [u8], file: &[u8], first: usize) -> u8 {
-    match by_number(page, LAST) {
-        Wanted::Day(last) => show_days(page, file, first, last),
+fn show_from(rt: &impl Machine, page: &mut [u8], file: &[u8], first: usize) -> u8 {
+    match by_number(rt, page, LAST) {
+        Wanted::Day(last) => show_days(rt, page, file, first, last),
         Wanted::Nothing(status) => status,
     }
 }
 
-pub fn show(page: &mut [u8], file: &[u8]) -> u8 {
-    match by_number(page, FIRST) {
-        Wanted::Day(first) => show_from(page, file, first),
+pub fn show(rt: &impl Machine, page: &mut [u8], file: &[u8]) -> u8 {
+    match by_number(rt, page, FIRST) {
+        Wanted::Day(first) => show_from(rt, page, file, first),
         Wanted::Nothing(status) => status,
     }
 }

@@ -7,10 +7,11 @@ use channel_rows::{headed, placed};
 use checking::tour::check_and_note;
 use explain::refused::explained;
 use format::{Checked, Totalled};
+use machine::Machine;
 use outward::{DONE, REFUSED, warn, write};
 
 // The rows of all channels, one after the other. Where there is no channel k, there is none behind it.
-fn rows(page: &mut [u8], file: &[u8], channels: usize, first: ChannelStart) -> u8
+fn rows(rt: &impl Machine, page: &mut [u8], file: &[u8], channels: usize, first: ChannelStart) -> u8
     requires { IsAccepted file.now × ChannelAhead file.now 0 first }
 {
     let mut from = first;
@@ -23,7 +24,7 @@ fn rows(page: &mut [u8], file: &[u8], channels: usize, first: ChannelStart) -> u
             return DONE;
         };
         let p = placed(page, file, k, place, total);
-        let status = write(page, p);
+        let status = write(rt, page, p);
         if status != DONE {
             return status;
         }
@@ -33,7 +34,7 @@ fn rows(page: &mut [u8], file: &[u8], channels: usize, first: ChannelStart) -> u
     DONE
 }
 
-pub fn show(page: &mut [u8], file: &[u8]) -> u8 {
+pub fn show(rt: &impl Machine, page: &mut [u8], file: &[u8]) -> u8 {
     let noted = check_and_note(file, 0, 0);
     let answer = noted.answer;
     let first = noted.channel;
@@ -44,12 +45,12 @@ pub fn show(page: &mut [u8], file: &[u8]) -> u8 {
             days: _,
         } => {
             let p = headed(page);
-            write(page, p);
-            rows(page, file, channels, first)
+            write(rt, page, p);
+            rows(rt, page, file, channels, first)
         }
         Checked::Refused(x) => {
             let p = explained(page, 0, file, x);
-            warn(page, p);
+            warn(rt, page, p);
             REFUSED
         }
     }

@@ -2,22 +2,23 @@
 // proved safe, and have none.
 #![tactic(auto)]
 
+use machine::Machine;
 use page::texts::part;
 
 // What is put on the page is written out where so much of it stands there: the longest piece that is put there at once, the answer and 400 days of a month, is shorter
 // than the rest.
 const FULL: usize = 32768;
 
-// What stands on the page before a place.
-pub fn write(page: &[u8], at: usize) {
-    io::write_all(libc::STDOUT_FILENO, part(page, 0, at));
+// What stands on the page before a place. Where nobody reads it, nothing is left to do.
+pub fn write(rt: &impl Machine, page: &[u8], at: usize) {
+    let _ = rt.write(part(page, 0, at));
 }
 
 // The place to go on from: the page's start, where the page was written out.
-pub fn make_room(page: &[u8], at: usize) -> usize {
+pub fn make_room(rt: &impl Machine, page: &[u8], at: usize) -> usize {
     if at < FULL {
         return at;
     }
-    write(page, at);
+    write(rt, page, at);
     0
 }

@@ -6,6 +6,7 @@ use cases::stores::{bytes_case, delete_case, get_case, make_case, memory_case, s
 use cases::{block_case, check_case, day_case, find_case, total_case};
 use input::bytes::{Cursor, Passed, Taken, next};
 use input::{Going, text};
+use machine::{Machine, PAGE};
 use map_cases::{add_case, back_case, make_map_case, on_case};
 use month_cases::month_case;
 use output::{make_room, write};
@@ -13,6 +14,7 @@ use page::texts::put;
 use sheet::puts::put_case;
 use sheet::write_case;
 use split_cases::{split_case, split_day_case, split_stored_case};
+use std::alloc::AllocError;
 
 // Nothing says that the input ends, so the loop over its cases has a count that falls.
 const TURNS: u64 = 18446744073709551615;
@@ -25,6 +27,7 @@ const MEMORY: usize = 1200000;
 
 // The cases whose second byte tells them apart.
 fn b_case(
+    rt: &impl Machine,
     buf: &mut [u8],
     c: Cursor,
     file: &mut [u8],
@@ -34,18 +37,19 @@ fn b_case(
     page: &mut [u8],
     at: usize,
 ) -> Going {
-    let Taken::Byte(b, after) = next(buf, c) else {
+    let Taken::Byte(b, after) = next(rt, buf, c) else {
         return Going::Bad;
     };
     match b {
-        b'a' => back_case(buf, after, memory, size, copy, page, at),
-        b'l' => block_case(buf, after, file, page, at),
-        b'y' => bytes_case(buf, after, memory, size, page, at),
+        b'a' => back_case(rt, buf, after, memory, size, copy, page, at),
+        b'l' => block_case(rt, buf, after, file, page, at),
+        b'y' => bytes_case(rt, buf, after, memory, size, page, at),
         _ => Going::Bad,
     }
 }
 
 fn d_case(
+    rt: &impl Machine,
     buf: &mut [u8],
     c: Cursor,
     file: &mut [u8],
@@ -55,18 +59,19 @@ fn d_case(
     page: &mut [u8],
     at: usize,
 ) -> Going {
-    let Taken::Byte(b, after) = next(buf, c) else {
+    let Taken::Byte(b, after) = next(rt, buf, c) else {
         return Going::Bad;
     };
     match b {
-        b'a' => day_case(buf, after, file, page, at),
-        b'e' => delete_case(buf, after, memory, size, copy, page, at),
+        b'a' => day_case(rt, buf, after, file, page, at),
+        b'e' => delete_case(rt, buf, after, memory, size, copy, page, at),
         _ => Going::Bad,
     }
 }
 
 // A store or a map: their words part behind the letters that they share.
 fn making_case(
+    rt: &impl Machine,
     buf: &mut [u8],
     c: Cursor,
     memory: &mut [u8],
@@ -75,20 +80,21 @@ fn making_case(
     page: &mut [u8],
     at: usize,
 ) -> Going {
-    let Passed::To(shared) = text(buf, c, b"ke") else {
+    let Passed::To(shared) = text(rt, buf, c, b"ke") else {
         return Going::Bad;
     };
-    let Taken::Byte(b, after) = next(buf, shared) else {
+    let Taken::Byte(b, after) = next(rt, buf, shared) else {
         return Going::Bad;
     };
     match b {
-        b' ' => make_case(buf, after, memory, size, copy, page, at),
-        b'm' => make_map_case(buf, after, memory, size, copy, page, at),
+        b' ' => make_case(rt, buf, after, memory, size, copy, page, at),
+        b'm' => make_map_case(rt, buf, after, memory, size, copy, page, at),
         _ => Going::Bad,
     }
 }
 
 fn m_case(
+    rt: &impl Machine,
     buf: &mut [u8],
     c: Cursor,
     file: &mut [u8],
@@ -98,13 +104,13 @@ fn m_case(
     page: &mut [u8],
     at: usize,
 ) -> Going {
-    let Taken::Byte(b, after) = next(buf, c) else {
+    let Taken::Byte(b, after) = next(rt, buf, c) else {
         return Going::Bad;
     };
     match b {
-        b'a' => making_case(buf, after, memory, size, copy, page, at),
-        b'e' => memory_case(buf, after, memory, page, at),
-        b'o' => month_case(buf, after, file, page, at),
+        b'a' => making_case(rt, buf, after, memory, size, copy, page, at),
+        b'e' => memory_case(rt, buf, after, memory, page, at),
+        b'o' => month_case(rt, buf, after, file, page, at),
         _ => Going::Bad,
     }
 }
@@ -112,6 +118,7 @@ fn m_case(
 // A total, a day of a file or one of a store: their words part behind the letters that they share. What a splitting of the last kind is handed is read into the
 // room for a file.
 fn splitting_case(
+    rt: &impl Machine,
     buf: &mut [u8],
     c: Cursor,
     file: &mut [u8],
@@ -120,21 +127,22 @@ fn splitting_case(
     page: &mut [u8],
     at: usize,
 ) -> Going {
-    let Passed::To(shared) = text(buf, c, b"lit") else {
+    let Passed::To(shared) = text(rt, buf, c, b"lit") else {
         return Going::Bad;
     };
-    let Taken::Byte(b, after) = next(buf, shared) else {
+    let Taken::Byte(b, after) = next(rt, buf, shared) else {
         return Going::Bad;
     };
     match b {
-        b' ' => split_case(buf, after, page, at),
-        b'd' => split_day_case(buf, after, file, memory, size, page, at),
-        b's' => split_stored_case(buf, after, file, memory, size, page, at),
+        b' ' => split_case(rt, buf, after, page, at),
+        b'd' => split_day_case(rt, buf, after, file, memory, size, page, at),
+        b's' => split_stored_case(rt, buf, after, file, memory, size, page, at),
         _ => Going::Bad,
     }
 }
 
 fn s_case(
+    rt: &impl Machine,
     buf: &mut [u8],
     c: Cursor,
     file: &mut [u8],
@@ -143,18 +151,19 @@ fn s_case(
     page: &mut [u8],
     at: usize,
 ) -> Going {
-    let Taken::Byte(b, after) = next(buf, c) else {
+    let Taken::Byte(b, after) = next(rt, buf, c) else {
         return Going::Bad;
     };
     match b {
-        b'l' => slot_case(buf, after, memory, size, page, at),
-        b'p' => splitting_case(buf, after, file, memory, size, page, at),
+        b'l' => slot_case(rt, buf, after, memory, size, page, at),
+        b'p' => splitting_case(rt, buf, after, file, memory, size, page, at),
         _ => Going::Bad,
     }
 }
 
 // The next case, told by its first byte.
 fn case(
+    rt: &impl Machine,
     buf: &mut [u8],
     c: Cursor,
     file: &mut [u8],
@@ -165,33 +174,34 @@ fn case(
     page: &mut [u8],
     at: usize,
 ) -> Going {
-    let Taken::Byte(b, after) = next(buf, c) else {
+    let Taken::Byte(b, after) = next(rt, buf, c) else {
         return Going::Ended;
     };
     match b {
-        b'a' => add_case(buf, after, memory, size, copy, page, at),
-        b'b' => b_case(buf, after, file, memory, size, copy, page, at),
-        b'c' => check_case(buf, after, file, page, at),
-        b'd' => d_case(buf, after, file, memory, size, copy, page, at),
-        b'f' => find_case(buf, after, file, page, at),
-        b'g' => get_case(buf, after, memory, size, page, at),
-        b'm' => m_case(buf, after, file, memory, size, copy, page, at),
-        b'o' => on_case(buf, after, memory, size, page, at),
-        b'p' => put_case(buf, after, memory, size, copy, page, at),
-        b'r' => replace_case(buf, after, file, copy, block, page, at),
-        b's' => s_case(buf, after, file, memory, size, page, at),
-        b't' => total_case(buf, after, file, page, at),
-        b'w' => write_case(buf, after, page, at),
+        b'a' => add_case(rt, buf, after, memory, size, copy, page, at),
+        b'b' => b_case(rt, buf, after, file, memory, size, copy, page, at),
+        b'c' => check_case(rt, buf, after, file, page, at),
+        b'd' => d_case(rt, buf, after, file, memory, size, copy, page, at),
+        b'f' => find_case(rt, buf, after, file, page, at),
+        b'g' => get_case(rt, buf, after, memory, size, page, at),
+        b'm' => m_case(rt, buf, after, file, memory, size, copy, page, at),
+        b'o' => on_case(rt, buf, after, memory, size, page, at),
+        b'p' => put_case(rt, buf, after, memory, size, copy, page, at),
+        b'r' => replace_case(rt, buf, after, file, copy, block, page, at),
+        b's' => s_case(rt, buf, after, file, memory, size, page, at),
+        b't' => total_case(rt, buf, after, file, page, at),
+        b'w' => write_case(rt, buf, after, page, at),
         _ => Going::Bad,
     }
 }
 
-fn bad_case(page: &mut [u8], at: usize) {
+fn bad_case(rt: &impl Machine, page: &mut [u8], at: usize) {
     let p = put(page, at, b"bad case\n");
-    write(page, p);
+    write(rt, page, p);
 }
 
 fn run(
+    rt: &impl Machine,
     buf: &mut [u8],
     file: &mut [u8],
     copy: &mut [u8],
@@ -205,38 +215,44 @@ fn run(
     let mut turns = TURNS;
     while 0 < turns {
         turns -= 1;
-        match case(buf, c, file, copy, block, memory, size, page, at) {
+        match case(rt, buf, c, file, copy, block, memory, size, page, at) {
             Going::On(next, place) => {
                 c = next;
-                at = make_room(page, place);
+                at = make_room(rt, page, place);
             }
             Going::Lent(next, place, n) => {
                 c = next;
-                at = make_room(page, place);
+                at = make_room(rt, page, place);
                 size = n;
             }
             Going::Ended => {
-                write(page, at);
+                write(rt, page, at);
                 return;
             }
             Going::Bad => {
-                bad_case(page, at);
+                bad_case(rt, page, at);
                 return;
             }
         }
     }
 }
 
-fn go(file: &mut [u8], copy: &mut [u8], block: &mut [u8], memory: &mut [u8]) {
-    let mut buf = io::large_buffer();
-    let mut page = io::large_buffer();
-    run(&mut buf, file, copy, block, memory, &mut page);
-}
-
-fn main() {
-    let mut file = [0u8; LONGEST];
-    let mut copy = [0u8; MEMORY];
-    let mut block = [0u8; LONGEST];
-    let mut memory = [0u8; MEMORY];
-    go(&mut file, &mut copy, &mut block, &mut memory);
+fn main(rt: HostRuntime) -> Result<(), AllocError> {
+    let alloc = rt.alloc();
+    let mut file = vec![in alloc; 0u8; LONGEST]?;
+    let mut copy = vec![in alloc; 0u8; MEMORY]?;
+    let mut block = vec![in alloc; 0u8; LONGEST]?;
+    let mut memory = vec![in alloc; 0u8; MEMORY]?;
+    let mut buf = [0u8; PAGE];
+    let mut page = [0u8; PAGE];
+    run(
+        &rt,
+        &mut buf,
+        &mut file,
+        &mut copy,
+        &mut block,
+        &mut memory,
+        &mut page,
+    );
+    Ok(())
 }

@@ -7,20 +7,21 @@ ghost use Rattle.std.specs.Prelude.{◌≡◌, length};
 use answer_lines::answers;
 use calls::files;
 use format::{DayHead, Written};
+use machine::Machine;
+use output::write;
 use page::texts::{part, put};
 use writing::write_day;
 
+// The room for a file, a page or a block.
+const ROOM: usize = 4096;
+
 // ---- lines
 
-fn write(page: &[u8], n: usize) {
-    io::write_all(libc::STDOUT_FILENO, part(page, 0, n));
-}
-
 // Behind what a case is called, what the check answers of its file.
-fn answered(page: &mut [u8], at: usize, file: &[u8]) {
+fn answered(rt: &impl Machine, page: &mut [u8], at: usize, file: &[u8]) {
     let p = put(page, at, b": ");
     let q = files::checked(file, page, p);
-    write(page, q);
+    write(rt, page, q);
 }
 
 // Two texts with a third between them.
@@ -30,9 +31,9 @@ fn pair(page: &mut [u8], at: usize, a: &[u8], between: &[u8], b: &[u8]) -> usize
     put(page, q, b)
 }
 
-fn checked(page: &mut [u8], name: &[u8], file: &[u8]) {
+fn checked(rt: &impl Machine, page: &mut [u8], name: &[u8], file: &[u8]) {
     let p = put(page, 0, name);
-    answered(page, p, file);
+    answered(rt, page, p, file);
 }
 
 // ---- files with one half-hour channel
@@ -65,48 +66,55 @@ fn file_of(file: &mut [u8], date: &[u8], mark: &[u8], records: &[u8]) -> usize {
     put(file, q, records)
 }
 
-fn day_case(page: &mut [u8], name: &[u8], date: &[u8], mark: &[u8], records: &[u8]) {
-    let mut file = io::buffer();
+fn day_case(
+    rt: &impl Machine,
+    page: &mut [u8],
+    name: &[u8],
+    date: &[u8],
+    mark: &[u8],
+    records: &[u8],
+) {
+    let mut file = [0u8; ROOM];
     let n = file_of(&mut file, date, mark, records);
-    checked(page, name, part(&file, 0, n));
+    checked(rt, page, name, part(&file, 0, n));
 }
 
 // ---- read times
 
 // A day of quality A, and under it a 500 that was read at this time.
-fn read_case(date: &[u8], time: &[u8]) {
-    let mut page = io::buffer();
-    let mut file = io::buffer();
+fn read_case(rt: &impl Machine, date: &[u8], time: &[u8]) {
+    let mut page = [0u8; ROOM];
+    let mut file = [0u8; ROOM];
     let p = file_of(&mut file, date, b"A,,", b"500,O,,");
     let q = put(&mut file, p, time);
     let n = put(&mut file, q, b",\r\n900\r\n");
     let a = pair(&mut page, 0, date, b" read at ", time);
-    answered(&mut page, a, part(&file, 0, n));
+    answered(rt, &mut page, a, part(&file, 0, n));
 }
 
-fn midnights() {
-    read_case(b"20031220", b"20031220000001");
-    read_case(b"20031220", b"20031220235959");
-    read_case(b"20031220", b"20031220000000");
-    read_case(b"20031220", b"20031221000001");
-    read_case(b"20031220", b"20031219235959");
-    read_case(b"21991231", b"22000101000000");
-    read_case(b"21991230", b"22000101000000");
-    read_case(b"21991231", b"22000101000001");
+fn midnights(rt: &impl Machine) {
+    read_case(rt, b"20031220", b"20031220000001");
+    read_case(rt, b"20031220", b"20031220235959");
+    read_case(rt, b"20031220", b"20031220000000");
+    read_case(rt, b"20031220", b"20031221000001");
+    read_case(rt, b"20031220", b"20031219235959");
+    read_case(rt, b"21991231", b"22000101000000");
+    read_case(rt, b"21991230", b"22000101000000");
+    read_case(rt, b"21991231", b"22000101000001");
 }
 
 // 28 February of common years and of leap years, a month's end and a year's.
-fn days_after() {
-    read_case(b"20030228", b"20030301000000");
-    read_case(b"20040228", b"20040229000000");
-    read_case(b"20040228", b"20040301000000");
-    read_case(b"20040229", b"20040301000000");
-    read_case(b"20000228", b"20000229000000");
-    read_case(b"20000228", b"20000301000000");
-    read_case(b"21000228", b"21000301000000");
-    read_case(b"21000228", b"21000229000000");
-    read_case(b"20030930", b"20031001000000");
-    read_case(b"20031231", b"20040101000000");
+fn days_after(rt: &impl Machine) {
+    read_case(rt, b"20030228", b"20030301000000");
+    read_case(rt, b"20040228", b"20040229000000");
+    read_case(rt, b"20040228", b"20040301000000");
+    read_case(rt, b"20040229", b"20040301000000");
+    read_case(rt, b"20000228", b"20000229000000");
+    read_case(rt, b"20000228", b"20000301000000");
+    read_case(rt, b"21000228", b"21000301000000");
+    read_case(rt, b"21000228", b"21000229000000");
+    read_case(rt, b"20030930", b"20031001000000");
+    read_case(rt, b"20031231", b"20040101000000");
 }
 
 // ---- the sample 250
@@ -130,40 +138,45 @@ fn thirteen(file: &mut [u8], time: &[u8], previous: &[u8], current: &[u8]) -> us
     )
 }
 
-fn sample(page: &mut [u8]) {
-    let mut file = io::buffer();
+fn sample(rt: &impl Machine, page: &mut [u8]) {
+    let mut file = [0u8; ROOM];
     let n = thirteen(&mut file, b"20031001103230", b"A", b"E64");
-    checked(page, b"the sample 250 of section 5.3", part(&file, 0, n));
+    checked(
+        rt,
+        page,
+        b"the sample 250 of section 5.3",
+        part(&file, 0, n),
+    );
     let p = put(page, 0, b"its quantity: ");
     let q = files::totalled(part(&file, 0, n), 0, page, p);
-    write(page, q);
+    write(rt, page, q);
 }
 
 // ---- days that are written whole
 
 // What is read of the block in a file.
-fn read_back(block: &[u8]) {
-    let mut file = io::buffer();
+fn read_back(rt: &impl Machine, block: &[u8]) {
+    let mut file = [0u8; ROOM];
     let p = channel(&mut file);
     let q = put(&mut file, p, block);
     let n = put(&mut file, q, b"900\r\n");
-    let mut page = io::buffer();
+    let mut page = [0u8; ROOM];
     let a = put(&mut page, 0, b"read back: ");
     let b = files::day(part(&file, 0, n), 0, 48, &mut page, a);
-    write(&page, b);
+    write(rt, &page, b);
 }
 
 // What a case is called, the answer, and behind its line the block and what is read from it.
-fn block(page: &mut [u8], name: &[u8], x: Written, room: &[u8]) {
+fn block(rt: &impl Machine, page: &mut [u8], name: &[u8], x: Written, room: &[u8]) {
     let p = put(page, 0, name);
     let q = put(page, p, b": ");
     let r = answers::written(page, q, x);
     let s = put(page, r, b"\n");
-    write(page, s);
+    write(rt, page, s);
     match x {
         Written::Block { bytes, records: _ } => {
-            write(room, bytes);
-            read_back(part(room, 0, bytes));
+            write(rt, room, bytes);
+            read_back(rt, part(room, 0, bytes));
         }
         Written::Refused(_) => {}
     }
@@ -198,6 +211,7 @@ fn bytes(before: u8, behind: u8) -> [u8; 48]
 const KWH: u8 = 1;
 
 fn written_in(
+    rt: &impl Machine,
     page: &mut [u8],
     name: &[u8],
     update: u64,
@@ -218,24 +232,33 @@ fn written_in(
     let x = write_day(
         day, values, flags, methods, &reasons, &none, &none, b"", room,
     );
-    block(page, name, x, room);
+    block(rt, page, name, x, room);
 }
 
 // A day whose first twenty intervals have a flag without a method, and the others a flag and a method.
-fn written(page: &mut [u8], name: &[u8], update: u64, before: u8, behind: u8, method: u8) {
+fn written(
+    rt: &impl Machine,
+    page: &mut [u8],
+    name: &[u8],
+    update: u64,
+    before: u8,
+    behind: u8,
+    method: u8,
+) {
     let values = values();
     let flags = bytes(before, behind);
     let methods = bytes(255, method);
-    let mut room = io::buffer();
-    written_in(page, name, update, &values, &flags, &methods, &mut room);
+    let mut room = [0u8; ROOM];
+    written_in(rt, page, name, update, &values, &flags, &methods, &mut room);
 }
 
 // What only a read time may be.
-fn not_a_read(page: &mut [u8]) {
-    let mut file = io::buffer();
+fn not_a_read(rt: &impl Machine, page: &mut [u8]) {
+    let mut file = [0u8; ROOM];
     let n = thirteen(&mut file, b"22000101000000", b"A", b"E64");
-    checked(page, b"a 250 read at 22000101000000", part(&file, 0, n));
+    checked(rt, page, b"a 250 read at 22000101000000", part(&file, 0, n));
     written(
+        rt,
         page,
         b"a day updated at 22000101000000",
         22000101000000,
@@ -248,46 +271,47 @@ fn not_a_read(page: &mut [u8]) {
 // ---- null data
 
 // A 300 with this mark.
-fn mark_case(mark: &[u8]) {
-    let mut page = io::buffer();
+fn mark_case(rt: &impl Machine, mark: &[u8]) {
+    let mut page = [0u8; ROOM];
     let p = put(&mut page, 0, b"a 300 of ");
     let q = put(&mut page, p, mark);
-    let mut file = io::buffer();
+    let mut file = [0u8; ROOM];
     let n = file_of(&mut file, b"20040101", mark, b"900\r\n");
-    answered(&mut page, q, part(&file, 0, n));
+    answered(rt, &mut page, q, part(&file, 0, n));
 }
 
-fn null_days() {
-    mark_case(b"N,,");
-    mark_case(b"N,77,");
-    mark_case(b"N,0,no meter");
-    mark_case(b"N,0,");
-    mark_case(b"N14,,");
-    mark_case(b"n,,");
+fn null_days(rt: &impl Machine) {
+    mark_case(rt, b"N,,");
+    mark_case(rt, b"N,77,");
+    mark_case(rt, b"N,0,no meter");
+    mark_case(rt, b"N,0,");
+    mark_case(rt, b"N14,,");
+    mark_case(rt, b"n,,");
 }
 
 // A V day whose 400s end with these marks: one of intervals 1 to 24, one of 25 to 48.
-fn runs_case(before: &[u8], behind: &[u8]) {
-    let mut page = io::buffer();
+fn runs_case(rt: &impl Machine, before: &[u8], behind: &[u8]) {
+    let mut page = [0u8; ROOM];
     let a = put(&mut page, 0, b"400s of ");
     let b = pair(&mut page, a, before, b" and ", behind);
-    let mut file = io::buffer();
+    let mut file = [0u8; ROOM];
     let p = file_of(&mut file, b"20040101", b"V,,", b"400,1,24,");
     let q = pair(&mut file, p, before, b"\r\n400,25,48,", behind);
     let n = put(&mut file, q, b"\r\n900\r\n");
-    answered(&mut page, b, part(&file, 0, n));
+    answered(rt, &mut page, b, part(&file, 0, n));
 }
 
-fn null_runs() {
-    runs_case(b"A,,", b"N,,");
-    runs_case(b"N,,", b"A,,");
-    runs_case(b"N,,", b"N,77,");
-    runs_case(b"N,,", b"N,,");
-    runs_case(b"A,,", b"N14,,");
-    runs_case(b"A,,", b"n,,");
-    runs_case(b"A,,", b"N,0,");
-    let mut page = io::buffer();
+fn null_runs(rt: &impl Machine) {
+    runs_case(rt, b"A,,", b"N,,");
+    runs_case(rt, b"N,,", b"A,,");
+    runs_case(rt, b"N,,", b"N,77,");
+    runs_case(rt, b"N,,", b"N,,");
+    runs_case(rt, b"A,,", b"N14,,");
+    runs_case(rt, b"A,,", b"n,,");
+    runs_case(rt, b"A,,", b"N,0,");
+    let mut page = [0u8; ROOM];
     day_case(
+        rt,
         &mut page,
         b"400,1,48,N,,",
         b"20040101",
@@ -297,33 +321,34 @@ fn null_runs() {
 }
 
 // A 250 with these qualities.
-fn reads_case(previous: &[u8], current: &[u8]) {
-    let mut page = io::buffer();
+fn reads_case(rt: &impl Machine, previous: &[u8], current: &[u8]) {
+    let mut page = [0u8; ROOM];
     let a = put(&mut page, 0, b"a 250 of ");
     let b = pair(&mut page, a, previous, b" and ", current);
-    let mut file = io::buffer();
+    let mut file = [0u8; ROOM];
     let n = thirteen(&mut file, b"20031001103230", previous, current);
-    answered(&mut page, b, part(&file, 0, n));
+    answered(rt, &mut page, b, part(&file, 0, n));
 }
 
-fn null_reads() {
-    reads_case(b"N", b"E64");
-    reads_case(b"A", b"N");
+fn null_reads(rt: &impl Machine) {
+    reads_case(rt, b"N", b"E64");
+    reads_case(rt, b"A", b"N");
 }
 
 // Its values count as they stand.
-fn null_total() {
-    let mut page = io::buffer();
-    let mut file = io::buffer();
+fn null_total(rt: &impl Machine) {
+    let mut page = [0u8; ROOM];
+    let mut file = [0u8; ROOM];
     let n = file_of(&mut file, b"20040101", b"N,,", b"900\r\n");
     let p = put(&mut page, 0, b"the total of a day of N: ");
     let q = files::totalled(part(&file, 0, n), 0, &mut page, p);
-    write(&page, q);
+    write(rt, &page, q);
 }
 
-fn null_written() {
-    let mut page = io::buffer();
+fn null_written(rt: &impl Machine) {
+    let mut page = [0u8; ROOM];
     written(
+        rt,
         &mut page,
         b"a day of A and N",
         20030922092231,
@@ -331,8 +356,17 @@ fn null_written() {
         b'N',
         255,
     );
-    written(&mut page, b"a day of N", 20030922092231, b'N', b'N', 255);
     written(
+        rt,
+        &mut page,
+        b"a day of N",
+        20030922092231,
+        b'N',
+        b'N',
+        255,
+    );
+    written(
+        rt,
         &mut page,
         b"a day of A and N14",
         20030922092231,
@@ -344,13 +378,14 @@ fn null_written() {
 
 // ---- dates, covers and ends
 
-fn dates(page: &mut [u8]) {
-    day_case(page, b"20040229", b"20040229", b"A,,", b"900\r\n");
-    day_case(page, b"20030229", b"20030229", b"A,,", b"900\r\n");
+fn dates(rt: &impl Machine, page: &mut [u8]) {
+    day_case(rt, page, b"20040229", b"20040229", b"A,,", b"900\r\n");
+    day_case(rt, page, b"20030229", b"20030229", b"A,,", b"900\r\n");
 }
 
-fn covers(page: &mut [u8]) {
+fn covers(rt: &impl Machine, page: &mut [u8]) {
     day_case(
+        rt,
         page,
         b"1 to 31 and then a 500",
         b"20040101",
@@ -358,6 +393,7 @@ fn covers(page: &mut [u8]) {
         b"400,1,31,A,,\r\n500,O,,,\r\n900\r\n",
     );
     day_case(
+        rt,
         page,
         b"400,1,48,A,,",
         b"20040101",
@@ -366,18 +402,19 @@ fn covers(page: &mut [u8]) {
     );
 }
 
-fn ends(page: &mut [u8]) {
-    checked(page, b"the empty file", b"");
-    day_case(page, b"900,", b"20040101", b"A,,", b"900,\r\n");
+fn ends(rt: &impl Machine, page: &mut [u8]) {
+    checked(rt, page, b"the empty file", b"");
+    day_case(rt, page, b"900,", b"20040101", b"A,,", b"900,\r\n");
 }
 
-fn main() {
-    let mut page = io::buffer();
-    dates(&mut page);
-    covers(&mut page);
-    ends(&mut page);
-    sample(&mut page);
+fn main(rt: HostRuntime) {
+    let mut page = [0u8; ROOM];
+    dates(&rt, &mut page);
+    covers(&rt, &mut page);
+    ends(&rt, &mut page);
+    sample(&rt, &mut page);
     written(
+        &rt,
         &mut page,
         b"the day written whole",
         20030922092231,
@@ -385,12 +422,12 @@ fn main() {
         b'E',
         52,
     );
-    midnights();
-    days_after();
-    not_a_read(&mut page);
-    null_days();
-    null_runs();
-    null_reads();
-    null_total();
-    null_written();
+    midnights(&rt);
+    days_after(&rt);
+    not_a_read(&rt, &mut page);
+    null_days(&rt);
+    null_runs(&rt);
+    null_reads(&rt);
+    null_total(&rt);
+    null_written(&rt);
 }

@@ -16,6 +16,8 @@ use input::Going;
 use input::bytes::{Cursor, Passed, fill_line};
 use input::numbers::{head, line};
 use lists::{below, bytes_of, halves_of, sizes_of};
+use machine::Machine;
+use output::write;
 use page::texts::part;
 
 // Six lists, one behind the other.
@@ -98,13 +100,13 @@ fn places(s: Sheet, list: usize) -> usize
 // ---- the lists
 
 // The six lines, each into its stretch of the lists.
-fn lists_in(buf: &mut [u8], c: Cursor, s: Sheet, lists: &mut [u64]) -> Passed {
+fn lists_in(rt: &impl Machine, buf: &mut [u8], c: Cursor, s: Sheet, lists: &mut [u64]) -> Passed {
     let mut now = c;
     let mut k: usize = 0;
     while k < 6 {
         let from = k * PLACES;
         let n = places(s, k);
-        let Passed::To(after) = stretch_in(buf, now, n, lists, from) else {
+        let Passed::To(after) = stretch_in(rt, buf, now, n, lists, from) else {
             return Passed::Bad;
         };
         now = after;
@@ -114,7 +116,14 @@ fn lists_in(buf: &mut [u8], c: Cursor, s: Sheet, lists: &mut [u64]) -> Passed {
 }
 
 // A line of n numbers, from a place of the lists on.
-fn stretch_in(buf: &mut [u8], c: Cursor, n: usize, lists: &mut [u64], from: usize) -> Passed {
+fn stretch_in(
+    rt: &impl Machine,
+    buf: &mut [u8],
+    c: Cursor,
+    n: usize,
+    lists: &mut [u64],
+    from: usize,
+) -> Passed {
     if PLACES < n {
         return Passed::Bad;
     }
@@ -125,7 +134,7 @@ fn stretch_in(buf: &mut [u8], c: Cursor, n: usize, lists: &mut [u64], from: usiz
         return Passed::Bad;
     }
     let end = from + n;
-    line(buf, c, &mut lists[from..end])
+    line(rt, buf, c, &mut lists[from..end])
 }
 
 // The first n places of a list.
@@ -167,12 +176,12 @@ fn least(a: usize, b: usize) -> usize
 }
 
 // The block behind its line, which is written out first.
-fn block_out(page: &[u8], room: &[u8], x: Wrote) -> usize {
+fn block_out(rt: &impl Machine, page: &[u8], room: &[u8], x: Wrote) -> usize {
     if x.bytes == 0 {
         return x.at;
     }
-    io::write_all(libc::STDOUT_FILENO, part(page, 0, x.at));
-    io::write_all(libc::STDOUT_FILENO, part(room, 0, x.bytes));
+    write(rt, page, x.at);
+    write(rt, room, x.bytes);
     0
 }
 
@@ -189,6 +198,7 @@ fn day_of(s: Sheet) -> DayHead
 }
 
 fn write_in(
+    rt: &impl Machine,
     day: DayHead,
     values: &[u64],
     flags: &[u8],
@@ -204,11 +214,12 @@ fn write_in(
     let x = block(
         day, values, flags, methods, reasons, starts, lengths, text, room, page, at,
     );
-    block_out(page, room, x)
+    block_out(rt, page, room, x)
 }
 
 // The day's places in lists of their type, and a room of its own.
 fn write_places(
+    rt: &impl Machine,
     s: Sheet,
     lists: &[u64],
     flags: &[u8],
@@ -225,6 +236,7 @@ fn write_places(
     let n = least(s.room, MOST_ROOM);
     let mut room = [EMPTY; MOST_ROOM];
     write_in(
+        rt,
         day_of(s),
         stretch(lists, 0, s.values),
         flags,
@@ -240,7 +252,14 @@ fn write_places(
 }
 
 // The day's marks in lists of their types.
-fn write_answer(s: Sheet, lists: &[u64], text: &[u8], page: &mut [u8], at: usize) -> usize {
+fn write_answer(
+    rt: &impl Machine,
+    s: Sheet,
+    lists: &[u64],
+    text: &[u8],
+    page: &mut [u8],
+    at: usize,
+) -> usize {
     let flags = bytes_of(stretch(lists, 1, s.flags));
     let methods = bytes_of(stretch(lists, 2, s.methods));
     let reasons = halves_of(stretch(lists, 3, s.reasons));
@@ -248,6 +267,7 @@ fn write_answer(s: Sheet, lists: &[u64], text: &[u8], page: &mut [u8], at: usize
     let m = least(s.methods, PLACES);
     let r = least(s.reasons, PLACES);
     write_places(
+        rt,
         s,
         lists,
         &flags[..f],
@@ -260,29 +280,45 @@ fn write_answer(s: Sheet, lists: &[u64], text: &[u8], page: &mut [u8], at: usize
 }
 
 // The lists and the text behind the first line.
-fn day_in(buf: &mut [u8], c: Cursor, s: Sheet, page: &mut [u8], at: usize) -> Going {
+fn day_in(
+    rt: &impl Machine,
+    buf: &mut [u8],
+    c: Cursor,
+    s: Sheet,
+    page: &mut [u8],
+    at: usize,
+) -> Going {
     let mut lists = [0u64; ALL_PLACES];
-    let Passed::To(a) = lists_in(buf, c, s, &mut lists) else {
+    let Passed::To(a) = lists_in(rt, buf, c, s, &mut lists) else {
         return Going::Bad;
     };
     if !are_narrow(s, &lists) {
         return Going::Bad;
     }
     let mut text = [0u8; MOST_TEXT];
-    let Passed::To(b) = fill_line(buf, a, s.text, &mut text) else {
+    let Passed::To(b) = fill_line(rt, buf, a, s.text, &mut text) else {
         return Going::Bad;
     };
-    Going::On(b, write_answer(s, &lists, part(&text, 0, s.text), page, at))
+    Going::On(
+        b,
+        write_answer(rt, s, &lists, part(&text, 0, s.text), page, at),
+    )
 }
 
-pub fn write_case(buf: &mut [u8], c: Cursor, page: &mut [u8], at: usize) -> Going {
+pub fn write_case(
+    rt: &impl Machine,
+    buf: &mut [u8],
+    c: Cursor,
+    page: &mut [u8],
+    at: usize,
+) -> Going {
     let mut numbers = [0u64; 13];
-    let Passed::To(a) = head(buf, c, b"rite ", &mut numbers) else {
+    let Passed::To(a) = head(rt, buf, c, b"rite ", &mut numbers) else {
         return Going::Bad;
     };
     let s = sheet_of(numbers);
     if !can_be(s) {
         return Going::Bad;
     }
-    day_in(buf, a, s, page, at)
+    day_in(rt, buf, a, s, page, at)
 }

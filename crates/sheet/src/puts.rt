@@ -8,6 +8,7 @@ use format::DayHead;
 use input::Going;
 use input::bytes::{Cursor, Passed, fill_both, fill_line};
 use input::numbers::head;
+use machine::Machine;
 use page::texts::part;
 use store_calls::put;
 
@@ -132,18 +133,26 @@ fn put_answer(
 }
 
 // The lists and the text behind the key.
-fn given_in(buf: &mut [u8], c: Cursor, s: Sheet, lists: &mut [u64], text: &mut [u8]) -> Passed {
-    let Passed::To(a) = lists_in(buf, c, s, lists) else {
+fn given_in(
+    rt: &impl Machine,
+    buf: &mut [u8],
+    c: Cursor,
+    s: Sheet,
+    lists: &mut [u64],
+    text: &mut [u8],
+) -> Passed {
+    let Passed::To(a) = lists_in(rt, buf, c, s, lists) else {
         return Passed::Bad;
     };
     if !are_narrow(s, lists) {
         return Passed::Bad;
     }
-    fill_line(buf, a, s.text, text)
+    fill_line(rt, buf, a, s.text, text)
 }
 
 // They are lent to work in.
 fn day_with(
+    rt: &impl Machine,
     buf: &mut [u8],
     c: Cursor,
     nmi: &[u8],
@@ -157,7 +166,7 @@ fn day_with(
     lists: &mut [u64],
     text: &mut [u8],
 ) -> Going {
-    let Passed::To(after) = given_in(buf, c, s, lists, text) else {
+    let Passed::To(after) = given_in(rt, buf, c, s, lists, text) else {
         return Going::Bad;
     };
     Going::On(
@@ -178,6 +187,7 @@ fn day_with(
 }
 
 fn day_in(
+    rt: &impl Machine,
     buf: &mut [u8],
     c: Cursor,
     nmi: &[u8],
@@ -192,12 +202,13 @@ fn day_in(
     let mut lists = [0u64; ALL_PLACES];
     let mut text = [0u8; MOST_TEXT];
     day_with(
-        buf, c, nmi, suffix, s, memory, size, copy, page, at, &mut lists, &mut text,
+        rt, buf, c, nmi, suffix, s, memory, size, copy, page, at, &mut lists, &mut text,
     )
 }
 
 // NMI and suffix are lent to work in.
 fn put_with(
+    rt: &impl Machine,
     buf: &mut [u8],
     c: Cursor,
     n: usize,
@@ -211,10 +222,11 @@ fn put_with(
     nmi: &mut [u8],
     suffix: &mut [u8],
 ) -> Going {
-    let Passed::To(b) = fill_both(buf, c, n, nmi, k, suffix) else {
+    let Passed::To(b) = fill_both(rt, buf, c, n, nmi, k, suffix) else {
         return Going::Bad;
     };
     day_in(
+        rt,
         buf,
         b,
         part(nmi, 0, n),
@@ -230,6 +242,7 @@ fn put_with(
 
 // Behind the first line.
 fn put_behind(
+    rt: &impl Machine,
     buf: &mut [u8],
     c: Cursor,
     n: usize,
@@ -244,6 +257,7 @@ fn put_behind(
     let mut nmi = [0u8; MOST_KEY];
     let mut suffix = [0u8; MOST_KEY];
     put_with(
+        rt,
         buf,
         c,
         n,
@@ -260,6 +274,7 @@ fn put_behind(
 }
 
 pub fn put_case(
+    rt: &impl Machine,
     buf: &mut [u8],
     c: Cursor,
     memory: &mut [u8],
@@ -269,7 +284,7 @@ pub fn put_case(
     at: usize,
 ) -> Going {
     let mut numbers = [0u64; 14];
-    let Passed::To(a) = head(buf, c, b"ut ", &mut numbers) else {
+    let Passed::To(a) = head(rt, buf, c, b"ut ", &mut numbers) else {
         return Going::Bad;
     };
     let s = sheet_of([
@@ -291,6 +306,7 @@ pub fn put_case(
         return Going::Bad;
     }
     put_behind(
+        rt,
         buf,
         a,
         numbers[0] as usize,

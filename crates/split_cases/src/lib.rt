@@ -8,6 +8,7 @@ use calls::PLACES;
 use input::bytes::{Cursor, Passed, fill_line};
 use input::numbers::{head, line};
 use input::{Going, byte};
+use machine::Machine;
 use map_calls::KEY_BYTES;
 use page::texts::part;
 use sheet::lists::{below, halves_of};
@@ -39,14 +40,14 @@ struct Ends {
 // ---- a total
 
 // A line of shares that can be lent, and the case's own line's end.
-fn shares_in(buf: &mut [u8], c: Cursor, shares: &mut [u64]) -> Passed {
-    let Passed::To(after) = line(buf, c, shares) else {
+fn shares_in(rt: &impl Machine, buf: &mut [u8], c: Cursor, shares: &mut [u64]) -> Passed {
+    let Passed::To(after) = line(rt, buf, c, shares) else {
         return Passed::Bad;
     };
     if !below(shares, SHARES) {
         return Passed::Bad;
     }
-    byte(buf, after, b'\n')
+    byte(rt, buf, after, b'\n')
 }
 
 // The shares as the call takes them.
@@ -77,6 +78,7 @@ fn total_given(
 
 // Text and shares are lent to work in.
 fn split_with(
+    rt: &impl Machine,
     buf: &mut [u8],
     c: Cursor,
     sum: u64,
@@ -89,19 +91,25 @@ fn split_with(
 ) -> Going
     requires { (length shares.old ≤ 300) × (p ≤ 300) }
 {
-    let Passed::To(behind) = fill_line(buf, c, e.all, text) else {
+    let Passed::To(behind) = fill_line(rt, buf, c, e.all, text) else {
         return Going::Bad;
     };
-    let Passed::To(after) = shares_in(buf, behind, shares) else {
+    let Passed::To(after) = shares_in(rt, buf, behind, shares) else {
         return Going::Bad;
     };
     Going::On(after, total_given(sum, e, text, shares, p, page, at))
 }
 
 // Behind the word and its space, which tells it from the splitting of a day.
-pub fn split_case(buf: &mut [u8], c: Cursor, page: &mut [u8], at: usize) -> Going {
+pub fn split_case(
+    rt: &impl Machine,
+    buf: &mut [u8],
+    c: Cursor,
+    page: &mut [u8],
+    at: usize,
+) -> Going {
     let mut numbers = [0u64; 6];
-    let Passed::To(after) = head(buf, c, b"", &mut numbers) else {
+    let Passed::To(after) = head(rt, buf, c, b"", &mut numbers) else {
         return Going::Bad;
     };
     let n = numbers[1] as usize;
@@ -132,6 +140,7 @@ pub fn split_case(buf: &mut [u8], c: Cursor, page: &mut [u8], at: usize) -> Goin
     let mut text = [0u8; MOST_TEXT];
     let mut shares = [0u64; PLACES];
     split_with(
+        rt,
         buf,
         after,
         numbers[0],
@@ -148,6 +157,7 @@ pub fn split_case(buf: &mut [u8], c: Cursor, page: &mut [u8], at: usize) -> Goin
 
 // Of a file, by the map in memory.
 pub fn split_day_case(
+    rt: &impl Machine,
     buf: &mut [u8],
     c: Cursor,
     file: &mut [u8],
@@ -157,7 +167,7 @@ pub fn split_day_case(
     at: usize,
 ) -> Going {
     let mut numbers = [0u64; 3];
-    let Passed::To(behind) = head(buf, c, b"ay ", &mut numbers) else {
+    let Passed::To(behind) = head(rt, buf, c, b"ay ", &mut numbers) else {
         return Going::Bad;
     };
     let k = numbers[0] as usize;
@@ -166,7 +176,7 @@ pub fn split_day_case(
     if PLACES < p {
         return Going::Bad;
     }
-    let Passed::To(after) = fill_line(buf, behind, n, file) else {
+    let Passed::To(after) = fill_line(rt, buf, behind, n, file) else {
         return Going::Bad;
     };
     Going::On(
@@ -177,6 +187,7 @@ pub fn split_day_case(
 
 // NMI, suffix and map are read into lent room.
 fn stored_with(
+    rt: &impl Machine,
     buf: &mut [u8],
     c: Cursor,
     e: Ends,
@@ -189,7 +200,7 @@ fn stored_with(
 ) -> Going
     requires { p ≤ 300 }
 {
-    let Passed::To(after) = fill_line(buf, c, e.all, text) else {
+    let Passed::To(after) = fill_line(rt, buf, c, e.all, text) else {
         return Going::Bad;
     };
     Going::On(
@@ -209,6 +220,7 @@ fn stored_with(
 
 // Of the store in memory, by a map that is read into room that any of them fits in.
 pub fn split_stored_case(
+    rt: &impl Machine,
     buf: &mut [u8],
     c: Cursor,
     text: &mut [u8],
@@ -218,7 +230,7 @@ pub fn split_stored_case(
     at: usize,
 ) -> Going {
     let mut numbers = [0u64; 5];
-    let Passed::To(after) = head(buf, c, b"tored ", &mut numbers) else {
+    let Passed::To(after) = head(rt, buf, c, b"tored ", &mut numbers) else {
         return Going::Bad;
     };
     let n = numbers[0] as usize;
@@ -247,6 +259,7 @@ pub fn split_stored_case(
         all: n + k + m,
     };
     stored_with(
+        rt,
         buf,
         after,
         e,

@@ -6,6 +6,7 @@ use checking::tour::check_and_note;
 use explain::refused::explained;
 use format::{Checked, Number};
 use leaf::digits::digits;
+use machine::{Machine, WORD};
 use named::{date_of, day_named};
 use outward::{FAILED, REFUSED, complain, warn};
 use page::texts::{number, put};
@@ -27,21 +28,21 @@ pub enum Wanted {
 
 // ---- by its number
 
-fn no_number(page: &mut [u8], word: &[u8]) {
+fn no_number(rt: &impl Machine, page: &mut [u8], word: &[u8]) {
     let p = put(page, 0, b"nem: ");
     let q = quoted(page, p, word);
     let r = put(page, q, b" is no day number; nem days lists the days");
-    complain(page, r);
+    complain(rt, page, r);
 }
 
 // The day whose number a word is.
-pub fn by_number(page: &mut [u8], i: usize) -> Wanted {
-    let mut word = io::buffer();
-    let n = os::arg(i, &mut word);
+pub fn by_number(rt: &impl Machine, page: &mut [u8], i: usize) -> Wanted {
+    let mut word = [0u8; WORD];
+    let n = rt.arg(i, &mut word);
     match digits(&word[..n], 1, 14) {
         Number::Is(k) => Wanted::Day(k as usize),
         Number::Bad => {
-            no_number(page, &word[..n]);
+            no_number(rt, page, &word[..n]);
             Wanted::Nothing(FAILED)
         }
     }
@@ -50,35 +51,36 @@ pub fn by_number(page: &mut [u8], i: usize) -> Wanted {
 // ---- by NMI, suffix and date
 
 // The word is no date.
-pub fn no_date(page: &mut [u8], word: &[u8]) {
+pub fn no_date(rt: &impl Machine, page: &mut [u8], word: &[u8]) {
     let p = put(page, 0, b"nem: ");
     let q = quoted(page, p, word);
     let r = put(page, q, b" is no date; write it as 2003-12-19 or 20031219");
-    complain(page, r);
+    complain(rt, page, r);
 }
 
-fn not_there(page: &mut [u8], nmi: &[u8], suffix: &[u8], day: u64) {
+fn not_there(rt: &impl Machine, page: &mut [u8], nmi: &[u8], suffix: &[u8], day: u64) {
     let p = put(page, 0, b"refused: 14, no such day: the file has none of ");
     let q = put(page, p, nmi);
     let r = put(page, q, b" ");
     let s = put(page, r, suffix);
     let t = put(page, s, b" on ");
     let u = date(page, t, day);
-    complain(page, u);
+    complain(rt, page, u);
 }
 
 // A key that stands twice tells no day, so nobody is billed from the wrong one.
-fn twice(page: &mut [u8], first: u64, second: u64) {
+fn twice(rt: &impl Machine, page: &mut [u8], first: u64, second: u64) {
     let p = put(page, 0, b"nem: the file has that day twice, as ");
     let q = number(page, p, first);
     let r = put(page, q, b" and ");
     let s = number(page, r, second);
     let t = put(page, s, b"; ask for one by its number");
-    complain(page, t);
+    complain(rt, page, t);
 }
 
 // The one day of the key behind which no other has it.
 fn single(
+    rt: &impl Machine,
     page: &mut [u8],
     file: &[u8],
     first: u64,
@@ -95,20 +97,27 @@ fn single(
     match day_named(file, next, days, noted.day, nmi, suffix, day) {
         Number::Bad => Wanted::Day(first as usize),
         Number::Is(second) => {
-            twice(page, first, second);
+            twice(rt, page, first, second);
             Wanted::Nothing(REFUSED)
         }
     }
 }
 
-fn in_file(page: &mut [u8], file: &[u8], nmi: &[u8], suffix: &[u8], day: u64) -> Wanted {
+fn in_file(
+    rt: &impl Machine,
+    page: &mut [u8],
+    file: &[u8],
+    nmi: &[u8],
+    suffix: &[u8],
+    day: u64,
+) -> Wanted {
     let noted = check_and_note(file, 0, 0);
     let answer = noted.answer;
     let start = noted.day;
     match answer {
         Checked::Refused(x) => {
             let p = explained(page, 0, file, x);
-            warn(page, p);
+            warn(rt, page, p);
             Wanted::Nothing(REFUSED)
         }
         Checked::Accepted {
@@ -116,51 +125,51 @@ fn in_file(page: &mut [u8], file: &[u8], nmi: &[u8], suffix: &[u8], day: u64) ->
             channels: _,
             days,
         } => match day_named(file, 0, days, start, nmi, suffix, day) {
-            Number::Is(first) => single(page, file, first, days, nmi, suffix, day),
+            Number::Is(first) => single(rt, page, file, first, days, nmi, suffix, day),
             Number::Bad => {
-                not_there(page, nmi, suffix, day);
+                not_there(rt, page, nmi, suffix, day);
                 Wanted::Nothing(REFUSED)
             }
         },
     }
 }
 
-fn by_key(page: &mut [u8], file: &[u8]) -> Wanted {
-    let mut nmi = io::buffer();
-    let n = os::arg(FIRST, &mut nmi);
-    let mut suffix = io::buffer();
-    let m = os::arg(FIRST + 1, &mut suffix);
-    let mut word = io::buffer();
-    let k = os::arg(FIRST + 2, &mut word);
+fn by_key(rt: &impl Machine, page: &mut [u8], file: &[u8]) -> Wanted {
+    let mut nmi = [0u8; WORD];
+    let n = rt.arg(FIRST, &mut nmi);
+    let mut suffix = [0u8; WORD];
+    let m = rt.arg(FIRST + 1, &mut suffix);
+    let mut word = [0u8; WORD];
+    let k = rt.arg(FIRST + 2, &mut word);
     match date_of(&word[..k]) {
-        Number::Is(day) => in_file(page, file, &nmi[..n], &suffix[..m], day),
+        Number::Is(day) => in_file(rt, page, file, &nmi[..n], &suffix[..m], day),
         Number::Bad => {
-            no_date(page, &word[..k]);
+            no_date(rt, page, &word[..k]);
             Wanted::Nothing(FAILED)
         }
     }
 }
 
 // The day, of so many words in all.
-fn asked(page: &mut [u8], file: &[u8], words: usize) -> Wanted {
+fn asked(rt: &impl Machine, page: &mut [u8], file: &[u8], words: usize) -> Wanted {
     if words == BY_KEY {
-        return by_key(page, file);
+        return by_key(rt, page, file);
     }
-    by_number(page, FIRST)
+    by_number(rt, page, FIRST)
 }
 
-pub fn wanted_day(page: &mut [u8], file: &[u8]) -> Wanted {
-    asked(page, file, os::arg_count())
+pub fn wanted_day(rt: &impl Machine, page: &mut [u8], file: &[u8]) -> Wanted {
+    asked(rt, page, file, rt.arg_count())
 }
 
 // The same where one more word stands behind those of the day.
-pub fn wanted_before_last(page: &mut [u8], file: &[u8]) -> Wanted {
-    asked(page, file, last_word())
+pub fn wanted_before_last(rt: &impl Machine, page: &mut [u8], file: &[u8]) -> Wanted {
+    asked(rt, page, file, last_word(rt))
 }
 
 // The number of the last word, which is how many stand before it.
-pub fn last_word() -> usize {
-    let n = os::arg_count();
+pub fn last_word(rt: &impl Machine) -> usize {
+    let n = rt.arg_count();
     if n == 0 {
         return 0;
     }

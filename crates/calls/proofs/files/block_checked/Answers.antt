@@ -1,0 +1,6 @@
+-- `calls::files::block_checked` meets its contract. Assumes nothing.
+use Rattle.calls.proofs.Answered.{line-put}
+use Rattle.calls.proofs.files.block_checked.Goals as goal
+
+pub returns : goal.returns
+returns c = search line-put

@@ -1,0 +1,11 @@
+-- `day_sums::seek_day` meets its contract. Assumes nothing.
+use Rattle.day_sums.proofs.Seeks.{seek-refused}
+use Rattle.checking.proofs.Answered.{is-accepted}
+use borrow.Author.Rules.{rules}
+use Rattle.day_sums.proofs.seek_day.Goals as goal
+
+pub seek_noted-requires : goal.seek_noted-requires
+seek_noted-requires c = (search is-accepted, search rules)
+
+pub returns-in-Refused : goal.returns-in-Refused
+returns-in-Refused c = record { is = search seek-refused; within = search rules }

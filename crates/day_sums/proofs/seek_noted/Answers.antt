@@ -1,0 +1,10 @@
+-- `day_sums::seek_noted` meets its contract. Assumes nothing.
+use Rattle.day_sums.proofs.Seeks.{seek-none, seek_found, seek-within}
+use borrow.Author.Rules.{rules}
+use Rattle.day_sums.proofs.seek_noted.Goals as goal
+
+pub returns-in-Missing : goal.returns-in-Missing
+returns-in-Missing c = record { is = search seek-none; within = search rules }
+
+pub returns-in-At : goal.returns-in-At
+returns-in-At c = record { is = search seek_found; within = search seek-within }

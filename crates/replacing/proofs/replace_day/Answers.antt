@@ -1,0 +1,20 @@
+-- `replacing::replace_day` meets its contract. Assumes nothing.
+use lib.Seq.{length-take-le}
+use Rattle.replacing.proofs.Tries.{replaced-15, replaced-not, replaced-put, fits-order, fits-within, fits-short}
+use borrow.Author.Rules.{rules}
+use Rattle.replacing.proofs.replace_day.Goals as goal
+
+pub returns-then-room-length : goal.returns-then-room-length
+returns-then-room-length c = search replaced-15
+
+pub slice_bounds-try_block-end-2 : goal.slice_bounds-try_block-end-2
+slice_bounds-try_block-end-2 c = search (length-take-le, rules)
+
+pub put_block-requires : goal.put_block-requires
+put_block-requires c = (search fits-order, search fits-within, search fits-short, search rules)
+
+pub returns-in-Refused : goal.returns-in-Refused
+returns-in-Refused c = search (replaced-not, rules)
+
+pub returns-in-At : goal.returns-in-At
+returns-in-At c = search (replaced-put, rules)

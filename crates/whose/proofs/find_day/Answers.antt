@@ -1,0 +1,11 @@
+-- `whose::find_day` meets its contract. Assumes nothing.
+use Rattle.checking.proofs.Answered.{is-accepted}
+use Rattle.whose.proofs.Found.{find-refused}
+use borrow.Author.Rules.{rules}
+use Rattle.whose.proofs.find_day.Goals as goal
+
+pub found_noted-requires : goal.found_noted-requires
+found_noted-requires c = (search is-accepted, search rules, search rules)
+
+pub returns-in-Refused : goal.returns-in-Refused
+returns-in-Refused c = search find-refused
