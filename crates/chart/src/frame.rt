@@ -26,7 +26,7 @@ fn opening(page: &mut [u8], at: usize) -> usize
 }
 
 fn title(page: &mut [u8], at: usize, nmi: &[u8], suffix: &[u8], on: u64) -> usize
-    ensures { Filled page.old at (titleText nmi.now suffix.now on) result page.new }
+    ensures { Filled page.old at (title_text nmi.now suffix.now on) result page.new }
 {
     let p = text_in(page, at, nmi, b" &#183; suffix ", suffix);
     let q = put(page, p, b" &#183; ");
@@ -34,14 +34,14 @@ fn title(page: &mut [u8], at: usize, nmi: &[u8], suffix: &[u8], on: u64) -> usiz
 }
 
 fn sum(page: &mut [u8], at: usize, total: u64, unit: &[u8]) -> usize
-    ensures { Filled page.old at (sumText total unit.now) result page.new }
+    ensures { Filled page.old at (sum_text total unit.now) result page.new }
 {
     let p = put(page, at, b"</text><text x='940' y='36' text-anchor='end'>");
     amount(page, p, total, unit)
 }
 
 fn lengths(page: &mut [u8], at: usize, n: usize) -> usize
-    ensures { Filled page.old at (lengthsText n) result page.new }
+    ensures { Filled page.old at (lengths_text n) result page.new }
 {
     let p = number_in(
         page,
@@ -70,7 +70,7 @@ pub fn head(
     n: usize,
     total: u64,
 ) -> usize
-    ensures { Filled page.old at (headText nmi.now suffix.now unit.now on n total) result page.new }
+    ensures { Filled page.old at (head_text nmi.now suffix.now unit.now on n total) result page.new }
 {
     let p = opening(page, at);
     let q = title(page, p, nmi, suffix, on);
@@ -82,7 +82,7 @@ pub fn head(
 
 fn hour(page: &mut [u8], at: usize, k: u64) -> usize
     requires { k < 9 }
-    ensures { Filled page.old at (hourText k) result page.new }
+    ensures { Filled page.old at (hour_text k) result page.new }
 {
     let p = number_in(
         page,
@@ -97,7 +97,7 @@ fn hour(page: &mut [u8], at: usize, k: u64) -> usize
 
 // From 00:00 to 24:00.
 fn hours(page: &mut [u8], at: usize) -> usize
-    ensures { Filled page.old at hoursText result page.new }
+    ensures { Filled page.old at hours_text result page.new }
 {
     let mut p = at;
     let mut k: u64 = 0;
@@ -109,8 +109,8 @@ fn hours(page: &mut [u8], at: usize) -> usize
 }
 
 fn step(page: &mut [u8], at: usize, most: u64, k: u64) -> usize
-    requires { k ≤ stepsFor most }
-    ensures { Filled page.old at (stepText most k) result page.new }
+    requires { k ≤ steps_for most }
+    ensures { Filled page.old at (step_text most k) result page.new }
 {
     let v = k * step_for(most);
     let p = value_in(
@@ -125,7 +125,7 @@ fn step(page: &mut [u8], at: usize, most: u64, k: u64) -> usize
 
 // From 0 to the top.
 fn lines(page: &mut [u8], at: usize, most: u64) -> usize
-    ensures { Filled page.old at (linesText most) result page.new }
+    ensures { Filled page.old at (lines_text most) result page.new }
 {
     let n = steps_for(most) + 1;
     let mut p = at;
@@ -138,7 +138,7 @@ fn lines(page: &mut [u8], at: usize, most: u64) -> usize
 }
 
 fn values(page: &mut [u8], at: usize, most: u64, unit: &[u8]) -> usize
-    ensures { Filled page.old at (valuesText most unit.now) result page.new }
+    ensures { Filled page.old at (values_text most unit.now) result page.new }
 {
     let p = text_in(
         page,
@@ -153,7 +153,7 @@ fn values(page: &mut [u8], at: usize, most: u64, unit: &[u8]) -> usize
 
 // The grid of a day with this largest value; the plot stays open for the bars.
 pub fn grid(page: &mut [u8], at: usize, most: u64, unit: &[u8]) -> usize
-    ensures { Filled page.old at (gridText most unit.now) result page.new }
+    ensures { Filled page.old at (grid_text most unit.now) result page.new }
 {
     let p = put(
         page,

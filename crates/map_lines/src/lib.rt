@@ -89,7 +89,7 @@ fn wrong(page: &mut [u8], at: usize, fault: u8) -> usize
 
 // With the line's number from 1.
 pub fn at_fault(page: &mut [u8], at: usize, line: u64, fault: u8) -> usize
-    ensures { Filled page.old at (faultText line fault) result page.new }
+    ensures { Filled page.old at (fault_text line fault) result page.new }
 {
     let p = put(page, at, b"refused: line ");
     let q = number(page, p, line);

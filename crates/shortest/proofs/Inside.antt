@@ -160,7 +160,7 @@ module _ (before b behind : List ℕ) (st : Due) (d : Day) (h : Leads before st)
   stands m =
       record {
         end = a.end;
-        goes_on_lem = walks;
+        goes_on = walks;
         awaits = behind-day st b a (length before) c d n s;
         reads = λ xs e.
             (let w = walk-of file (accepted xs) e (not-accepted 1 0 0 0 xs) in

@@ -51,7 +51,7 @@ pub record Read (file : List ℕ) (number : ℕ) (d : Day) : Type 0 where
 -- and the record number that follow; a block of a later date may stand there; and where the file is accepted, d is the day that is read next after those before it
 pub record Stands (before b behind : List ℕ) (st : Due) (d : Day) : Type 0 where
   pub end : Due
-  pub goes_on_lem : walk_of begun 0 0 (lines (before ++ b ++ behind)) ≡ walk_of end (length (before ++ b)) (length (kinds_of (lines (before ++ b)))) (lines behind)
+  pub goes_on : walk_of begun 0 0 (lines (before ++ b ++ behind)) ≡ walk_of end (length (before ++ b)) (length (kinds_of (lines (before ++ b)))) (lines behind)
   pub awaits : (date : ℕ) → d.date < date → Awaits end st.n st.decimals date
   pub reads : (xs : List ℕ) → check_of (before ++ b ++ behind) ≡ accepted xs → Read (before ++ b ++ behind) st.days d
 

@@ -1,4 +1,4 @@
--- `follows::goes_on_lem` meets its contract. Assumes nothing.
+-- `follows::goes_on` meets its contract. Assumes nothing.
 use Rattle.ground.proofs.Tests.{tests}
 use Rattle.follows.specs.Tests.{goes_on}
 use Rattle.follows.proofs.goes_on.Goals as goal

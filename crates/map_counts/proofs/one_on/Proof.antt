@@ -1,4 +1,4 @@
--- `map_counts::one_on_lem` meets its contract. Assumes nothing.
+-- `map_counts::one_on` meets its contract. Assumes nothing.
 use Rattle.map_counts.proofs.Outputs.{on_one, on_none}
 use borrow.Author.Rules.{rules}
 use Rattle.map_counts.proofs.one_on.Statement.{statement}

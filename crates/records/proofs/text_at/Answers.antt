@@ -1,4 +1,4 @@
--- `records::text_at_lem` meets its contract. Assumes nothing.
+-- `records::text_at` meets its contract. Assumes nothing.
 use Rattle.records.proofs.Lookup.{text-past, text-short, text-there}
 use Rattle.records.proofs.text_at.Goals as goal
 

@@ -1,4 +1,4 @@
--- `words::lists::text_at_lem` meets its contract. Assumes nothing.
+-- `words::lists::text_at` meets its contract. Assumes nothing.
 use Rattle.words.proofs.Listed.{reached-first, reached-next, reached-is}
 use Rattle.words.proofs.lists.text_at.Goals as goal
 

@@ -1,4 +1,4 @@
--- `words::lists::text_at_lem` meets its contract. Assumes nothing.
+-- `words::lists::text_at` meets its contract. Assumes nothing.
 use Prim.Native.Nat.{◌-◌}
 use Rattle.words.proofs.Listed.{Reached}
 use Rattle.words.proofs.lists.text_at.Given as goal

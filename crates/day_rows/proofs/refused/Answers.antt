@@ -1,0 +1,9 @@
+-- `day_rows::refused` meets its contract. Assumes nothing.
+use Rattle.day_rows.proofs.Showing.{refused-other, refused-14}
+use Rattle.day_rows.proofs.refused.Goals as goal
+
+pub returns-then-x-ne14 : goal.returns-then-x-ne14
+returns-then-x-ne14 c = search refused-other
+
+pub returns : goal.returns
+returns c = search refused-14
