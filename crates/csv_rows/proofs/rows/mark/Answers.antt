@@ -1,0 +1,6 @@
+-- `csv_rows::rows::mark` meets its contract. Assumes nothing.
+use Rattle.page.proofs.Filling.{filled-then}
+use Rattle.csv_rows.proofs.rows.mark.Goals as goal
+
+pub returns : goal.returns
+returns c = search filled-then

@@ -1,0 +1,6 @@
+-- `map_calls::shown` meets its contract. Assumes nothing.
+use Rattle.map_calls.proofs.Answered.{shown-put}
+use Rattle.map_calls.proofs.shown.Goals as goal
+
+pub returns : goal.returns
+returns c = search shown-put

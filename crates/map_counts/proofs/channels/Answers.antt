@@ -1,0 +1,14 @@
+-- `map_counts::channels` meets its contract. Assumes nothing.
+use Rattle.map_counts.proofs.Sums.{summed-none, summed-more, summed-all}
+use Rattle.map_counts.specs.Counts.{channels_in}
+use Rattle.map_counts.proofs.channels.Goals as goal
+
+pub loop-i-init : goal.loop-i-init
+loop-i-init c = search summed-none
+
+pub loop-i-preserved : goal.loop-i-preserved
+loop-i-preserved c = search summed-more
+
+pub returns : goal.returns
+unfolding channels_in
+returns c = search summed-all

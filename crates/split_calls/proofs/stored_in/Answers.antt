@@ -1,0 +1,6 @@
+-- `split_calls::stored_in` meets its contract. Assumes nothing.
+use Rattle.split_calls.proofs.Answered.{split-as}
+use Rattle.split_calls.proofs.stored_in.Goals as goal
+
+pub returns : goal.returns
+returns c = search split-as

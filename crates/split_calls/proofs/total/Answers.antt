@@ -1,0 +1,13 @@
+-- `split_calls::total` meets its contract. Assumes nothing.
+use Rattle.calls.specs.Lines.{lent}
+use lib.ListN.{length-take}
+use native.Mathlib.Omega.{arith}
+use borrow.Author.Rules.{rules}
+use Rattle.split_calls.proofs.total.Goals as goal
+
+pub slice_bounds-total_in-end : goal.slice_bounds-total_in-end
+slice_bounds-total_in-end c = simp length-take (omega arith)
+
+pub returns : goal.returns
+unfolding lent
+returns c = search rules

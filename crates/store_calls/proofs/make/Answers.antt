@@ -1,0 +1,8 @@
+-- `store_calls::make` meets its contract. Assumes nothing.
+use Rattle.edit_calls.proofs.Answered.{copied-front}
+use Rattle.kept_bytes.proofs.Memory.{left_is}
+use Rattle.store_calls.proofs.Shown.{made-put}
+use Rattle.store_calls.proofs.make.Goals as goal
+
+pub returns : goal.returns
+returns c = record { line = search (made-put, copied-front); left = search left_is }
