@@ -24,8 +24,8 @@ pub struct Told {
     pub load: u64,
 }
 
-// Fills the lists with the day of n intervals in that unit whose 300 stands at a..e: nothing is left here that could fail.
-pub fn fill_day(
+// Fills the lists with the day of n intervals in that unit whose 300 stands at a..e, and tells its date and times: nothing is left here that could fail.
+pub fn fill_lists(
     file: &[u8],
     a: usize,
     e: usize,
@@ -49,6 +49,35 @@ pub fn fill_day(
         date: t.date,
         update: t.update,
         load: t.load,
+    }
+}
+
+// The same, as the answer of a reading.
+fn fill_day(
+    file: &[u8],
+    a: usize,
+    e: usize,
+    n: usize,
+    unit: u8,
+    values: &mut [u64],
+    flags: &mut [u8],
+    methods: &mut [u8],
+    reasons: &mut [u16],
+    starts: &mut [usize],
+    lengths: &mut [usize],
+) -> DayRead
+    requires { Fillable file.now a e n unit values.old (five flags.old methods.old reasons.old starts.old lengths.old) }
+    ensures { outcome (day_read_as result) values.new (five flags.new methods.new reasons.new starts.new lengths.new) ≡ read_into (block_at file.now a e n unit) values.old (five flags.old methods.old reasons.old starts.old lengths.old) }
+{
+    let t = fill_lists(
+        file, a, e, n, unit, values, flags, methods, reasons, starts, lengths,
+    );
+    DayRead::Read {
+        date: t.date,
+        n,
+        update: t.update,
+        load: t.load,
+        unit,
     }
 }
 
@@ -80,16 +109,9 @@ pub fn read_at(
     ) {
         return DayRead::Refused(Refusal::bare(15));
     }
-    let t = fill_day(
+    fill_day(
         file, a, e, n, unit, values, flags, methods, reasons, starts, lengths,
-    );
-    DayRead::Read {
-        date: t.date,
-        n,
-        update: t.update,
-        load: t.load,
-        unit,
-    }
+    )
 }
 
 // The day at a place, if there is one.

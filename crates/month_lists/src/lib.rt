@@ -13,7 +13,7 @@ ghost use Rattle.month_lists.specs.Laid.{stretched, noted, n_first, laid_first, 
 
 use day::walk::{behind, find_day, intervals_of, unit_of};
 use day::{DayStart, Place};
-use filling::{Told, fill_day};
+use filling::{Told, fill_lists};
 
 // The day of n intervals whose 300 stands at a..e, into its stretch of the long lists, from place k on.
 fn fill_stretch(
@@ -34,7 +34,7 @@ fn fill_stretch(
     ensures { outcome (accepted (result.date ∷ n ∷ result.update ∷ result.load ∷ unit ∷ [])) values.new (five flags.new methods.new reasons.new starts.new lengths.new) ≡ stretched (block_at file.now a e n unit) k values.old (five flags.old methods.old reasons.old starts.old lengths.old) }
 {
     let end = k + n;
-    fill_day(
+    fill_lists(
         file,
         a,
         e,

@@ -7,7 +7,7 @@ use Rattle.channel_rows.proofs.Rows.{placed-days, placed-quantity, placed-missin
 use Rattle.channel_rows.proofs.placed.Goals as goal
 
 pub overflow_add-e : goal.overflow_add-e
-overflow_add-e c = let r : c.place-1.given.0.1.0 + 2 ≤ length c.args.file.now = search days-room in omega arith
+overflow_add-e c = let r : c.in-Days.e + 2 ≤ length c.args.file.now = search days-room in omega arith
 
 pub days_from-requires : goal.days_from-requires
 days_from-requires c = search days-room

@@ -7,8 +7,8 @@ use Rattle.filling.proofs.read_at.Goals as goal
 pub returns-then-not-enough : goal.returns-then-not-enough
 returns-then-not-enough c = search at-15
 
-pub fill_day-t-requires : goal.fill_day-t-requires
-fill_day-t-requires c = ready _ _ _ _ _ _ _ c.enough.ensures c.requires (ap not c.if-not-enough.false)
+pub fill_day-requires : goal.fill_day-requires
+fill_day-requires c = ready _ _ _ _ _ _ _ c.enough.ensures c.requires (ap not c.if-not-enough.false)
 
 pub returns : goal.returns
 returns c = search at-filled

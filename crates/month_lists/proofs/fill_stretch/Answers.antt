@@ -2,8 +2,8 @@
 use Rattle.month_lists.proofs.Stretch.{lendable, stretch-is}
 use Rattle.month_lists.proofs.fill_stretch.Goals as goal
 
-pub fill_day-requires : goal.fill_day-requires
-fill_day-requires c = lendable _ _ _ _ _ _ _ _ c.requires.0 c.requires.1
+pub fill_lists-requires : goal.fill_lists-requires
+fill_lists-requires c = lendable _ _ _ _ _ _ _ _ c.requires.0 c.requires.1
 
 pub returns : goal.returns
-returns c = stretch-is _ _ _ _ _ _ _ _ c.requires.0 c.requires.1 _ _ _ _ _ c.fill_day.ensures
+returns c = stretch-is _ _ _ _ _ _ _ _ c.requires.0 c.requires.1 _ _ _ _ _ c.fill_lists.ensures
