@@ -224,7 +224,7 @@ cover-covers a (run k m ∷ c) h =
     let f = written-first a k m h.0 h.1 h.2 in
     let g = written_last a k m h.0 h.1 h.2 in
     let s : 1 ≤ k = h.0 in
-    rw (f, g, l) (refl, omega arith, omega arith, cover-covers (a + k) c h.3)
+    subst (λ (x : ℕ). Covers x (a + 1) (cover_written a (run k m ∷ c))) (sym l) (rw (f, g) (refl, omega arith, omega arith, cover-covers (a + k) c h.3))
 
 -- where every 400 has one mark, so has every interval
 pub cover-alike : (a : ℕ) (c : List (Run Mark)) (m : Mark) → Fitting a c → Marked m (cover_written a c) → spell c ≡ replicate (length (spell c)) m
