@@ -1,0 +1,16 @@
+-- src/main.rt:99:5
+-- src/main.rt:100:9
+-- src/main.rt:101:9
+-- src/main.rt:99:5
+-- src/main.rt:99:5
+-- src/main.rt:94:1
+use mathlib.Core.Path.{◌≡◌}
+use Prim.Native.Nat.{◌-◌}
+use lib.ListN.{length}
+use Rattle.settled.proofs.bytes.Given as goal
+
+abbrev pub invariant-loop-i : goal.invariant-loop-i
+invariant-loop-i l = 48 ≡ length l.list
+
+abbrev pub decreases-loop-i : goal.decreases-loop-i
+decreases-loop-i l = 48 - l.i
