@@ -2,7 +2,7 @@
 // place. The answer is put on a page as a line, as `calls` does it, and the line says so where something that was lent has changed and should not have.
 #![tactic(auto)]
 
-mod lines;
+mod said_lines;
 
 ghost use Rattle.std.specs.Prelude.{◌≡◌, ◌≤◌, length, drop};
 ghost use Rattle.ground.specs.Lists.{same};
@@ -24,7 +24,7 @@ use whose::find_day;
 pub fn find(file: &[u8], k: usize, page: &mut [u8], at: usize) -> usize
     ensures { Filled page.old at (answer_line (find_of file.now k)) result page.new }
 {
-    let p = lines::found(page, at, find_day(file, k));
+    let p = said_lines::found(page, at, find_day(file, k));
     put(page, p, b"\n")
 }
 
@@ -83,7 +83,7 @@ pub fn replace(
     let whole = room.len();
     put_bytes(copy, 0, room);
     let x = replace_day(room, n, k, block);
-    let p = lines::replaced(page, at, x);
+    let p = said_lines::replaced(page, at, x);
     let kept = is_kept(room, part(copy, 0, whole), new_length(x));
     Edited {
         at: end_line(page, p, kept),

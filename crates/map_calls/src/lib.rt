@@ -2,7 +2,7 @@
 // has changed and should not have. Memory is copied before a call that may change it, so that what has changed in it is seen.
 #![tactic(auto)]
 
-mod lines;
+mod said_lines;
 
 ghost use Rattle.std.specs.Prelude.{◌≡◌, ◌≤◌, length};
 ghost use Rattle.page.specs.Filled.{Filled};
@@ -40,7 +40,7 @@ fn changed(
 ) -> usize
     ensures { Filled page.old at (left_text (left (versioned_as x) memory.now) from to was.now) result page.new }
 {
-    let p = lines::versioned(page, at, x);
+    let p = said_lines::versioned(page, at, x);
     end_line(page, p, is_kept_after(x, memory, was, from, to))
 }
 
@@ -108,8 +108,8 @@ fn shown(page: &mut [u8], at: usize, x: Versioned, keys: &[u8], shares: &[u16]) 
     ensures { Filled page.old at (on_text (mapped (versioned_as x) keys.now shares.now)) result page.new }
 {
     let n = filled(x);
-    let p = lines::versioned(page, at, x);
-    let q = lines::outputs(page, p, n, keys, shares);
+    let p = said_lines::versioned(page, at, x);
+    let q = said_lines::outputs(page, p, n, keys, shares);
     end_line(page, q, are_kept(n, keys, shares))
 }
 

@@ -11,7 +11,7 @@ use input::{Going, byte, text};
 use machine::Machine;
 use map_calls::{KEY_BYTES, add, back, make, on};
 use page::texts::part;
-use sheet::lists::{below, halves_of};
+use sheet::given_lists::{below, halves_of};
 
 // The highest date of four bytes.
 const DATES: u64 = 4294967295;

@@ -3,7 +3,7 @@
 #![tactic(auto)]
 
 pub mod kept;
-mod lines;
+mod said_lines;
 
 ghost use Rattle.std.specs.Prelude.{◌≡◌};
 ghost use Rattle.format.specs.Day.{five};
@@ -65,8 +65,8 @@ fn days_shown(
 {
     let d = days_in(x);
     let k = intervals_in(x);
-    let p = lines::days_read(page, at, x);
-    let q = lines::days(page, p, d, dates, counts, updates, loads, units);
+    let p = said_lines::days_read(page, at, x);
+    let q = said_lines::days(page, p, d, dates, counts, updates, loads, units);
     Begun {
         at: q,
         intervals: k,

@@ -3,7 +3,7 @@
 // written, so those that do it are proved safe, and have none.
 #![tactic(auto)]
 
-pub mod lists;
+pub mod given_lists;
 pub mod puts;
 
 ghost use Rattle.std.specs.Prelude.{◌≡◌, ◌≤◌};
@@ -15,7 +15,7 @@ use format::DayHead;
 use input::Going;
 use input::bytes::{Cursor, Passed, fill_line};
 use input::numbers::{head, line};
-use lists::{below, bytes_of, halves_of, sizes_of};
+use given_lists::{below, bytes_of, halves_of, sizes_of};
 use machine::Machine;
 use output::write;
 use page::texts::part;

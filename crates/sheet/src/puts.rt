@@ -1,5 +1,5 @@
 // The case that hands in a day for the store in the lent memory, of which `size` bytes are lent. Its lists and its text are read as those of a day to be written.
-use super::lists::{bytes_of, halves_of, sizes_of};
+use super::given_lists::{bytes_of, halves_of, sizes_of};
 use super::{
     ALL_PLACES, MOST_TEXT, Sheet, are_narrow, can_be, day_of, least, lists_in, sheet_of, stretch,
 };

@@ -2,7 +2,7 @@
 // outputs behind it where they were set, and the line says so where one of the other parts that were lent has changed.
 #![tactic(auto)]
 
-mod lines;
+mod said_lines;
 
 ghost use Rattle.std.specs.Prelude.{◌≡◌, ◌≤◌};
 ghost use Rattle.page.specs.Filled.{Filled};
@@ -31,8 +31,8 @@ fn shown(page: &mut [u8], at: usize, x: Split, parts: &[u64]) -> usize
     ensures { Filled page.old at (split_text (left (split_as x) parts.now)) result page.new }
 {
     let n = set_parts(x);
-    let p = lines::split(page, at, x);
-    let q = lines::parts(page, p, n, parts);
+    let p = said_lines::split(page, at, x);
+    let q = said_lines::parts(page, p, n, parts);
     end_line(page, q, wide(parts, n, WIDE_MARK))
 }
 

@@ -11,7 +11,7 @@ use input::{Going, byte};
 use machine::Machine;
 use map_calls::KEY_BYTES;
 use page::texts::part;
-use sheet::lists::{below, halves_of};
+use sheet::given_lists::{below, halves_of};
 use split_calls::{day, stored, total};
 
 // The most bytes that an NMI or a suffix can be handed in as.

@@ -2,7 +2,7 @@
 // changed and should not have. Memory is copied before a call that may change it, so that what has changed in it is seen.
 #![tactic(auto)]
 
-mod lines;
+mod said_lines;
 
 ghost use Rattle.std.specs.Prelude.{◌≡◌, ◌≤◌, length};
 ghost use Rattle.format.specs.Day.{five};
@@ -33,7 +33,7 @@ use text::bytes::put_bytes;
 fn changed(page: &mut [u8], at: usize, x: Kept, memory: &[u8], was: &[u8]) -> usize
     ensures { Filled page.old at (change_text (left (kept_as x) memory.now) was.now) result page.new }
 {
-    let p = lines::kept(page, at, x);
+    let p = said_lines::kept(page, at, x);
     end_line(page, p, is_kept(memory, was, changed_from(x, memory)))
 }
 
@@ -46,7 +46,7 @@ pub fn make(memory: &mut [u8], copy: &mut [u8], slots: u32, page: &mut [u8], at:
     let whole = memory.len();
     put_bytes(copy, 0, memory);
     let x = make_store(memory, slots);
-    let p = lines::made(page, at, x);
+    let p = said_lines::made(page, at, x);
     end_line(page, p, is_kept(memory, part(copy, 0, whole), made_from(x)))
 }
 
@@ -160,5 +160,5 @@ pub fn get(
 pub fn slot(memory: &[u8], k: usize, page: &mut [u8], at: usize) -> usize
     ensures { Filled page.old at (slot_text (read_slot_of memory.now k)) result page.new }
 {
-    lines::slot(page, at, read_slot(memory, k))
+    said_lines::slot(page, at, read_slot(memory, k))
 }

@@ -1,6 +1,0 @@
--- `map_calls::lines::output` meets its contract. Assumes nothing.
-use Rattle.map_calls.proofs.Answered.{output-put}
-use Rattle.map_calls.proofs.lines.output.Goals as goal
-
-pub returns : goal.returns
-returns c = search output-put

@@ -1,0 +1,10 @@
+-- `month_calls::said_lines::days_read` meets its contract. Assumes nothing.
+use Rattle.answer_lines.proofs.Answered.{line-is}
+use Rattle.months.specs.Month.{days_read_as}
+use Rattle.month_calls.proofs.said_lines.days_read.Goals as goal
+
+pub returns-in-Read : goal.returns-in-Read
+returns-in-Read c = search (line-is days_read_as)
+
+pub returns-in-Refused : goal.returns-in-Refused
+returns-in-Refused c = search (line-is days_read_as)
