@@ -12,10 +12,10 @@ ghost use Rattle.sheet.specs.Sheets.{sheet_of, can_be, day_of, places_of, least_
 use calls::PLACES;
 use calls::blocks::{EMPTY, Wrote, block};
 use format::DayHead;
+use given_lists::{below, bytes_of, halves_of, sizes_of};
 use input::Going;
 use input::bytes::{Cursor, Passed, fill_line};
 use input::numbers::{head, line};
-use given_lists::{below, bytes_of, halves_of, sizes_of};
 use machine::Machine;
 use output::write;
 use page::texts::part;
