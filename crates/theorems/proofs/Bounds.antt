@@ -13,11 +13,8 @@ use Rattle.ground.proofs.Digits.{all_append}
 use Rattle.ground.proofs.Tests.{and-true}
 use Rattle.format.specs.Bytes.{are_all}
 use Rattle.format.specs.Numbers.{is_number, number_of, value_of}
-use Rattle.format.specs.Cut.{lines, field}
+use Rattle.format.specs.Cut.{field}
 use Rattle.format.specs.Records.{row_of, obeys, decimals_in, intervals_in, millionths, values_in, quantity_field, quantity_in}
-use Rattle.format.specs.Answers.{accepted}
-use Rattle.format.specs.File.{check_of}
-use Rattle.format.specs.Total.{totals_from}
 use Rattle.format.specs.Block.{small_value}
 use Rattle.format.specs.declared.Rule.{Rule}
 use Rattle.format.specs.declared.Rule.TheVariants.{Value}
@@ -26,8 +23,6 @@ use Rattle.theorems.specs.Grammar.{Each, Record, join, text, Meets, IsRecord, Bl
 use Rattle.theorems.specs.Days.{block_values, channel_values, reading_values, values, value_count, totals}
 use Rattle.theorems.proofs.Lists.{each-if}
 use Rattle.theorems.proofs.Sizes.{size, length-join}
-use Rattle.theorems.proofs.Format.{format}
-use Rattle.theorems.proofs.Days.{channel-totals}
 
 -- ---- "A value takes at least two bytes with its comma"
 
@@ -157,7 +152,3 @@ pub totals-fit : (file : List ℕ) (v c d : ℕ) (h : InFormat file v c d) → E
 totals-fit file v c d h =
     each-if (λ t. t ≤ value_count h.content * 10 ^ 13) (λ t. t < 2 ^ 64) (λ t l. omega (arith, two_bytes _ file v c d h)) (totals h.content)
     (totals-most (value_count h.content) (values h.content) (content-fit h.content) (omega arith))
-
--- as a reading finds them in an accepted file
-pub every-total : (file : List ℕ) (v c d : ℕ) → check_of file ≡ accepted (v ∷ c ∷ d ∷ []) → Each (λ t. t < 2 ^ 64) (totals_from (lines file))
-every-total file v c d e = let h = (format file v c d).0 e in rw (channel-totals file v c d h) (totals-fit file v c d h)

@@ -1,18 +1,18 @@
--- The day after a date is the next date, and a read time is within a day when it is later than its midnight, up to the one that ends it. Assumes nothing.
+-- The day after a date is the next date; the test of a read time that belongs to a day. Assumes nothing.
 use Prim.Native.Nat.{ℕ, ◌+◌, ◌*◌, ◌/◌, ◌%◌, ◌≤◌, ◌<◌}
 use mathlib.Core.Path.{◌≡◌, refl, sym, ◌∙◌}
-use mathlib.Core.Logic.{◌≢◌, ◌↔◌, inl, inr}
+use mathlib.Core.Logic.{◌≢◌, inl, inr}
 use mathlib.Core.Bool.{true, not, ◌&&◌, ◌||◌}
 use native.Mathlib.Omega.{arith}
 use lib.Dec.{eqb}
 use borrow.Author.Tests.{eqb-true, eqb-false, eq-eqb, ne_eqb, le-leb, not-true}
-use Rattle.ground.proofs.Cases.{by, same_or, split}
-use Rattle.ground.proofs.Tests.{or-true, and-true, or-other}
-use Rattle.format.specs.Dates.{is_leap, days_in_month, is_date, day_after, is_time, last_end, is_read_time}
+use Rattle.ground.proofs.Cases.{by, split}
+use Rattle.ground.proofs.Tests.{or-true, and-true}
+use Rattle.format.specs.Dates.{is_leap, days_in_month, is_date, day_after, is_time}
 use Rattle.format.specs.Faults.{on_day}
-use Rattle.format.proofs.Dates.{Day, day-is, day-end, after-cases, after-later}
+use Rattle.format.proofs.Dates.{Day, day-is, day-end, after-cases}
 use Rattle.theorems.specs.Grammar.{Within}
-use Rattle.theorems.specs.Calendar.{NextDate, UpToEnd}
+use Rattle.theorems.specs.Calendar.{NextDate}
 
 -- ---- dates
 
@@ -35,7 +35,7 @@ is-date t y m d a b c w = rw (a, b, c) (sym (day-end y m d refl w.from w.to w.fi
 pub last-date : (t : ℕ) → is_date t ≡ true → t ≤ 21991231
 last-date t h = let w = date-is t h in omega (arith, w.to, w.last, w.end, (month-days (t / 10000) (t / 100 % 100)).1)
 
-time-date : (x : ℕ) → is_time x ≡ true → is_date (x / 1000000) ≡ true
+pub time-date : (x : ℕ) → is_time x ≡ true → is_date (x / 1000000) ≡ true
 unfolding is_time
 time-date x e = (and-true _ _ (and-true _ _ (and-true _ _ e).0).0).0
 
@@ -104,7 +104,7 @@ module _ (t : ℕ) (h : is_date t ≡ true) where
 
 -- for each date before the last one
 pub day-after : (t : ℕ) → is_date t ≡ true → t < 21991231 → NextDate t (day_after t)
-day-after t h b = after-cases t (NextDate t) (in-month t h) (next-month t h) (next-year t h b)
+day-after t h b = after-cases t (NextDate t) (in-month t h) (next-month t h) (next-year t h (omega (arith, b)))
 
 pub day-after-last : day_after 21991231 ≡ 22000101
 unfolding day_after days_in_month
@@ -128,37 +128,3 @@ pub within_on : (t x : ℕ) → Within t x → on_day t x ≡ true
 unfolding on_day
 within_on t x (inl (e, n)) = rw (eq-eqb _ _ e, ne_eqb _ _ n, or-true)
 within_on t x (inr e) = rw (eq-eqb x (day_after t * 1000000) e, or-true)
-
-within-upto : (t x : ℕ) → Within t x → UpToEnd t x
-within-upto t x (inl (e, n)) = let l = after-later t in (omega arith, omega arith)
-within-upto t x (inr e) = let l = after-later t in (omega arith, omega arith)
-
-module _ (t x : ℕ) (h : is_date t ≡ true) (n : x / 1000000 ≢ t) (u : UpToEnd t x) where
-  -- a time of a later date is the one that ends the day
-  of-later : is_time x ≡ true → x ≡ day_after t * 1000000
-  of-later e =
-      let d = time-date x e in
-      let m = last-date (x / 1000000) d in
-      let b : t < x / 1000000 = omega (arith, u.0) in
-      let l = (day-after t h (omega arith)).least (x / 1000000) d b in
-      omega (arith, u.1)
-
-  of-last : x ≡ last_end → x ≡ day_after t * 1000000
-  of-last e =
-      same_or t 21991231
-      (λ f. let g : day_after t ≡ 22000101 = rw f day-after-last in omega arith)
-      (λ f.
-      let m = last-date t h in
-      let l = last-date (day_after t) (day-after t h (omega arith)).is-date in
-      absurd (let z : ⊥ = omega (arith, u.1) in z))
-
-upto-within : (t x : ℕ) → is_date t ≡ true → is_read_time x ≡ true → UpToEnd t x → Within t x
-unfolding is_read_time
-upto-within t x h r u =
-    same_or (x / 1000000) t
-    (λ e. inl (e, λ z. omega (arith, u.0)))
-    (λ n. inr (by (is_time x) (of-later t x h n u) (λ f. of-last t x h n u (eqb-true _ _ (or-other _ _ r f)))))
-
--- a read time is within a day exactly when it is later than the day's midnight and not later than the one that ends it
-pub within : (t x : ℕ) → is_date t ≡ true → is_read_time x ≡ true → Within t x ↔ UpToEnd t x
-within t x h r = (within-upto t x, upto-within t x h r)

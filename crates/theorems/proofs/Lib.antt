@@ -5,6 +5,7 @@ pub mod Ends
 pub mod Across
 pub mod Rows
 pub mod Calendar
+pub mod Within
 pub mod Says
 pub mod Apart
 pub mod Told
@@ -26,3 +27,4 @@ pub mod Meaning
 pub mod OneDay
 pub mod Blocks
 pub mod Bounds
+pub mod Totals
