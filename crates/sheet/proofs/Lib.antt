@@ -1,2 +1,1 @@
-mod Long
 mod Sheets

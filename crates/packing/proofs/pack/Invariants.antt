@@ -1,6 +1,4 @@
 -- `packing::pack` meets its contract: the blocks before place p are packed (`Packing`), and every fact of a turn comes from one law (`turn`). Assumes nothing.
--- there are as many places as there were
--- what is known of a turn once its block is
 use Rattle.packing.proofs.Turns.{Packing}
 use lib.ListN.{length}
 use Prim.Native.Nat.{◌-◌}

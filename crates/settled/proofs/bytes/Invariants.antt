@@ -1,9 +1,4 @@
--- src/main.rt:99:5
--- src/main.rt:100:9
--- src/main.rt:101:9
--- src/main.rt:99:5
--- src/main.rt:99:5
--- src/main.rt:94:1
+-- `settled::bytes` meets its contract. Assumes nothing.
 use mathlib.Core.Path.{◌≡◌}
 use Prim.Native.Nat.{◌-◌}
 use lib.ListN.{length}

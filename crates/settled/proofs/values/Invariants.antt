@@ -1,10 +1,4 @@
--- src/main.rt:87:5
--- src/main.rt:88:9
--- src/main.rt:88:9
--- src/main.rt:89:9
--- src/main.rt:87:5
--- src/main.rt:87:5
--- src/main.rt:82:1
+-- `settled::values` meets its contract. Assumes nothing.
 use mathlib.Core.Path.{◌≡◌}
 use Prim.Native.Nat.{◌-◌}
 use lib.ListN.{length}

@@ -1,8 +1,4 @@
--- src/answers.rt:18:27
--- src/answers.rt:18:9
--- src/answers.rt:19:5
--- src/answers.rt:15:1
--- src/answers.rt:15:1
+-- `answer_lines::answers::accepted` meets its contract. Assumes nothing.
 use Rattle.answer_lines.proofs.Answered.{line-accepted}
 use Rattle.answer_lines.proofs.answers.accepted.Goals as goal
 

@@ -1,12 +1,4 @@
--- src/answers.rt:82:26
--- src/answers.rt:82:65
--- src/answers.rt:82:46
--- src/answers.rt:83:26
--- src/answers.rt:83:32
--- src/answers.rt:78:1
--- src/answers.rt:78:1
--- src/answers.rt:78:1
--- src/answers.rt:78:1
+-- `answer_lines::answers::written` meets its contract. Assumes nothing.
 use Rattle.format.specs.Answers.{written_as}
 use Rattle.answer_lines.proofs.Answered.{line-is}
 use Rattle.answer_lines.proofs.answers.written.Goals as goal

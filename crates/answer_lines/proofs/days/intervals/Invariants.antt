@@ -1,10 +1,4 @@
--- src/days.rt:87:5
--- src/days.rt:88:9
--- src/days.rt:89:9
--- src/days.rt:87:5
--- src/days.rt:87:5
--- src/days.rt:72:1
--- src/days.rt:72:1
+-- `answer_lines::days::intervals` meets its contract. Assumes nothing.
 use Prim.Native.Nat.{◌-◌}
 use Rattle.answer_lines.specs.Lines.{interval_in}
 use Rattle.page.proofs.Listed.{Counted}

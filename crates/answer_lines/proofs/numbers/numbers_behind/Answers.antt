@@ -1,12 +1,4 @@
--- src/answers.rt:20:5
--- src/answers.rt:21:42
--- src/answers.rt:21:42
--- src/answers.rt:21:9
--- src/answers.rt:22:9
--- src/answers.rt:20:5
--- src/answers.rt:20:5
--- src/answers.rt:15:1
--- src/answers.rt:15:1
+-- `answer_lines::numbers::numbers_behind` meets its contract. Assumes nothing.
 use Rattle.answer_lines.proofs.Listed.{listed-none, listed_more, listed-all, listed_kept}
 use Rattle.answer_lines.proofs.numbers.numbers_behind.Goals as goal
 

@@ -1,12 +1,4 @@
--- src/answers.rt:20:5
--- src/answers.rt:21:42
--- src/answers.rt:21:42
--- src/answers.rt:21:9
--- src/answers.rt:22:9
--- src/answers.rt:20:5
--- src/answers.rt:20:5
--- src/answers.rt:15:1
--- src/answers.rt:15:1
+-- `answer_lines::numbers::numbers_behind` meets its contract. Assumes nothing.
 use Rattle.answer_lines.proofs.Listed.{Listed}
 use Prim.Native.Nat.{◌-◌}
 use lib.ListN.{length}

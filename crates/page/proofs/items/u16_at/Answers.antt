@@ -1,7 +1,4 @@
--- src/items.rt:33:16
--- src/items.rt:33:16
--- src/items.rt:33:9
--- src/items.rt:29:1
+-- `page::items::u16_at` meets its contract. Assumes nothing.
 use Rattle.page.proofs.Listed.{past_end}
 use Rattle.page.proofs.items.u16_at.Goals as goal
 

@@ -1,7 +1,4 @@
--- src/items.rt:15:16
--- src/items.rt:15:16
--- src/items.rt:15:9
--- src/items.rt:11:1
+-- `page::items::u64_at` meets its contract. Assumes nothing.
 use Rattle.page.proofs.Listed.{past_end}
 use Rattle.page.proofs.items.u64_at.Goals as goal
 

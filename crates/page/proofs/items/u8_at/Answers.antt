@@ -1,6 +1,4 @@
--- src/items.rt:42:16
--- src/items.rt:42:9
--- src/items.rt:38:1
+-- `page::items::u8_at` meets its contract. Assumes nothing.
 use Rattle.page.proofs.Listed.{past_end}
 use Rattle.page.proofs.items.u8_at.Goals as goal
 

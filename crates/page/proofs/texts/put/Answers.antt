@@ -1,12 +1,4 @@
--- src/texts.rt:15:9
--- src/texts.rt:17:16
--- src/texts.rt:19:9
--- src/texts.rt:19:9
--- src/texts.rt:19:9
--- src/texts.rt:21:25
--- src/texts.rt:21:5
--- src/texts.rt:11:1
--- src/texts.rt:11:1
+-- `page::texts::put` meets its contract. Assumes nothing.
 use native.Mathlib.Omega.{arith}
 use lib.ListN.{length-take}
 use Rattle.page.proofs.Filling.{filled_none, filled-whole, filled-part, part_room}

@@ -1,10 +1,4 @@
--- src/texts.rt:38:23
--- src/texts.rt:38:9
--- src/texts.rt:39:19
--- src/texts.rt:39:19
--- src/texts.rt:39:5
--- src/texts.rt:34:1
--- src/texts.rt:34:1
+-- `page::texts::value` meets its contract. Assumes nothing.
 use Rattle.page.proofs.Filling.{filled-front, front-within, front_long, value_room}
 use Rattle.page.proofs.texts.value.Goals as goal
 
