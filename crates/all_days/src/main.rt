@@ -3,7 +3,6 @@
 #![tactic(auto)]
 
 use disk::{Loaded, load_word};
-use format::Number;
 use leaf::digits::digits;
 use machine::{Machine, PAGE, WORD};
 use month::read_days;
@@ -26,8 +25,8 @@ fn day_word(rt: &impl Machine, i: usize) -> usize {
     let n = rt.arg(i, &mut word);
     let said = digits(&word[..n], 1, 9);
     match said {
-        Number::Is(v) => v as usize,
-        Number::Bad => 0,
+        Some(v) => v as usize,
+        None => 0,
     }
 }
 

@@ -1,4 +1,5 @@
 -- The walk over a block: a record's fault there, what each way out of a turn answers, and the turn itself. Assumes nothing.
+use Rattle.std.proofs.Common.{Some}
 use Prim.Native.Nat.{ℕ, ◌+◌, ◌-◌, ◌≤◌, ◌<◌}
 use mathlib.Core.Path.{◌≡◌, refl, sym, ap, ◌∙◌}
 use mathlib.Core.List.{List, [], ◌∷◌, ◌++◌}
@@ -18,12 +19,10 @@ use Rattle.format.specs.Units.{is_unit, decimals_of}
 use Rattle.format.specs.Cut.{rest, lines, fields}
 use Rattle.format.specs.Records.{kind_in, date_in, update_in, load_in}
 use Rattle.format.specs.Order.{Due, in_day}
-use Rattle.format.specs.Faults.{is_open, fault_at, fault_of}
+use Rattle.format.specs.Faults.{is_open, fault_at, fault_of, Fine, Stop}
 use Rattle.format.specs.Answers.{accepted, refused, refused_as}
 use Rattle.format.specs.File.{after, is_foreign, block_fault_of, end_of, block_walk_of, top_says, block_check_of}
-use Rattle.format.specs.declared.Number.TheVariants.{Is, Bad}
 use Rattle.format.specs.declared.Refusal.{Refusal}
-use Rattle.format.specs.declared.Fault.TheVariants.{Fine, Stop}
 use Rattle.format.proofs.Numbers.{intervals-most}
 use Rattle.lines.specs.Places.{LineEnd, Looked}
 use Rattle.lines.specs.declared.Found.{Found}
@@ -308,7 +307,7 @@ module _ (memory : List ℕ) (start m unit : ℕ) {w : Walked} (a : WalkedAs mem
   pub told-stopped : {x : Refusal} → w ≡ walked.Stopped x → refused_as x ≡ block_check_of m unit (drop start memory)
   told-stopped q = sym (rw q at a)
 
-  pub date-none : {x : Refusal} → w ≡ walked.Stopped x → Bad ≡ date_said (block_check_of m unit (drop start memory))
+  pub date-none : {x : Refusal} → w ≡ walked.Stopped x → None ≡ date_said (block_check_of m unit (drop start memory))
   unfolding date_said
   date-none q = let z : WalkedAs memory start m unit (walked.Stopped _) = rw q at a in rw z
 
@@ -326,6 +325,6 @@ module _ (memory : List ℕ) (start m unit : ℕ) {w : Walked} (a : WalkedAs mem
         → l ≡ load_in n (fields (part memory start e)) → accepted (d ∷ n ∷ u ∷ l ∷ k ∷ []) ≡ block_check_of m unit (drop start memory)
     told-block en ed eu el = sym (block-is.is ∙ rw (line-more memory start e block-is.line block-is.more, ← en, ← ed, ← eu, ← el) refl)
 
-    pub date-is : {d : ℕ} → d ≡ date_in (fields (part memory start e)) → Is d ≡ date_said (block_check_of m unit (drop start memory))
+    pub date-is : {d : ℕ} → d ≡ date_in (fields (part memory start e)) → Some d ≡ date_said (block_check_of m unit (drop start memory))
     unfolding date_said
-    date-is ed = rw (block-is.is, line-more memory start e block-is.line block-is.more) (ap Is ed)
+    date-is ed = rw (block-is.is, line-more memory start e block-is.line block-is.more) (ap Some ed)

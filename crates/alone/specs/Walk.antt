@@ -1,5 +1,5 @@
 -- The walk over a block that is a part of longer memory, from a place of it to its end.
-use Rattle.std.specs.Prelude.{ℕ, ◌-◌, ◌≤◌, ◌<◌, ◌≡◌, List, [], ◌∷◌, ◌++◌, Bool, false, cond, length, drop, get_or, ltb}
+use Rattle.std.specs.Prelude.{ℕ, ◌-◌, ◌≤◌, ◌<◌, ◌≡◌, List, [], ◌∷◌, ◌++◌, Bool, false, cond, length, drop, get_or, ltb, Option, Some, None}
 use Rattle.ground.specs.Lists.{span_of}
 use Rattle.format.specs.Bytes.{plain}
 use Rattle.format.specs.Cut.{lines, fields}
@@ -9,8 +9,6 @@ use Rattle.format.specs.Faults.{is_open}
 use Rattle.format.specs.Answers.{Answer, accepted, refused, refused_as}
 use Rattle.format.specs.Numbers.{intervals_of}
 use Rattle.format.specs.File.{behind200, is_foreign, block_walk_of, top_says, block_check_of}
-use Rattle.format.specs.declared.Number.{Number}
-use Rattle.format.specs.declared.Number.TheVariants.{Is, Bad}
 use Rattle.lines.specs.Places.{LineEnd, Looked}
 use Rattle.lines.specs.declared.Found.{Found}
 use Rattle.order.specs.State.{seen, closed, Kept}
@@ -40,9 +38,9 @@ abbrev pub whole_of : List ℕ → ℕ → ℕ → ℕ → List ℕ → Answer
 whole_of memory start n d xs = on_from memory start xs (behind200 n d) start 0
 
 -- the date in the answer that a check of a block gives
-unfoldable pub date_said : Answer → Number
-date_said (accepted xs) = Is (get_or xs 0 0)
-date_said (refused x p k i) = Bad
+unfoldable pub date_said : Answer → Option ℕ
+date_said (accepted xs) = Some (get_or xs 0 0)
+date_said (refused x p k i) = None
 
 -- the record r is no part of the block, and neither 3 nor 10 comes before that
 unfoldable pub is_foreign_here : Due → List ℕ → Bool

@@ -17,7 +17,7 @@ ghost use Rattle.alone.specs.Walk.{refused_at, is_foreign_here, first_walk, date
 use day::fields::skip;
 use day::head::{head_at, times_at};
 use follows::{in_day, is_open};
-use format::{BlockChecked, Number, Refusal};
+use format::{BlockChecked, Refusal};
 use lines::Found;
 use number_rules::intervals;
 use order::{State, Step};
@@ -265,15 +265,15 @@ pub fn check_block(memory: &[u8], start: usize, minutes: u32, unit: u8) -> Block
 }
 
 // The date that the same check answers, if it accepts the block. The times stand behind all the values, and who needs none of them is spared a second pass.
-pub fn block_date(memory: &[u8], start: usize, minutes: u32, unit: u8) -> Number
+pub fn block_date(memory: &[u8], start: usize, minutes: u32, unit: u8) -> Option<u64>
     ensures { result ≡ date_said (block_check_of minutes unit (drop start memory.now)) }
 {
     let w = walk_bytes(memory, start, minutes, unit);
     match w {
-        Walked::Stopped(_) => Number::Bad,
+        Walked::Stopped(_) => None,
         Walked::Block(_, e) => {
             let h = head_at(memory, start, e);
-            Number::Is(h.date as u64)
+            Some(h.date as u64)
         }
     }
 }

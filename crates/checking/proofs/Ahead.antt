@@ -13,11 +13,10 @@ use Rattle.ground.specs.Lists.{part}
 use Rattle.format.specs.Cut.{fields}
 use Rattle.format.specs.Records.{kind_in}
 use Rattle.format.specs.Order.{Due}
-use Rattle.format.specs.Faults.{fault_of}
+use Rattle.format.specs.Faults.{fault_of, Fine}
 use Rattle.format.specs.File.{after}
 use Rattle.format.specs.Day.{DayRows, days_of}
 use Rattle.format.specs.Total.{totals_from}
-use Rattle.format.specs.declared.Fault.TheVariants.{Fine}
 use Rattle.passing.proofs.Fit.{fine-fit, head}
 use Rattle.passing.proofs.Counts.{is_first, Counted, counted}
 use Rattle.lines.specs.Places.{LineEnd}

@@ -12,14 +12,13 @@ use Rattle.ground.specs.Lists.{part}
 use Rattle.format.specs.Cut.{Lines, line, rest, lines, fields}
 use Rattle.format.specs.Records.{kind_in}
 use Rattle.format.specs.Order.{Due}
-use Rattle.format.specs.Faults.{fault_of}
+use Rattle.format.specs.Faults.{fault_of, Fault}
 use Rattle.format.specs.Day.{DayRows, days_from}
 use Rattle.format.specs.Answers.{Answer, accepted, refused, refused_as, checked_as}
 use Rattle.format.specs.declared.Refusal.{Refusal}
 use Rattle.format.specs.declared.Checked.TheVariants.{Refused}
 use Rattle.format.specs.File.{after, or_go_on, walk_of, check_of}
-use Rattle.format.specs.declared.Fault.{Fault}
-use Rattle.format.specs.declared.Fault.TheVariants as fault
+use Rattle.format.specs.Faults as faults
 use Rattle.lines.specs.Places.{line_len, LineEnd}
 use Rattle.lines.proofs.Ends.{line_at, line-none, line-more, line-long}
 use Rattle.lines.specs.declared.Found.{Found}
@@ -66,8 +65,8 @@ behind : List ℕ → ℕ → ℕ → Due → Answer
 behind file e k st = walk_of st (e + 2) (k + 1) (lines (drop (e + 2) file))
 
 onward-is : (p k : ℕ) (f : Fault) (st : Due) (w : Due → Answer) → or_go_on p k f (w st) ≡ onward p k w (or_stop f st)
-onward-is p k fault.Fine st w = refl
-onward-is p k (fault.Stop x o i) st w = refl
+onward-is p k faults.Fine st w = refl
+onward-is p k (faults.Stop x o i) st w = refl
 
 module _ (file : List ℕ) (at k : ℕ) (st : State) (r : Record) (is : r ≡ record_at file at) (known : st.expect ≤ 9) (going : st.expect ≡ 9 → ⊥)
     (inv : check_of file ≡ walk_of (seen file st) at k (lines (drop at file))) where

@@ -7,7 +7,6 @@ ghost use Rattle.std.specs.Prelude.{◌≡◌, ◌<◌, ◌^◌};
 ghost use Rattle.format.specs.Dates.{is_minute, date_of, time_of, created_of, next_read_of, load_of, taken_of, read_time_of};
 
 use calendar::{is_date, is_read_time, is_time};
-use format::Number;
 use leaf::digits::digits;
 
 // yyyymmddhhmm.
@@ -18,95 +17,59 @@ fn is_minute(t: u64) -> bool
     is_time(t * 100)
 }
 
-pub fn date(f: &[u8]) -> Number
+pub fn date(f: &[u8]) -> Option<u64>
     ensures { result ≡ date_of f.now }
 {
-    let x = digits(f, 8, 8);
-    match x {
-        Number::Is(t) => {
-            if is_date(t) {
-                return Number::Is(t);
-            }
-            Number::Bad
-        }
-        Number::Bad => Number::Bad,
-    }
+    digits(f, 8, 8).filter(|t| is_date(*t))
 }
 
 // DateTime(14).
-pub fn time(f: &[u8]) -> Number
+pub fn time(f: &[u8]) -> Option<u64>
     ensures { result ≡ time_of f.now }
 {
-    let x = digits(f, 14, 14);
-    match x {
-        Number::Is(t) => {
-            if is_time(t) {
-                return Number::Is(t);
-            }
-            Number::Bad
-        }
-        Number::Bad => Number::Bad,
-    }
+    digits(f, 14, 14).filter(|t| is_time(*t))
 }
 
 // DateTime(12), the 100's.
-pub fn created(f: &[u8]) -> Number
+pub fn created(f: &[u8]) -> Option<u64>
     ensures { result ≡ created_of f.now }
 {
-    let x = digits(f, 12, 12);
-    match x {
-        Number::Is(t) => {
-            if is_minute(t) {
-                return Number::Is(t);
-            }
-            Number::Bad
-        }
-        Number::Bad => Number::Bad,
-    }
+    digits(f, 12, 12).filter(|t| is_minute(*t))
 }
 
-pub fn next_read_date(f: &[u8]) -> Number
+pub fn next_read_date(f: &[u8]) -> Option<u64>
     ensures { result ≡ next_read_of f.now }
 {
     let n = f.len();
     if n == 0 {
-        return Number::Is(0);
+        return Some(0);
     }
     date(f)
 }
 
-pub fn load_time(f: &[u8]) -> Number
+pub fn load_time(f: &[u8]) -> Option<u64>
     ensures { result ≡ load_of f.now }
 {
     let size = f.len();
     if size == 0 {
-        return Number::Is(0);
+        return Some(0);
     }
     time(f)
 }
 
 // A 500's read time that is given.
-fn taken(f: &[u8]) -> Number
+fn taken(f: &[u8]) -> Option<u64>
     ensures { result ≡ taken_of f.now }
 {
-    let x = digits(f, 14, 14);
-    match x {
-        Number::Is(t) => {
-            if is_read_time(t) {
-                return Number::Is(t);
-            }
-            Number::Bad
-        }
-        Number::Bad => Number::Bad,
-    }
+    digits(f, 14, 14).filter(|t| is_read_time(*t))
 }
 
 // One that may be empty.
-pub fn read_time(f: &[u8]) -> Number
+pub fn read_time(f: &[u8]) -> Option<u64>
     ensures { result ≡ read_time_of f.now }
 {
     if f.len() == 0 {
-        return Number::Is(0);
+        return Some(0);
     }
     taken(f)
 }

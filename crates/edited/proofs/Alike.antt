@@ -9,9 +9,8 @@ use lib.Dec.{eqb}
 use Rattle.format.specs.Cut.{Lines, line, rest, lines, fields}
 use Rattle.format.specs.Records.{kind_in}
 use Rattle.format.specs.Order.{may_come, in_day, Due, on200, on300, on900}
-use Rattle.format.specs.Faults.{scale_of, is_not_later, is_off, is_alike, is_elsewhere, fault_of}
+use Rattle.format.specs.Faults.{scale_of, is_not_later, is_off, is_alike, is_elsewhere, fault_of, Fine}
 use Rattle.format.specs.File.{after}
-use Rattle.format.specs.declared.Fault.TheVariants.{Fine}
 use Rattle.format.proofs.States.{implied, excluded}
 use Rattle.passing.specs.Passes.{Passes, Free, Accepted, top_date}
 use Rattle.passing.proofs.Fit.{Ok, Fit, fine-fit, fit-fine, Head, h100, h200, h300, h400, h500, h250, h550, h900, head, free_of, free-if}

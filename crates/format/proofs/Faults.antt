@@ -3,9 +3,7 @@ use Prim.Native.Nat.{ℕ}
 use mathlib.Core.Path.{◌≡◌, refl}
 use mathlib.Core.Bool.{Bool, true, false}
 use native.Mathlib.Omega.{arith}
-use Rattle.format.specs.Faults.{◌▹◌, stop}
-use Rattle.format.specs.declared.Fault.{Fault}
-use Rattle.format.specs.declared.Fault.TheVariants.{Fine, Stop}
+use Rattle.format.specs.Faults.{◌▹◌, stop, Fault, Fine, Stop}
 
 -- neither of two faults
 pub both-fine : (f g : Fault) → (f ▹ g) ≡ Fine → (f ≡ Fine) × (g ≡ Fine)

@@ -1,7 +1,8 @@
 -- Marks: the test that two are the same decides it, a fit mark's texts are read back by the rules of their fields, and none that is read back so
 -- is shorter. Assumes nothing.
+use Rattle.std.proofs.Common.{Option, Some, None}
 use Prim.Native.Nat.{ℕ, ◌+◌, ◌≤◌, ◌<◌}
-use mathlib.Core.Path.{◌≡◌, refl, ap}
+use mathlib.Core.Path.{◌≡◌, refl, sym, ap}
 use mathlib.Core.Bool.{Bool, true, false, cond, ◌&&◌, false≢true}
 use mathlib.Core.Logic.{◌≢◌}
 use mathlib.Core.List.{List, [], ◌∷◌}
@@ -17,12 +18,8 @@ use Rattle.ground.proofs.Same.{same-itself, same-sound}
 use Rattle.ground.proofs.Decimal.{decimal-below}
 use Rattle.ground.proofs.Digits.{length-padded}
 use Rattle.format.specs.Numbers.{number_of}
-use Rattle.format.specs.Quality.{of_intervals, stands_alone, takes_method, no_method, with_method, quality_of, Mark, same_mark}
+use Rattle.format.specs.Quality.{of_intervals, stands_alone, takes_method, no_method, with_method, method_in, quality_of, Mark, same_mark, grade}
 use Rattle.format.specs.Block.{fit_quality, quality_text, reason_text, mark_text}
-use Rattle.format.specs.declared.Graded.{Graded}
-use Rattle.format.specs.declared.Graded.TheVariants.{Of}
-use Rattle.format.specs.declared.Number.{Number}
-use Rattle.format.specs.declared.Number.TheVariants.{Is, Bad}
 use Rattle.format.proofs.Numbers.{Got, got}
 use Rattle.format.proofs.NumberText.{two_back}
 
@@ -100,31 +97,31 @@ pub quality-graded : (q m : ℕ) → m ≢ no_method → quality_text q m ≡ q 
 unfolding quality_text
 quality-graded q m e = rw (ne_eqb m no_method e)
 
-back_alone : (k q m : ℕ) → stands_alone k q ≡ true → m ≡ no_method → quality_of k (quality_text q m) ≡ Of q m
+back_alone : (k q m : ℕ) → stands_alone k q ≡ true → m ≡ no_method → quality_of k (quality_text q m) ≡ Some (grade q m)
 unfolding quality_of
 back_alone k q m e d = rw (quality-alone q m d, e, d)
 
-back-graded : (k q m : ℕ) → takes_method q ≡ true → m < 100 → quality_of k (quality_text q m) ≡ Of q m
+back-graded : (k q m : ℕ) → takes_method q ≡ true → m < 100 → quality_of k (quality_text q m) ≡ Some (grade q m)
 unfolding quality_of
 back-graded k q m t h = rw (quality-graded q m (λ e. omega arith), method-flag k q t, t, two_back m h)
 
-pub quality-back : (k q m : ℕ) → of_intervals k ≡ true → fit_quality q m ≡ true → quality_of k (quality_text q m) ≡ Of q m
+pub quality-back : (k q m : ℕ) → of_intervals k ≡ true → fit_quality q m ≡ true → quality_of k (quality_text q m) ≡ Some (grade q m)
 unfolding fit_quality
 quality-back k q m i f =
     by (stands_alone 400 q)
     (λ t. back_alone k q m (alone-in k q i t) (eqb-true m no_method (rw t at f)))
     (λ t. let g = and-true (takes_method q) (ltb m 100) (rw t at f) in back-graded k q m g.0 (ltb-true m 100 g.1))
 
-of-alone : (b : Bool) (x q m : ℕ) → cond b (Of x no_method) Graded.Bad ≡ Of q m → (b ≡ true) × (m ≡ no_method)
-of-alone true x q m e = (refl, (cc))
+of-alone : (b : Bool) (x q m : ℕ) → cond b (Some (grade x no_method)) None ≡ Some (grade q m) → (b ≡ true) × (m ≡ no_method)
+of-alone true x q m e = (refl, sym (ap method_in e))
 of-alone false x q m e = let z : ◌≡◌ {A = ℕ} 0 1 = cc in absurd (omega arith)
 
-of-graded : (b : Bool) (x q m : ℕ) (y : Number) → cond b (with_method x y) Graded.Bad ≡ Of q m → y ≡ Is m
-of-graded true x q m (Is v) e = let z : v ≡ m = cc in ap Is z
-of-graded true x q m Bad e = let z : ◌≡◌ {A = ℕ} 0 1 = cc in absurd (omega arith)
+of-graded : (b : Bool) (x q m : ℕ) (y : Option ℕ) → cond b (with_method x y) None ≡ Some (grade q m) → y ≡ Some m
+of-graded true x q m (Some v) e = ap Some (ap method_in e)
+of-graded true x q m None e = let z : ◌≡◌ {A = ℕ} 0 1 = cc in absurd (omega arith)
 of-graded false x q m y e = let z : ◌≡◌ {A = ℕ} 0 1 = cc in absurd (omega arith)
 
-pub quality-shortest : (k : ℕ) (s : List ℕ) (q m : ℕ) → quality_of k s ≡ Of q m → length (quality_text q m) ≤ length s
+pub quality-shortest : (k : ℕ) (s : List ℕ) (q m : ℕ) → quality_of k s ≡ Some (grade q m) → length (quality_text q m) ≤ length s
 unfolding quality_of
 quality-shortest k s q m e =
     by (stands_alone k (get_or s 0 0))

@@ -1,5 +1,6 @@
 -- Numbers: the cases of `number_of`, `small_of`, `value_of` and `is_read` as the code meets them, and what a number that was read says of its bytes.
 -- Assumes nothing.
+use Rattle.std.proofs.Common.{Option, Some, None}
 use mathlib.Core.Path.{◌≡◌, refl, sym, ap, ◌∙◌}
 use mathlib.Core.Bool.{Bool, true, false, cond, not, false≢true, true≢false}
 use mathlib.Core.Logic.{◌≢◌}
@@ -21,43 +22,41 @@ use Rattle.ground.proofs.Lists.{passed-stops, passed-all, to_end}
 use Rattle.ground.proofs.Decimal.{Read, decimal-below, pow_below}
 use Rattle.format.specs.Bytes.{are_all}
 use Rattle.format.specs.Numbers.{is_number, number_in, that, or_empty, number_of, leading_zero, small_of, is_length, intervals_of, point, before, behind, times, fraction_of, amount, value_of, are_digits, is_read}
-use Rattle.format.specs.declared.Number.{Number}
-use Rattle.format.specs.declared.Number.TheVariants.{Is, Bad}
 
 -- a number below k, if it is one
-abbrev pub under : ℕ → Number → Type 0
-under k (Is v) = v < k
-under k Bad = Unit
+abbrev pub under : ℕ → Option ℕ → Type 0
+under k (Some v) = v < k
+under k None = Unit
 
-pub under-is : (k : ℕ) {x : Number} {v : ℕ} → under k x → x ≡ Is v → v < k
+pub under-is : (k : ℕ) {x : Option ℕ} {v : ℕ} → under k x → x ≡ Some v → v < k
 under-is k h e = rw e at h
 
 -- ---- digits, as a loop over them meets them
 
 module _ (least most : ℕ) (s : List ℕ) where
-  pub number_short : length s < least → Bad ≡ number_of least most s
+  pub number_short : length s < least → None ≡ number_of least most s
   unfolding number_of are_all
   number_short h = search tests
 
-  pub number-stops : (v i : ℕ) → i < length s → false ≡ is_digit (get_or s i 0) → Read s v i → Bad ≡ number_of least most s
+  pub number-stops : (v i : ℕ) → i < length s → false ≡ is_digit (get_or s i 0) → Read s v i → None ≡ number_of least most s
   unfolding number_of are_all
   number-stops v i h t r = rw (← passed-stops is_digit s i h t refl r.passed, and-false)
 
-  pub number-long : least ≤ length s → most < length s → Bad ≡ number_of least (min most 14) s
+  pub number-long : least ≤ length s → most < length s → None ≡ number_of least (min most 14) s
   unfolding number_of are_all
   number-long l h = let g : min most 14 < length s = omega arith in search tests
 
-  pub number-over : least ≤ length s → 14 < length s → Bad ≡ number_of least (min most 14) s
+  pub number-over : least ≤ length s → 14 < length s → None ≡ number_of least (min most 14) s
   unfolding number_of are_all
   number-over l h = let g : min most 14 < length s = omega arith in search tests
 
   pub number_is : (v i : ℕ) → least ≤ length s → length s ≤ most → length s ≤ 14 → length s ≤ i → Read s v i
-      → Is v ≡ number_of least (min most 14) s
+      → Some v ≡ number_of least (min most 14) s
   unfolding number_of are_all
   number_is v i l h k e r =
       let g : length s ≤ min most 14 = omega arith in
       rw (le-leb least (length s) l, le-leb (length s) (min most 14) g, ← passed-all is_digit s i e r.passed)
-      (ap Is (rw (drop_of_length-le s e) at r.number))
+      (ap Some (rw (drop_of_length-le s e) at r.number))
 
 -- what a number that was read says of the bytes
 pub record Got (least most : ℕ) (s : List ℕ) (v : ℕ) : Type 0 where
@@ -66,11 +65,11 @@ pub record Got (least most : ℕ) (s : List ℕ) (v : ℕ) : Type 0 where
   pub is : all is_digit s ≡ true
   pub number : decimal s ≡ v
 
-cond-is : (b : Bool) (d v : ℕ) → cond b (Is d) Bad ≡ Is v → (b ≡ true) × (d ≡ v)
+cond-is : (b : Bool) (d v : ℕ) → cond b (Some d) None ≡ Some v → (b ≡ true) × (d ≡ v)
 cond-is true d v e = (refl, (cc))
 cond-is false d v e = let z : ◌≡◌ {A = ℕ} 0 1 = cc in absurd (omega arith)
 
-module _ (least most : ℕ) (s : List ℕ) (v : ℕ) (e : number_of least most s ≡ Is v) where
+module _ (least most : ℕ) (s : List ℕ) (v : ℕ) (e : number_of least most s ≡ Some v) where
   pub got : Got least most s v
   unfolding number_of are_all
   got =
@@ -85,41 +84,41 @@ module _ (least most : ℕ) (s : List ℕ) (v : ℕ) (e : number_of least most s
 pub number-under : (least most : ℕ) (s : List ℕ) → under (10 ^ most) (number_of least most s)
 number-under least most s = one (number_of least most s) refl
   where
-    one : (x : Number) → number_of least most s ≡ x → under (10 ^ most) x
-    one (Is v) e = pow_below _ _ _ (got-below least most s v e) (got least most s v e).high
-    one Bad e = tt
+    one : (x : Option ℕ) → number_of least most s ≡ x → under (10 ^ most) x
+    one (Some v) e = pow_below _ _ _ (got-below least most s v e) (got least most s v e).high
+    one None e = tt
 
 -- ---- a number that passes a test, and one that may be empty
 
-pub that-holds : (p : ℕ → Bool) (x : Number) → is_number (that p x) ≡ true → p (number_in (that p x)) ≡ true
-that-holds p (Is v) h = by (p v) (λ t. rw (t, t)) (λ t. absurd (false≢true (let z : false ≡ true = (rw t at h) in z)))
-that-holds p Bad h = absurd (false≢true h)
+pub that-holds : (p : ℕ → Bool) (x : Option ℕ) → is_number (that p x) ≡ true → p (number_in (that p x)) ≡ true
+that-holds p (Some v) h = by (p v) (λ t. rw (t, t)) (λ t. absurd (false≢true (let z : false ≡ true = (rw t at h) in z)))
+that-holds p None h = absurd (false≢true h)
 
-module _ (p : ℕ → Bool) {x y : Number} where
-  pub that-is : {v : ℕ} {b : Bool} → x ≡ y → x ≡ Is v → b ≡ p v → b ≡ true → Is v ≡ that p y
+module _ (p : ℕ → Bool) {x y : Option ℕ} where
+  pub that-is : {v : ℕ} {b : Bool} → x ≡ y → x ≡ Some v → b ≡ p v → b ≡ true → Some v ≡ that p y
   that-is e i q t = rw (← e, i, ← q, t)
 
-  pub that-not : {v : ℕ} {b : Bool} → x ≡ y → x ≡ Is v → b ≡ p v → b ≡ false → Bad ≡ that p y
+  pub that-not : {v : ℕ} {b : Bool} → x ≡ y → x ≡ Some v → b ≡ p v → b ≡ false → None ≡ that p y
   that-not e i q t = rw (← e, i, ← q, t)
 
-  pub that-bad : x ≡ y → x ≡ Bad → Bad ≡ that p y
+  pub that-bad : x ≡ y → x ≡ None → None ≡ that p y
   that-bad e i = rw (← e, i)
 
-module _ (v : ℕ) (rule : List ℕ → Number) (s : List ℕ) where
-  pub empty-is : length s ≡ 0 → Is v ≡ or_empty v rule s
+module _ (v : ℕ) (rule : List ℕ → Option ℕ) (s : List ℕ) where
+  pub empty-is : length s ≡ 0 → Some v ≡ or_empty v rule s
   empty-is h = rw (eq-eqb _ _ h)
 
-  pub empty-not : {x : Number} → (length s ≡ 0 → ⊥) → x ≡ rule s → x ≡ or_empty v rule s
+  pub empty-not : {x : Option ℕ} → (length s ≡ 0 → ⊥) → x ≡ rule s → x ≡ or_empty v rule s
   empty-not h e = rw (ne_eqb _ _ h) e
 
 -- ---- no leading zero
 
 module _ (most : ℕ) (s : List ℕ) {b : Bool} (e : b ≡ leading_zero s) where
-  pub small-zero : b ≡ true → Bad ≡ small_of most s
+  pub small-zero : b ≡ true → None ≡ small_of most s
   unfolding small_of
   small-zero t = rw (← e, t)
 
-  pub small_is : {x : Number} → x ≡ number_of 1 most s → b ≡ false → x ≡ small_of most s
+  pub small_is : {x : Option ℕ} → x ≡ number_of 1 most s → b ≡ false → x ≡ small_of most s
   unfolding small_of
   small_is q t = rw (← e, t) q
 
@@ -127,7 +126,7 @@ pub small-under : (most : ℕ) (s : List ℕ) → under (10 ^ most) (small_of mo
 unfolding small_of
 small-under most s = one (leading_zero s)
   where
-    one : (b : Bool) → under (10 ^ most) (cond b Bad (number_of 1 most s))
+    one : (b : Bool) → under (10 ^ most) (cond b None (number_of 1 most s))
     one true = tt
     one false = number-under 1 most s
 
@@ -139,23 +138,23 @@ scaled-below v n h l =
     let e : n + (6 - n) ≡ 6 = omega arith in
     omega (arith, mul-lt-mul_of_pos_right h (one-le-pow (6 - n) 10 (lit≤ tt)), sym (pow-add 10 n (6 - n)) ∙ ap (λ (k : ℕ). 10 ^ k) e)
 
-fraction-below : (d : ℕ) (s : List ℕ) {x : Number} {v t : ℕ} → x ≡ number_of 1 (min d 6) s → x ≡ Is v → t ≡ 10 ^ (6 - length s) → v * t < 10 ^ 6
+fraction-below : (d : ℕ) (s : List ℕ) {x : Option ℕ} {v t : ℕ} → x ≡ number_of 1 (min d 6) s → x ≡ Some v → t ≡ 10 ^ (6 - length s) → v * t < 10 ^ 6
 fraction-below d s {x} {v} e i q =
     let g = (got 1 (min d 6) s v (sym e ∙ i)).high in
     rw q (scaled-below v (length s) (got-below 1 (min d 6) s v (sym e ∙ i)) (omega arith))
 
-module _ (d : ℕ) (s : List ℕ) {x : Number} {m : ℕ} (f : m ≡ min d 6) (e : x ≡ number_of 1 (min m 14) s) where
+module _ (d : ℕ) (s : List ℕ) {x : Option ℕ} {m : ℕ} (f : m ≡ min d 6) (e : x ≡ number_of 1 (min m 14) s) where
   few : x ≡ number_of 1 (min d 6) s
   few = let g : min m 14 ≡ min d 6 = omega arith in rw g at e
 
-  pub fraction-fits : {v t : ℕ} → x ≡ Is v → t ≡ 10 ^ (6 - length s) → Fits w64 (v * t)
+  pub fraction-fits : {v t : ℕ} → x ≡ Some v → t ≡ 10 ^ (6 - length s) → Fits w64 (v * t)
   fraction-fits i q = omega (arith, fraction-below d s few i q)
 
-  pub fraction-is : {v t : ℕ} → x ≡ Is v → t ≡ 10 ^ (6 - length s) → Is (v * t) ≡ fraction_of d s
+  pub fraction-is : {v t : ℕ} → x ≡ Some v → t ≡ 10 ^ (6 - length s) → Some (v * t) ≡ fraction_of d s
   unfolding fraction_of
   fraction-is i q = rw (← few, i, q)
 
-  pub fraction-bad : x ≡ Bad → Bad ≡ fraction_of d s
+  pub fraction-bad : x ≡ None → None ≡ fraction_of d s
   unfolding fraction_of
   fraction-bad i = rw (← few, i)
 
@@ -163,43 +162,43 @@ pub fraction-under : (d : ℕ) (s : List ℕ) → under (10 ^ 6) (fraction_of d 
 unfolding fraction_of
 fraction-under d s = one (number_of 1 (min d 6) s) refl
   where
-    one : (x : Number) → number_of 1 (min d 6) s ≡ x → under (10 ^ 6) (times (10 ^ (6 - length s)) x)
-    one (Is v) e = fraction-below d s refl e refl
-    one Bad e = tt
+    one : (x : Option ℕ) → number_of 1 (min d 6) s ≡ x → under (10 ^ 6) (times (10 ^ (6 - length s)) x)
+    one (Some v) e = fraction-below d s refl e refl
+    one None e = tt
 
 -- a whole number and millionths that were handed in
-module _ {w m : Number} {a b : ℕ} (h : under (10 ^ 7) w × under (10 ^ 6) m) (i : w ≡ Is a) (j : m ≡ Is b) where
+module _ {w m : Option ℕ} {a b : ℕ} (h : under (10 ^ 7) w × under (10 ^ 6) m) (i : w ≡ Some a) (j : m ≡ Some b) where
   pub join-fits : Fits w64 (a * 1000000)
   join-fits = omega (arith, under-is (10 ^ 7) h.0 i)
 
   pub join-fits-both : Fits w64 (a * 1000000 + b)
   join-fits-both = omega (arith, under-is (10 ^ 7) h.0 i, under-is (10 ^ 6) h.1 j)
 
-  pub join_is : Is (a * 1000000 + b) ≡ amount w m
+  pub join_is : Some (a * 1000000 + b) ≡ amount w m
   join_is = rw (i, j)
 
-module _ (d : ℕ) (s : List ℕ) {p : ℕ} {x : Number} (e : p ≡ span_of (other 46) s) where
-  pub value-whole : {y : Number} → p ≡ length s → x ≡ number_of 1 7 s → y ≡ amount x (Is 0) → y ≡ value_of d s
+module _ (d : ℕ) (s : List ℕ) {p : ℕ} {x : Option ℕ} (e : p ≡ span_of (other 46) s) where
+  pub value-whole : {y : Option ℕ} → p ≡ length s → x ≡ number_of 1 7 s → y ≡ amount x (Some 0) → y ≡ value_of d s
   unfolding value_of
   value-whole l i q = rw (← e, eq-eqb _ _ l, ← i) q
 
-  pub value-split : {y z : Number} → (p ≡ length s → ⊥) → x ≡ number_of 1 7 (take p s)
+  pub value-split : {y z : Option ℕ} → (p ≡ length s → ⊥) → x ≡ number_of 1 7 (take p s)
       → y ≡ fraction_of d (take (length s - (p + 1)) (drop (p + 1) s)) → z ≡ amount x y → z ≡ value_of d s
   unfolding value_of
   value-split l i j q = rw (← e, ne_eqb _ _ l, ← i, ← to_end, ← j) q
 
 -- a value is below 10^13: what a sum of values asks
-amount-below : (x y : Number) (v : ℕ) → under (10 ^ 7) x → under (10 ^ 6) y → amount x y ≡ Is v → v < 10 ^ 13
-amount-below (Is w) (Is m) v h k e = let z : w * 10 ^ 6 + m ≡ v = cc in omega arith
-amount-below (Is w) Bad v h k e = let z : ◌≡◌ {A = ℕ} 0 1 = cc in absurd (omega arith)
-amount-below Bad y v h k e = let z : ◌≡◌ {A = ℕ} 0 1 = cc in absurd (omega arith)
+amount-below : (x y : Option ℕ) (v : ℕ) → under (10 ^ 7) x → under (10 ^ 6) y → amount x y ≡ Some v → v < 10 ^ 13
+amount-below (Some w) (Some m) v h k e = let z : w * 10 ^ 6 + m ≡ v = cc in omega arith
+amount-below (Some w) None v h k e = let z : ◌≡◌ {A = ℕ} 0 1 = cc in absurd (omega arith)
+amount-below None y v h k e = let z : ◌≡◌ {A = ℕ} 0 1 = cc in absurd (omega arith)
 
-pub value-below : (d : ℕ) (s : List ℕ) (v : ℕ) → value_of d s ≡ Is v → v < 10 ^ 13
+pub value-below : (d : ℕ) (s : List ℕ) (v : ℕ) → value_of d s ≡ Some v → v < 10 ^ 13
 unfolding value_of
 value-below d s v e = one (eqb (point s) (length s)) e
   where
-    one : (b : Bool) → cond b (amount (number_of 1 7 s) (Is 0)) (amount (number_of 1 7 (before s)) (fraction_of d (behind s))) ≡ Is v → v < 10 ^ 13
-    one true q = amount-below (number_of 1 7 s) (Is 0) v (number-under 1 7 s) (lit≤ tt) q
+    one : (b : Bool) → cond b (amount (number_of 1 7 s) (Some 0)) (amount (number_of 1 7 (before s)) (fraction_of d (behind s))) ≡ Some v → v < 10 ^ 13
+    one true q = amount-below (number_of 1 7 s) (Some 0) v (number-under 1 7 s) (lit≤ tt) q
     one false q = amount-below (number_of 1 7 (before s)) (fraction_of d (behind s)) v (number-under 1 7 (before s)) (fraction-under d (behind s)) q
 
 -- ---- digits whose number passes a test
@@ -207,9 +206,9 @@ value-below d s v e = one (eqb (point s) (length s)) e
 pub digits_of : (p : ℕ → Bool) (k : ℕ) (s : List ℕ) → is_number (that p (number_of k k s)) ≡ true → all is_digit s ≡ true
 digits_of p k s t = one (number_of k k s) refl t
   where
-    one : (n : Number) → number_of k k s ≡ n → is_number (that p n) ≡ true → all is_digit s ≡ true
-    one (Is v) e h = (got k k s v e).is
-    one Bad e h = absurd (false≢true h)
+    one : (n : Option ℕ) → number_of k k s ≡ n → is_number (that p n) ≡ true → all is_digit s ≡ true
+    one (Some v) e h = (got k k s v e).is
+    one None e h = absurd (false≢true h)
 
 -- ---- register reads
 

@@ -1,5 +1,6 @@
 -- Whether a field is a value, by its first digits, the byte behind them, and what stands behind that: no number is needed.
 -- Assumes nothing.
+use Rattle.std.proofs.Common.{Option, Some, None}
 use Prim.Native.Nat.{ℕ, ◌+◌, ◌-◌, ◌≤◌, ◌<◌, min}
 use mathlib.Core.Path.{◌≡◌, refl, sym, ◌∙◌}
 use mathlib.Core.Bool.{Bool, true, false, cond, ◌&&◌, false≢true}
@@ -19,29 +20,27 @@ use Rattle.ground.proofs.Digits.{digit_not}
 use Rattle.ground.proofs.Prefix.{prefix-all, prefix-end, prefix-most, prefix-past, prefix-wider}
 use Rattle.format.specs.Bytes.{are_all}
 use Rattle.format.specs.Numbers.{is_number, number_of, times, amount, fraction_of, point, before, behind, value_of}
-use Rattle.format.specs.declared.Number.{Number}
-use Rattle.format.specs.declared.Number.TheVariants.{Is, Bad}
 
 is-number : (least most : ℕ) (s : List ℕ) → is_number (number_of least most s) ≡ are_all is_digit least most s
 unfolding number_of
 is-number least most s = one (decimal s) (are_all is_digit least most s)
   where
-    one : (v : ℕ) (b : Bool) → is_number (cond b (Is v) Bad) ≡ b
+    one : (v : ℕ) (b : Bool) → is_number (cond b (Some v) None) ≡ b
     one v true = refl
     one v false = refl
 
-is-times : (k : ℕ) (x : Number) → is_number (times k x) ≡ is_number x
-is-times k (Is v) = refl
-is-times k Bad = refl
+is-times : (k : ℕ) (x : Option ℕ) → is_number (times k x) ≡ is_number x
+is-times k (Some v) = refl
+is-times k None = refl
 
-is-amount : (x y : Number) → is_number (amount x y) ≡ is_number x && is_number y
-is-amount (Is w) (Is m) = refl
-is-amount (Is w) Bad = refl
-is-amount Bad y = refl
+is-amount : (x y : Option ℕ) → is_number (amount x y) ≡ is_number x && is_number y
+is-amount (Some w) (Some m) = refl
+is-amount (Some w) None = refl
+is-amount None y = refl
 
-whole_is : (x : Number) → is_number (amount x (Is 0)) ≡ is_number x
-whole_is (Is w) = refl
-whole_is Bad = refl
+whole_is : (x : Option ℕ) → is_number (amount x (Some 0)) ≡ is_number x
+whole_is (Some w) = refl
+whole_is None = refl
 
 -- a value by its parts
 parts : (d : ℕ) (s : List ℕ) → is_number (value_of d s)
@@ -49,7 +48,7 @@ parts : (d : ℕ) (s : List ℕ) → is_number (value_of d s)
 unfolding value_of fraction_of
 parts d s = one (eqb (point s) (length s))
   where
-    one : (b : Bool) → is_number (cond b (amount (number_of 1 7 s) (Is 0)) (amount (number_of 1 7 (before s)) (fraction_of d (behind s))))
+    one : (b : Bool) → is_number (cond b (amount (number_of 1 7 s) (Some 0)) (amount (number_of 1 7 (before s)) (fraction_of d (behind s))))
         ≡ cond b (are_all is_digit 1 7 s) (are_all is_digit 1 7 (before s) && are_all is_digit 1 (min d 6) (behind s))
     one true = rw (whole_is, is-number)
     one false = rw (is-amount, is-times, is-number, is-number)

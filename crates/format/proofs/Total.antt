@@ -1,4 +1,5 @@
 -- What values come to at most: each is below 10^13, and in a record each has a comma of its own before it. Assumes nothing.
+use Rattle.std.proofs.Common.{Option, Some, None}
 use Prim.Native.Nat.{ℕ, ◌*◌, ◌^◌, ◌≤◌, ◌<◌}
 use mathlib.Core.Path.{◌≡◌, refl}
 use mathlib.Core.Bool.{true}
@@ -14,8 +15,6 @@ use Rattle.format.specs.Numbers.{number_in, decimals, value_of}
 use Rattle.format.specs.Cut.{fields}
 use Rattle.format.specs.Records.{millionths, values_in}
 use Rattle.format.specs.Block.{small_value}
-use Rattle.format.specs.declared.Number.{Number}
-use Rattle.format.specs.declared.Number.TheVariants.{Is, Bad}
 use Rattle.format.proofs.Numbers.{value-below}
 use Rattle.format.proofs.Cut.{count_most}
 
@@ -24,9 +23,9 @@ pub millionths-below : (s : List ℕ) → millionths s < 10 ^ 13
 unfolding millionths
 millionths-below s = one (value_of decimals s) refl
   where
-    one : (x : Number) → value_of decimals s ≡ x → number_in x < 10 ^ 13
-    one (Is v) e = value-below decimals s v e
-    one Bad e = omega arith
+    one : (x : Option ℕ) → value_of decimals s ≡ x → number_in x < 10 ^ 13
+    one (Some v) e = value-below decimals s v e
+    one None e = omega arith
 
 pub values-fit : (fs : List (List ℕ)) → all small_value (map millionths fs) ≡ true
 unfolding small_value

@@ -1,4 +1,5 @@
 -- The table of units: its numbers, names and decimals, each rule by one test over the whole table. Assumes nothing.
+use Rattle.std.proofs.Common.{Option, Some, None}
 use Prim.Native.Nat.{ℕ, zero, suc, ◌+◌, ◌-◌, ◌≤◌, ◌<◌}
 use mathlib.Core.Path.{◌≡◌, refl, sym, ap, ◌∙◌}
 use mathlib.Core.Bool.{Bool, true, false, cond, ◌&&◌, ◌||◌}
@@ -14,8 +15,6 @@ use Rattle.ground.proofs.Same.{same-sound}
 use Rattle.format.specs.Bytes.{is_capital, is_letter, capital}
 use Rattle.format.specs.Numbers.{is_number, number_in, decimals}
 use Rattle.format.specs.Units.{UnitRow, no_unit, units, same_letters, unit_from, unit_of, is_unit, unit_at, unit_name, decimals_of, decimals_for, decimals_named}
-use Rattle.format.specs.declared.Number.{Number}
-use Rattle.format.specs.declared.Number.TheVariants.{Is, Bad}
 
 -- ---- letters without their case
 
@@ -67,9 +66,9 @@ pub named-most : (s : List ℕ) → decimals_named s ≤ 6
 unfolding decimals_named
 named-most s = one (unit_of s)
   where
-    one : (x : Number) → decimals_for x ≤ 6
-    one (Is u) = decimals-most u
-    one Bad = omega arith
+    one : (x : Option ℕ) → decimals_for x ≤ 6
+    one (Some u) = decimals-most u
+    one None = omega arith
 
 pub name-most : (u : ℕ) → length (unit_name u) ≤ 5
 unfolding unit_name unit_at units
@@ -83,21 +82,21 @@ pub record Found (i : ℕ) (us : List UnitRow) (s : List ℕ) (u : ℕ) : Type 0
   pub high : u < i + length us
   pub named : same_letters (get_or us (u - i) no_unit).name s ≡ true
 
-unit-found : (i : ℕ) (us : List UnitRow) (s : List ℕ) (u : ℕ) → unit_from i us s ≡ Is u → Found i us s u
+unit-found : (i : ℕ) (us : List UnitRow) (s : List ℕ) (u : ℕ) → unit_from i us s ≡ Some u → Found i us s u
 unfolding unit_from
 unit-found i [] s u e = let z : ◌≡◌ {A = ℕ} 0 1 = cc in absurd (omega arith)
 unit-found i (r ∷ us) s u e =
     by (same_letters r.name s)
     (λ t.
-    let q : i ≡ u = (let z : cond true (Is i) (unit_from (i + 1) us s) ≡ Is u = (rw t at e) in cc) in
+    let q : i ≡ u = (let z : cond true (Some i) (unit_from (i + 1) us s) ≡ Some u = (rw t at e) in cc) in
     let o : u - i ≡ 0 = omega arith in
     record { low = omega arith; high = omega arith; named = rw o t })
     (λ t.
-    let f = unit-found (i + 1) us s u (let z : cond false (Is i) (unit_from (i + 1) us s) ≡ Is u = (rw t at e) in z) in
+    let f = unit-found (i + 1) us s u (let z : cond false (Some i) (unit_from (i + 1) us s) ≡ Some u = (rw t at e) in z) in
     let o : u - i ≡ suc (u - (i + 1)) = omega (arith, f.low) in
     record { low = omega (arith, f.low); high = omega (arith, f.high); named = rw o f.named })
 
-module _ (s : List ℕ) (u : ℕ) (e : unit_of s ≡ Is u) where
+module _ (s : List ℕ) (u : ℕ) (e : unit_of s ≡ Some u) where
   found : Found 0 units s u
   unfolding unit_of
   found = unit-found 0 units s u e
@@ -125,34 +124,34 @@ known_small u h = ltb-true u 23 h
 pub unit-are-letters : (s : List ℕ) → is_number (unit_of s) ≡ true → all is_letter s ≡ true
 unit-are-letters s h = one (unit_of s) refl h
   where
-    one : (x : Number) → unit_of s ≡ x → is_number x ≡ true → all is_letter s ≡ true
-    one (Is u) e h = unit-letters s u e
-    one Bad e h = let z : ◌≡◌ {A = ℕ} 0 1 = cc in absurd (omega arith)
+    one : (x : Option ℕ) → unit_of s ≡ x → is_number x ≡ true → all is_letter s ≡ true
+    one (Some u) e h = unit-letters s u e
+    one None e h = let z : ◌≡◌ {A = ℕ} 0 1 = cc in absurd (omega arith)
 
 -- its number is one of the table, and its decimals are those of its row
 pub unit-in : (s : List ℕ) → is_number (unit_of s) ≡ true → is_unit (number_in (unit_of s)) ≡ true
 unit-in s h = one (unit_of s) refl h
   where
-    one : (x : Number) → unit_of s ≡ x → is_number x ≡ true → is_unit (number_in x) ≡ true
-    one (Is u) e h = unit-known s u e
-    one Bad e h = let z : ◌≡◌ {A = ℕ} 0 1 = cc in absurd (omega arith)
+    one : (x : Option ℕ) → unit_of s ≡ x → is_number x ≡ true → is_unit (number_in x) ≡ true
+    one (Some u) e h = unit-known s u e
+    one None e h = let z : ◌≡◌ {A = ℕ} 0 1 = cc in absurd (omega arith)
 
 pub unit-decimals : (s : List ℕ) → is_number (unit_of s) ≡ true → decimals_named s ≡ decimals_of (number_in (unit_of s))
 unfolding decimals_named
 unit-decimals s h = one (unit_of s) h
   where
-    one : (x : Number) → is_number x ≡ true → decimals_for x ≡ decimals_of (number_in x)
-    one (Is u) h = refl
-    one Bad h = let z : ◌≡◌ {A = ℕ} 0 1 = cc in absurd (omega arith)
+    one : (x : Option ℕ) → is_number x ≡ true → decimals_for x ≡ decimals_of (number_in x)
+    one (Some u) h = refl
+    one None h = let z : ◌≡◌ {A = ℕ} 0 1 = cc in absurd (omega arith)
 
 -- every unit has a decimal, and 01's limit does
 pub named_some : (s : List ℕ) → 1 ≤ decimals_named s
 unfolding decimals_named
 named_some s = one (unit_of s) refl
   where
-    one : (x : Number) → unit_of s ≡ x → 1 ≤ decimals_for x
-    one (Is u) e = digits-some u (unit-known s u e)
-    one Bad e = omega arith
+    one : (x : Option ℕ) → unit_of s ≡ x → 1 ≤ decimals_for x
+    one (Some u) e = digits-some u (unit-known s u e)
+    one None e = omega arith
 
 -- ---- a unit's name says its number
 
@@ -165,15 +164,15 @@ all_found : found_from 0 units ≡ true
 unfolding units unit_of unit_from same_letters same capital
 all_found = refl
 
-pub unit-back : (u : ℕ) → is_unit u ≡ true → unit_of (unit_name u) ≡ Is u
+pub unit-back : (u : ℕ) → is_unit u ≡ true → unit_of (unit_name u) ≡ Some u
 unfolding is_unit unit_name unit_at
 unit-back u h = let o : 0 + u ≡ u = omega arith in rw o at (go 0 units all_found u (ltb-true u (length units) h))
   where
-    is : (x : Number) (i : ℕ) → number_in x ≡ i → is_number x ≡ true → x ≡ Is i
-    is (Is v) i e t = ap Is e
-    is Bad i e t = let z : ◌≡◌ {A = ℕ} 0 1 = cc in absurd (omega arith)
+    is : (x : Option ℕ) (i : ℕ) → number_in x ≡ i → is_number x ≡ true → x ≡ Some i
+    is (Some v) i e t = ap Some e
+    is None i e t = let z : ◌≡◌ {A = ℕ} 0 1 = cc in absurd (omega arith)
 
-    go : (i : ℕ) (us : List UnitRow) → found_from i us ≡ true → (k : ℕ) → k < length us → unit_of (get_or us k no_unit).name ≡ Is (i + k)
+    go : (i : ℕ) (us : List UnitRow) → found_from i us ≡ true → (k : ℕ) → k < length us → unit_of (get_or us k no_unit).name ≡ Some (i + k)
     go i [] a k l = absurd (omega arith)
     go i (r ∷ us) a zero l =
         let w = and-true (eqb (number_in (unit_of r.name)) i && is_number (unit_of r.name)) (found_from (i + 1) us) a in

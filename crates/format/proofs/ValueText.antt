@@ -1,4 +1,5 @@
 -- The text of a value: a reader holds the value by it, and no text that holds the value is shorter. Assumes nothing.
+use Rattle.std.proofs.Common.{Option, Some, None}
 use Prim.Native.Nat.{ℕ, zero, suc, ◌+◌, ◌-◌, ◌*◌, ◌/◌, ◌%◌, ◌^◌, ◌≤◌, ◌<◌, zero-le, min}
 use mathlib.Core.Path.{◌≡◌, refl, sym, ap, ◌∙◌}
 use mathlib.Core.Bool.{Bool, true, false, cond}
@@ -22,8 +23,6 @@ use Rattle.format.specs.Numbers.{is_number, number_of, times, amount, point, bef
 use Rattle.format.specs.Block.{small_value, fit_value, untrail, fraction_text, value_text, values_text}
 use Rattle.format.proofs.Numbers.{under-is, Got, got, fraction-under, value-below}
 use Rattle.format.proofs.NumberText.{digits_are, got-least}
-use Rattle.format.specs.declared.Number.{Number}
-use Rattle.format.specs.declared.Number.TheVariants.{Is, Bad}
 
 -- ---- digits without the zeros at their end
 
@@ -151,28 +150,28 @@ exact-few d v e =
     rw f (trimmed-least k m (omega arith))
 
 -- digits that meet a narrower rule meet a wider one
-wider : (most more : ℕ) (s : List ℕ) (v : ℕ) → most ≤ more → number_of 1 most s ≡ Is v → number_of 1 more s ≡ Is v
-wider most more s v h e = let g = got 1 most s v e in digits_are 1 more s g.low (omega arith) g.is ∙ ap Is g.number
+wider : (most more : ℕ) (s : List ℕ) (v : ℕ) → most ≤ more → number_of 1 most s ≡ Some v → number_of 1 more s ≡ Some v
+wider most more s v h e = let g = got 1 most s v e in digits_are 1 more s g.low (omega arith) g.is ∙ ap Some g.number
 
 -- a value with at most d decimals is the same value where more are allowed, and a whole number of the last of d decimals
-module _ (d : ℕ) (s : List ℕ) (v : ℕ) (e : value_of d s ≡ Is v) where
-  pub value-wider : (more : ℕ) → min d 6 ≤ more → value_of more s ≡ Is v
+module _ (d : ℕ) (s : List ℕ) (v : ℕ) (e : value_of d s ≡ Some v) where
+  pub value-wider : (more : ℕ) → min d 6 ≤ more → value_of more s ≡ Some v
   unfolding value_of fraction_of
   value-wider more h = one (eqb (point s) (length s)) e
     where
-      split : (x : Number) (m : Number) → number_of 1 (min d 6) (behind s) ≡ m → amount x (times (10 ^ (6 - length (behind s))) m) ≡ Is v
-          → amount x (times (10 ^ (6 - length (behind s))) (number_of 1 (min more 6) (behind s))) ≡ Is v
-      split x (Is m) i q = rw (wider (min d 6) (min more 6) (behind s) m (omega arith) i) q
-      split (Is w) Bad i q = let z : ◌≡◌ {A = ℕ} 0 1 = cc in absurd (omega arith)
-      split Bad Bad i q = let z : ◌≡◌ {A = ℕ} 0 1 = cc in absurd (omega arith)
+      split : (x : Option ℕ) (m : Option ℕ) → number_of 1 (min d 6) (behind s) ≡ m → amount x (times (10 ^ (6 - length (behind s))) m) ≡ Some v
+          → amount x (times (10 ^ (6 - length (behind s))) (number_of 1 (min more 6) (behind s))) ≡ Some v
+      split x (Some m) i q = rw (wider (min d 6) (min more 6) (behind s) m (omega arith) i) q
+      split (Some w) None i q = let z : ◌≡◌ {A = ℕ} 0 1 = cc in absurd (omega arith)
+      split None None i q = let z : ◌≡◌ {A = ℕ} 0 1 = cc in absurd (omega arith)
 
       one : (b : Bool)
-          → cond b (amount (number_of 1 7 s) (Is 0)) (amount (number_of 1 7 (before s)) (times (10 ^ (6 - length (behind s))) (number_of 1 (min d 6) (behind s)))) ≡ Is v
-          → cond b (amount (number_of 1 7 s) (Is 0)) (amount (number_of 1 7 (before s)) (times (10 ^ (6 - length (behind s))) (number_of 1 (min more 6) (behind s)))) ≡ Is v
+          → cond b (amount (number_of 1 7 s) (Some 0)) (amount (number_of 1 7 (before s)) (times (10 ^ (6 - length (behind s))) (number_of 1 (min d 6) (behind s)))) ≡ Some v
+          → cond b (amount (number_of 1 7 s) (Some 0)) (amount (number_of 1 7 (before s)) (times (10 ^ (6 - length (behind s))) (number_of 1 (min more 6) (behind s)))) ≡ Some v
       one true q = q
       one false q = split (number_of 1 7 (before s)) (number_of 1 (min d 6) (behind s)) refl q
 
-  pub value_same : value_of decimals s ≡ Is v
+  pub value_same : value_of decimals s ≡ Some v
   value_same = value-wider decimals (omega arith)
 
   pub value-exact : v % 10 ^ (6 - d) ≡ 0
@@ -194,20 +193,20 @@ module _ (d : ℕ) (s : List ℕ) (v : ℕ) (e : value_of d s ≡ Is v) where
       both-parts : (a b : ℕ) → a % 10 ^ (6 - d) ≡ 0 → b % 10 ^ (6 - d) ≡ 0 → (a + b) % 10 ^ (6 - d) ≡ 0
       both-parts a b p q = add-mod a b (10 ^ (6 - d)) ∙ ap (λ (x : ℕ). x % 10 ^ (6 - d)) (omega arith) ∙ zero-mod (10 ^ (6 - d))
 
-      split : (x : Number) (m : Number) → number_of 1 (min d 6) (behind s) ≡ m → amount x (times (10 ^ (6 - length (behind s))) m) ≡ Is v → v % 10 ^ (6 - d) ≡ 0
-      split (Is w) (Is m) i q =
+      split : (x : Option ℕ) (m : Option ℕ) → number_of 1 (min d 6) (behind s) ≡ m → amount x (times (10 ^ (6 - length (behind s))) m) ≡ Some v → v % 10 ^ (6 - d) ≡ 0
+      split (Some w) (Some m) i q =
           let z : w * 10 ^ 6 + m * 10 ^ (6 - length (behind s)) ≡ v = cc in
           rw (← z) (both-parts (w * 10 ^ 6) (m * 10 ^ (6 - length (behind s))) (wholes w) (parts m (length (behind s)) (got 1 (min d 6) (behind s) m i).high))
-      split Bad (Is m) i q = let z : ◌≡◌ {A = ℕ} 0 1 = cc in absurd (omega arith)
-      split (Is w) Bad i q = let z : ◌≡◌ {A = ℕ} 0 1 = cc in absurd (omega arith)
-      split Bad Bad i q = let z : ◌≡◌ {A = ℕ} 0 1 = cc in absurd (omega arith)
+      split None (Some m) i q = let z : ◌≡◌ {A = ℕ} 0 1 = cc in absurd (omega arith)
+      split (Some w) None i q = let z : ◌≡◌ {A = ℕ} 0 1 = cc in absurd (omega arith)
+      split None None i q = let z : ◌≡◌ {A = ℕ} 0 1 = cc in absurd (omega arith)
 
-      plain-case : (x : Number) → amount x (Is 0) ≡ Is v → v % 10 ^ (6 - d) ≡ 0
-      plain-case (Is w) q = let z : w * 10 ^ 6 + 0 ≡ v = cc in rw (← z) (both-parts (w * 10 ^ 6) 0 (wholes w) (zero-mod (10 ^ (6 - d))))
-      plain-case Bad q = let z : ◌≡◌ {A = ℕ} 0 1 = cc in absurd (omega arith)
+      plain-case : (x : Option ℕ) → amount x (Some 0) ≡ Some v → v % 10 ^ (6 - d) ≡ 0
+      plain-case (Some w) q = let z : w * 10 ^ 6 + 0 ≡ v = cc in rw (← z) (both-parts (w * 10 ^ 6) 0 (wholes w) (zero-mod (10 ^ (6 - d))))
+      plain-case None q = let z : ◌≡◌ {A = ℕ} 0 1 = cc in absurd (omega arith)
 
       one : (b : Bool)
-          → cond b (amount (number_of 1 7 s) (Is 0)) (amount (number_of 1 7 (before s)) (times (10 ^ (6 - length (behind s))) (number_of 1 (min d 6) (behind s)))) ≡ Is v
+          → cond b (amount (number_of 1 7 s) (Some 0)) (amount (number_of 1 7 (before s)) (times (10 ^ (6 - length (behind s))) (number_of 1 (min d 6) (behind s)))) ≡ Some v
           → v % 10 ^ (6 - d) ≡ 0
       one true q = plain-case (number_of 1 7 s) q
       one false q = split (number_of 1 7 (before s)) (number_of 1 (min d 6) (behind s)) refl q
@@ -225,13 +224,13 @@ fit-value d v h = let g = and-true (ltb v (10 ^ 13)) (eqb (v % 10 ^ (6 - d)) 0) 
 pub value-still : (d more : ℕ) (s : List ℕ) → d ≤ more → is_number (value_of d s) ≡ true → is_number (value_of more s) ≡ true
 value-still d more s h t = one (value_of d s) refl t
   where
-    one : (x : Number) → value_of d s ≡ x → is_number x ≡ true → is_number (value_of more s) ≡ true
-    one (Is v) e t = rw (value-wider d s v e more (omega arith))
-    one Bad e t = let z : ◌≡◌ {A = ℕ} 0 1 = cc in absurd (omega arith)
+    one : (x : Option ℕ) → value_of d s ≡ x → is_number x ≡ true → is_number (value_of more s) ≡ true
+    one (Some v) e t = rw (value-wider d s v e more (omega arith))
+    one None e t = let z : ◌≡◌ {A = ℕ} 0 1 = cc in absurd (omega arith)
 
 -- ---- a reader holds the value
 
-pub value-back : (d v : ℕ) → fit_value d v ≡ true → value_of d (value_text v) ≡ Is v
+pub value-back : (d v : ℕ) → fit_value d v ≡ true → value_of d (value_text v) ≡ Some v
 unfolding value_of value_text fraction_of span_of
 value-back d v fits =
     let h : v < 10 ^ 13 = (fit-value d v fits).0 in
@@ -239,11 +238,11 @@ value-back d v fits =
     let f : ℕ = v % 10 ^ 6 in
     let ds : List ℕ = dec w in
     let a : all is_digit ds ≡ true = all-dec w in
-    let n : number_of 1 7 ds ≡ Is w = digits_are 1 7 ds (dec_some w) (dec-most w 7 (omega arith) (omega arith)) a ∙ ap Is (decimal-dec w (omega arith)) in
+    let n : number_of 1 7 ds ≡ Some w = digits_are 1 7 ds (dec_some w) (dec-most w 7 (omega arith) (omega arith)) a ∙ ap Some (decimal-dec w (omega arith)) in
     same_or f 0
     (λ e.
     let p : point ds ≡ length ds = ap point (sym (append-nil ds)) ∙ point-behind ds [] a ∙ omega arith in
-    rw (fraction-none f e, append-nil, eq-eqb (point ds) (length ds) p, n) (ap Is (omega arith)))
+    rw (fraction-none f e, append-nil, eq-eqb (point ds) (length ds) p, n) (ap Some (omega arith)))
     (λ e.
     let fs : List ℕ = trimmed f in
     let s : List ℕ = ds ++ 46 ∷ fs in
@@ -252,9 +251,9 @@ value-back d v fits =
     let g : point s ≢ length s = λ r. omega (arith, length-append ds (46 ∷ fs)) in
     let b : before s ≡ ds = ap (λ (k : ℕ). take k s) p ∙ take-append_seam ds (46 ∷ fs) in
     let c : behind s ≡ fs = ap (λ (k : ℕ). drop (k + 1) s) p ∙ drop-append-add ds (46 ∷ fs) 1 in
-    let i : number_of 1 (min d 6) fs ≡ Is (decimal fs) =
+    let i : number_of 1 (min d 6) fs ≡ Some (decimal fs) =
     digits_are 1 (min d 6) fs (trimmed-some f fl e) (exact-few d v (fit-value d v fits).1) (all-untrail is_digit (padded 6 f) (all-padded 6 f)) in
-    rw (fraction-some f e, ne_eqb (point s) (length s) g, b, c, n, i, trimmed-writes f fl) (ap Is (omega arith)))
+    rw (fraction-some f e, ne_eqb (point s) (length s) g, b, c, n, i, trimmed-writes f fl) (ap Some (omega arith)))
 
 -- ---- and no text that holds it is shorter
 
@@ -274,19 +273,19 @@ length-value v w f e h =
     let b : v % 10 ^ 6 ≡ f = omega arith in
     rw (a, b) (length-append (dec w) (fraction_text f))
 
-pub value-shortest : (s : List ℕ) (v : ℕ) → value_of decimals s ≡ Is v → length (value_text v) ≤ length s
+pub value-shortest : (s : List ℕ) (v : ℕ) → value_of decimals s ≡ Some v → length (value_text v) ≤ length s
 unfolding value_of fraction_of
 value-shortest s v e = by (eqb (point s) (length s)) (λ t. plain-case (number_of 1 7 s) refl (rw t at e)) (λ t. split-case (eqb-false _ _ t) (number_of 1 7 (before s)) refl (number_of 1 6 (behind s)) refl (rw t at e))
   where
-    plain-case : (x : Number) → number_of 1 7 s ≡ x → amount x (Is 0) ≡ Is v → length (value_text v) ≤ length s
-    plain-case (Is w) i q =
+    plain-case : (x : Option ℕ) → number_of 1 7 s ≡ x → amount x (Some 0) ≡ Some v → length (value_text v) ≤ length s
+    plain-case (Some w) i q =
         let z : w * 10 ^ 6 + 0 ≡ v = cc in
         omega (arith, length-value v w 0 (sym z) (omega arith), ap length (fraction-none 0 refl), got-least 1 7 s w (omega arith) (got 1 7 s w i))
-    plain-case Bad i q = let z : ◌≡◌ {A = ℕ} 0 1 = cc in absurd (omega arith)
+    plain-case None i q = let z : ◌≡◌ {A = ℕ} 0 1 = cc in absurd (omega arith)
 
-    split-case : point s ≢ length s → (x : Number) → number_of 1 7 (before s) ≡ x → (y : Number) → number_of 1 6 (behind s) ≡ y
-        → amount x (times (10 ^ (6 - length (behind s))) y) ≡ Is v → length (value_text v) ≤ length s
-    split-case n (Is w) i (Is m) j q =
+    split-case : point s ≢ length s → (x : Option ℕ) → number_of 1 7 (before s) ≡ x → (y : Option ℕ) → number_of 1 6 (behind s) ≡ y
+        → amount x (times (10 ^ (6 - length (behind s))) y) ≡ Some v → length (value_text v) ≤ length s
+    split-case n (Some w) i (Some m) j q =
         let f : ℕ = m * 10 ^ (6 - length (behind s)) in
         let z : w * 10 ^ 6 + f ≡ v = cc in
         let g = got 1 6 (behind s) m j in
@@ -299,8 +298,8 @@ value-shortest s v e = by (eqb (point s) (length s)) (λ t. plain-case (number_o
           length-take-le (point s) s (point-le s),
           length-drop (point s + 1) s,
         )
-    split-case n (Is w) i Bad j q = let z : ◌≡◌ {A = ℕ} 0 1 = cc in absurd (omega arith)
-    split-case n Bad i y j q = let z : ◌≡◌ {A = ℕ} 0 1 = cc in absurd (omega arith)
+    split-case n (Some w) i None j q = let z : ◌≡◌ {A = ℕ} 0 1 = cc in absurd (omega arith)
+    split-case n None i y j q = let z : ◌≡◌ {A = ℕ} 0 1 = cc in absurd (omega arith)
 
 -- ---- how long it is
 

@@ -1,9 +1,8 @@
 -- 01, Fields: "Dates: real Gregorian dates, year 1900 to 2199 (H). Times: hh 00 to 23, mm and ss 00 to 59. 12 digits in the 100 record, 14 elsewhere.
 -- Next read date, load time and read time may be empty; other dates and times may not." In A day: "a date or time [is held] as the decimal number
 -- its digits write, 0 if empty." And 02, 1, of a 500's read time.
-use Rattle.std.specs.Prelude.{ℕ, ◌+◌, ◌*◌, ◌/◌, ◌%◌, List, Bool, cond, not, ◌&&◌, ◌||◌, leb, ltb, eqb}
+use Rattle.std.specs.Prelude.{ℕ, ◌+◌, ◌*◌, ◌/◌, ◌%◌, List, Bool, cond, not, ◌&&◌, ◌||◌, leb, ltb, eqb, Option}
 use Rattle.format.specs.Numbers.{that, or_empty, number_of}
-use Rattle.format.specs.declared.Number.{Number}
 
 unfoldable pub is_leap : ℕ → Bool
 is_leap y = (eqb (y % 4) 0 && not (eqb (y % 100) 0)) || eqb (y % 400) 0
@@ -40,20 +39,20 @@ is_time t = is_date (t / 1000000) && ltb (t / 10000 % 100) 24 && ltb (t / 100 % 
 unfoldable pub is_minute : ℕ → Bool
 is_minute t = is_time (t * 100)
 
-unfoldable pub date_of : List ℕ → Number
+unfoldable pub date_of : List ℕ → Option ℕ
 date_of s = that is_date (number_of 8 8 s)
 
-unfoldable pub time_of : List ℕ → Number
+unfoldable pub time_of : List ℕ → Option ℕ
 time_of s = that is_time (number_of 14 14 s)
 
 -- the 100's, of 12 digits
-unfoldable pub created_of : List ℕ → Number
+unfoldable pub created_of : List ℕ → Option ℕ
 created_of s = that is_minute (number_of 12 12 s)
 
-unfoldable pub next_read_of : List ℕ → Number
+unfoldable pub next_read_of : List ℕ → Option ℕ
 next_read_of s = or_empty 0 date_of s
 
-unfoldable pub load_of : List ℕ → Number
+unfoldable pub load_of : List ℕ → Option ℕ
 load_of s = or_empty 0 time_of s
 
 -- 00:00:00 of the day after the last date
@@ -65,9 +64,9 @@ unfoldable pub is_read_time : ℕ → Bool
 is_read_time t = is_time t || eqb t last_end
 
 -- one that is given
-unfoldable pub taken_of : List ℕ → Number
+unfoldable pub taken_of : List ℕ → Option ℕ
 taken_of s = that is_read_time (number_of 14 14 s)
 
 -- the 500's
-unfoldable pub read_time_of : List ℕ → Number
+unfoldable pub read_time_of : List ℕ → Option ℕ
 read_time_of s = or_empty 0 taken_of s

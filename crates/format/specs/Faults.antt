@@ -7,8 +7,11 @@ use Rattle.format.specs.Dates.{day_after}
 use Rattle.format.specs.Cut.{fields, start_of}
 use Rattle.format.specs.Records.{Scale, scale_for, kind_in, count_of, rule_of, obeys, date_field, date_in, first_field, first_in, last_in, read_time_field, read_time_in, qualities_of, mark_at, agrees}
 use Rattle.format.specs.Order.{Due, may_come, in_varied, alike_with}
-use Rattle.format.specs.declared.Fault.{Fault}
-use Rattle.format.specs.declared.Fault.TheVariants.{Fine, Stop}
+
+-- the first fault of a record, its place counted from the record's start: number, place, field; or none
+pub data Fault : Type 0 where
+  Fine : Fault
+  Stop : ℕ → ℕ → ℕ → Fault
 
 infixr 30 ◌▹◌
 -- the first of two faults

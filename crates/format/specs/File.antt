@@ -7,9 +7,7 @@ use Rattle.format.specs.Units.{is_unit, decimals_of}
 use Rattle.format.specs.Records.{kind_in, date_in, update_in, load_in}
 use Rattle.format.specs.Answers.{Answer, accepted, refused, refusal}
 use Rattle.format.specs.Order.{first300, is_end, Due, due, begun, in_day, after_of}
-use Rattle.format.specs.Faults.{◌▹◌, stop, f3, is_open, f10, fault_of}
-use Rattle.format.specs.declared.Fault.{Fault}
-use Rattle.format.specs.declared.Fault.TheVariants.{Fine, Stop}
+use Rattle.format.specs.Faults.{◌▹◌, stop, f3, is_open, f10, fault_of, Fault, Fine, Stop}
 
 -- the state after the record r
 abbrev pub after : Due → List ℕ → Due

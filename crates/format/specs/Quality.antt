@@ -1,13 +1,10 @@
 -- 01, Fields: "Quality: `A` alone, or `E`, `F`, `S` with two digits, or in a 300 only `V` alone. Capitals only: these values are enumerated, so case
 -- counts." "Rules across fields: S and F need a reason. Reason 0 needs a description. V has neither. In a 250 this holds for previous and for current."
 -- 02, 6: "Some providers send `N`, with no method, for null data. Accept it in 300 and 400 records, not in a 250."
-use Rattle.std.specs.Prelude.{ℕ, List, [], Bool, true, false, cond, not, ◌&&◌, ◌||◌, length, get_or, drop, eqb}
+use Rattle.std.specs.Prelude.{ℕ, List, [], Bool, true, false, cond, not, ◌&&◌, ◌||◌, length, get_or, drop, eqb, Option, Some, None, is_some}
 use Rattle.ground.specs.Lists.{same}
 use Rattle.format.specs.Numbers.{number_of, no_reason}
-use Rattle.format.specs.declared.Number.{Number}
-use Rattle.format.specs.declared.Number.TheVariants.{Is, Bad}
-use Rattle.format.specs.declared.Graded.{Graded}
-use Rattle.format.specs.declared.Graded.TheVariants.{Of}
+use Rattle.format.specs.declared.Grade.{Grade}
 
 -- ---- a quality
 
@@ -46,29 +43,32 @@ takes_method q = eqb q flag_e || eqb q flag_f || eqb q flag_s
 abbrev pub no_method : ℕ
 no_method = 255
 
+-- a quality by its flag and its method
+abbrev pub grade : ℕ → ℕ → Grade
+grade q m = record { flag = q; method = m }
+
 -- a flag with the number that is its method
-abbrev pub with_method : ℕ → Number → Graded
-with_method q (Is m) = Of q m
-with_method q Bad = Graded.Bad
+abbrev pub with_method : ℕ → Option ℕ → Option Grade
+with_method q (Some m) = Some (grade q m)
+with_method q None = None
 
 -- the quality that a field of a record of the kind k says; its flag is the first byte
-unfoldable pub quality_of : ℕ → List ℕ → Graded
+unfoldable pub quality_of : ℕ → List ℕ → Option Grade
 quality_of k s =
     cond (stands_alone k (get_or s 0 0))
-    (cond (eqb (length s) 1) (Of (get_or s 0 0) no_method) Graded.Bad)
-    (cond (takes_method (get_or s 0 0)) (with_method (get_or s 0 0) (number_of 2 2 (drop 1 s))) Graded.Bad)
+    (cond (eqb (length s) 1) (Some (grade (get_or s 0 0) no_method)) None)
+    (cond (takes_method (get_or s 0 0)) (with_method (get_or s 0 0) (number_of 2 2 (drop 1 s))) None)
 
-abbrev pub is_graded : Graded → Bool
-is_graded (Of q m) = true
-is_graded Graded.Bad = false
+abbrev pub is_graded : Option Grade → Bool
+is_graded x = is_some x
 
-abbrev pub flag_in : Graded → ℕ
-flag_in (Of q m) = q
-flag_in Graded.Bad = 0
+abbrev pub flag_in : Option Grade → ℕ
+flag_in (Some g) = g.flag
+flag_in None = 0
 
-abbrev pub method_in : Graded → ℕ
-method_in (Of q m) = m
-method_in Graded.Bad = no_method
+abbrev pub method_in : Option Grade → ℕ
+method_in (Some g) = g.method
+method_in None = no_method
 
 -- ---- the rules across fields
 

@@ -1,12 +1,11 @@
 -- 01, Records, the table: for each kind of record its fields in their order, and with them how many they are; and what 01 reads off single fields.
-use Rattle.std.specs.Prelude.{ℕ, ◌+◌, List, [], ◌∷◌, ◌++◌, map, Bool, true, cond, ◌||◌, length, get_or, take, drop, replicate, eqb}
+use Rattle.std.specs.Prelude.{ℕ, ◌+◌, List, [], ◌∷◌, ◌++◌, map, Bool, true, cond, ◌||◌, length, get_or, take, drop, replicate, eqb, Option}
 use Rattle.format.specs.Texts.{is_nmi, is_suffix, is_stream, is_party, is_configuration, is_register, is_serial, is_service_order, is_description, is_direction, is_trans_code, version_of}
 use Rattle.format.specs.Numbers.{is_number, number_in, that, number_of, interval_of, length_of, intervals_of, reason_of, decimals, value_of, is_read, is_index_read}
 use Rattle.format.specs.Units.{unit_of, decimals_named}
 use Rattle.format.specs.Dates.{date_of, time_of, created_of, next_read_of, load_of, read_time_of}
 use Rattle.format.specs.Quality.{quality_of, is_graded, flag_in, method_in, across, Mark}
 use Rattle.format.specs.Cut.{field}
-use Rattle.format.specs.declared.Number.{Number}
 use Rattle.format.specs.declared.Rule.{Rule}
 use Rattle.format.specs.declared.Rule.TheVariants.{Indicator, Version, Created, Party, Nmi, Configuration, Register, Suffix, Stream, Serial, Unit, Length, NextRead, Date, Value, Quality, Reason, Description, Time, Load, Interval, TransCode, ServiceOrder, ReadTime, IndexRead, Direction, RegisterRead}
 
@@ -16,7 +15,7 @@ unfoldable pub is_kind : ℕ → Bool
 is_kind k = eqb k 100 || eqb k 200 || eqb k 300 || eqb k 400 || eqb k 500 || eqb k 250 || eqb k 550 || eqb k 900
 
 -- the indicator that a field is
-unfoldable pub indicator_of : List ℕ → Number
+unfoldable pub indicator_of : List ℕ → Option ℕ
 indicator_of s = that is_kind (number_of 3 3 s)
 
 -- the kind that the first field says, 0 where it is no indicator

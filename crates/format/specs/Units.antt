@@ -1,13 +1,11 @@
 -- 02, 8: "Appendix B of source document 000 gives the allowed units and the decimals of each." The table is the one that the tickets of 02 decide on, in their
 -- order: a unit's number is its place there, from 0. 000 of Appendix B: "The allowed values for UOM are not case sensitive."
-use Rattle.std.specs.Prelude.{ℕ, ◌+◌, List, [], ◌∷◌, map, Bool, cond, length, get_or, ltb}
+use Rattle.std.specs.Prelude.{ℕ, ◌+◌, List, [], ◌∷◌, map, Bool, cond, length, get_or, ltb, Option, Some, None}
 use Prim.Native.String.{String}
 use Rattle.ground.specs.Lists.{same}
 use Rattle.ground.specs.Text.{bytes}
 use Rattle.format.specs.Bytes.{capital}
 use Rattle.format.specs.Numbers.{decimals}
-use Rattle.format.specs.declared.Number.{Number}
-use Rattle.format.specs.declared.Number.TheVariants.{Is, Bad}
 
 -- a unit's name, and how many decimals a value in it may have
 pub record UnitRow : Type 0 where
@@ -34,12 +32,12 @@ unfoldable pub same_letters : List ℕ → List ℕ → Bool
 same_letters s t = same (map capital s) (map capital t)
 
 -- the number of the first of these units with that name, where the first of them has the number i
-unfoldable pub unit_from : ℕ → List UnitRow → List ℕ → Number
-unit_from i [] s = Bad
-unit_from i (u ∷ us) s = cond (same_letters u.name s) (Is i) (unit_from (i + 1) us s)
+unfoldable pub unit_from : ℕ → List UnitRow → List ℕ → Option ℕ
+unit_from i [] s = None
+unit_from i (u ∷ us) s = cond (same_letters u.name s) (Some i) (unit_from (i + 1) us s)
 
 -- the number of the unit that a field names
-unfoldable pub unit_of : List ℕ → Number
+unfoldable pub unit_of : List ℕ → Option ℕ
 unit_of s = unit_from 0 units s
 
 -- a unit has that number
@@ -60,9 +58,9 @@ unfoldable pub decimals_of : ℕ → ℕ
 decimals_of u = (unit_at u).digits
 
 -- "01's limits stay as outer ones, and stand alone for the quantity of a 250 whose unit isn't known": the decimals of a value whose unit is so named
-abbrev pub decimals_for : Number → ℕ
-decimals_for (Is u) = decimals_of u
-decimals_for Bad = decimals
+abbrev pub decimals_for : Option ℕ → ℕ
+decimals_for (Some u) = decimals_of u
+decimals_for None = decimals
 
 unfoldable pub decimals_named : List ℕ → ℕ
 decimals_named s = decimals_for (unit_of s)

@@ -27,48 +27,32 @@ impl Refusal {
     }
 }
 
-// What a check of a file answers. The version is 12 or 13.
+// What a check says of a file that it accepts. The version is 12 or 13.
 #[derive(Clone, Copy)]
-pub enum Checked {
-    Accepted {
-        version: u64,
-        channels: usize,
-        days: usize,
-    },
-    Refused(Refusal),
+pub struct Checked {
+    pub version: u64,
+    pub channels: usize,
+    pub days: usize,
 }
 
-// What a check of a block on its own answers: what its 300 says of the day, and how many records it has.
+// What a check of a block on its own says of one that it accepts: what its 300 says of the day, and how many records it has.
 #[derive(Clone, Copy)]
-pub enum BlockChecked {
-    Accepted {
-        date: u32,
-        n: usize,
-        update: u64,
-        load: u64,
-        records: usize,
-    },
-    Refused(Refusal),
+pub struct BlockChecked {
+    pub date: u32,
+    pub n: usize,
+    pub update: u64,
+    pub load: u64,
+    pub records: usize,
 }
 
 // What a reading of a day answers, beside the lists that it fills. A load time of 0 says that there is none; the unit is its number in the table of units.
 #[derive(Clone, Copy)]
-pub enum DayRead {
-    Read {
-        date: u32,
-        n: usize,
-        update: u64,
-        load: u64,
-        unit: u8,
-    },
-    Refused(Refusal),
-}
-
-// What a channel adds up to, in millionths.
-#[derive(Clone, Copy)]
-pub enum Totalled {
-    Total(u64),
-    Refused(Refusal),
+pub struct DayRead {
+    pub date: u32,
+    pub n: usize,
+    pub update: u64,
+    pub load: u64,
+    pub unit: u8,
 }
 
 // A day to be written, beside its lists: date, interval length in minutes, update time, load time or 0, the unit's number.
@@ -83,23 +67,16 @@ pub struct DayHead {
 
 // What a writing of a day answers: the block's bytes and records.
 #[derive(Clone, Copy)]
-pub enum Written {
-    Block { bytes: usize, records: usize },
-    Refused(Refusal),
+pub struct Written {
+    pub bytes: usize,
+    pub records: usize,
 }
 
-// The number that a field holds, if it meets its rule.
+// What a quality field says: its flag and its method.
 #[derive(Clone, Copy)]
-pub enum Number {
-    Is(u64),
-    Bad,
-}
-
-// A quality's flag and method, if the field meets its rule.
-#[derive(Clone, Copy)]
-pub enum Graded {
-    Of(u8, u8),
-    Bad,
+pub struct Grade {
+    pub flag: u8,
+    pub method: u8,
 }
 
 // The rule of a field; that of a value has the number of decimals that it may have.
@@ -132,13 +109,6 @@ pub enum Rule {
     IndexRead,
     Direction,
     RegisterRead,
-}
-
-// The first fault of a record, its place counted from the record's start: number, place, field.
-#[derive(Clone, Copy)]
-pub enum Fault {
-    Fine,
-    Stop(u64, usize, usize),
 }
 
 // The mark of an interval: quality, reason, and where its description stands in the file.

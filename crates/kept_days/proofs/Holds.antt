@@ -1,4 +1,5 @@
 -- A slot that holds a day, one law for a return of the code. Assumes nothing.
+use Rattle.std.proofs.Common.{Option, Some, None}
 use Prim.Native.Nat.{ℕ, ◌+◌}
 use mathlib.Core.Path.{◌≡◌, refl, sym, ◌∙◌}
 use mathlib.Core.Bool.{Bool, true, false, not}
@@ -12,8 +13,6 @@ use Rattle.format.specs.File.{block_check_of}
 use Rattle.format.specs.declared.Refusal.{Refusal}
 use Rattle.format.specs.declared.BlockChecked.{BlockChecked}
 use Rattle.format.specs.declared.BlockChecked.TheVariants.{Accepted, Refused}
-use Rattle.format.specs.declared.Number.{Number}
-use Rattle.format.specs.declared.Number.TheVariants.{Is, Bad}
 use Rattle.alone.specs.Walk.{date_said}
 use Rattle.entries.specs.Little.{piece, number_at}
 use Rattle.entries.specs.Keys.{key, kept_key}
@@ -31,24 +30,24 @@ pub block-says : (m : List ℕ) (h : Header) (e : Entry) {p : List ℕ} {a : Ans
 block-says m h e ep ea = ea ∙ rw ep
 
 -- the date in an answer
-dated : (a : Answer) (date : ℕ) {t : ℕ} → Is t ≡ date_said a → eqb t date ≡ is_dated a date
+dated : (a : Answer) (date : ℕ) {t : ℕ} → Some t ≡ date_said a → eqb t date ≡ is_dated a date
 unfolding date_said is_dated
 dated (accepted xs) date {t} e = let z : t ≡ get_or xs 0 0 = cc in rw z
 dated (refused x p k i) date {t} e = let z : ◌≡◌ {A = ℕ} 0 1 = cc in absurd (omega arith)
 
-undated : (a : Answer) (date : ℕ) → Bad ≡ date_said a → false ≡ is_dated a date
+undated : (a : Answer) (date : ℕ) → None ≡ date_said a → false ≡ is_dated a date
 unfolding date_said is_dated
 undated (accepted xs) date e = let z : ◌≡◌ {A = ℕ} 0 1 = cc in absurd (omega arith)
 undated (refused x p k i) date e = refl
 
-module _ (m : List ℕ) (h : Header) (e : Entry) {p : List ℕ} (ep : p ≡ piece m (h.room + e.start) e.size) {x : Number} (ex : x ≡ date_said (block_check_of e.minutes e.unit (drop 0 p))) (date : ℕ) where
+module _ (m : List ℕ) (h : Header) (e : Entry) {p : List ℕ} (ep : p ≡ piece m (h.room + e.start) e.size) {x : Option ℕ} (ex : x ≡ date_said (block_check_of e.minutes e.unit (drop 0 p))) (date : ℕ) where
   says : x ≡ date_said (block_says m h e)
   says = ex ∙ rw ep
 
-  pub block-dated : {t : ℕ} → x ≡ Is t → eqb t date ≡ is_dated (block_says m h e) date
+  pub block-dated : {t : ℕ} → x ≡ Some t → eqb t date ≡ is_dated (block_says m h e) date
   block-dated q = dated (block_says m h e) date (sym q ∙ says)
 
-  pub block-undated : x ≡ Bad → false ≡ is_dated (block_says m h e) date
+  pub block-undated : x ≡ None → false ≡ is_dated (block_says m h e) date
   block-undated q = undated (block_says m h e) date (sym q ∙ says)
 
 module _ {c : BlockChecked} where

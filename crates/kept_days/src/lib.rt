@@ -11,7 +11,7 @@ ghost use Rattle.store.specs.Calls.{update_said};
 
 use alone::{block_date, check_block};
 use entries::Entry;
-use format::{BlockChecked, Number};
+use format::BlockChecked;
 use keys::kept_key;
 use little::{piece_at, u32_at};
 use slots::{place, read_entry};
@@ -74,8 +74,8 @@ fn has_dated_block(memory: &[u8], h: Header, e: Entry, date: u32) -> bool
         e.unit,
     );
     match x {
-        Number::Is(t) => t == date as u64,
-        Number::Bad => false,
+        Some(t) => t == date as u64,
+        None => false,
     }
 }
 

@@ -1,47 +1,35 @@
 // Digits, and the number that they write.
 ghost use Rattle.std.specs.Prelude.{◌≡◌, min};
-ghost use Rattle.format.specs.Numbers.{is_number, number_of, leading_zero, small_of};
-
-use format::Number;
-
-// There is a number.
-pub fn is_number(x: Number) -> bool
-    ensures { result ≡ is_number x }
-{
-    match x {
-        Number::Is(_) => true,
-        Number::Bad => false,
-    }
-}
+ghost use Rattle.format.specs.Numbers.{number_of, leading_zero, small_of};
 
 // The number that least to most digits write, of which no more than 14 are read.
-pub fn digits(f: &[u8], least: usize, most: usize) -> Number
+pub fn digits(f: &[u8], least: usize, most: usize) -> Option<u64>
     ensures { result ≡ number_of least (min most 14) f.now }
 {
     let n = f.len();
     if n < least {
-        return Number::Bad;
+        return None;
     }
     if most < n {
-        return Number::Bad;
+        return None;
     }
     if 14 < n {
-        return Number::Bad;
+        return None;
     }
     let mut v: u64 = 0;
     let mut i: usize = 0;
     while i < n {
         let b = f[i];
         if b < 48 {
-            return Number::Bad;
+            return None;
         }
         if 57 < b {
-            return Number::Bad;
+            return None;
         }
         v = v * 10 + (b - 48) as u64;
         i += 1;
     }
-    Number::Is(v)
+    Some(v)
 }
 
 // A zero with more behind it.
@@ -55,11 +43,11 @@ fn leading(f: &[u8]) -> bool
 }
 
 // 1 to most digits without a leading zero, of which no more than 14 are read.
-pub fn small(f: &[u8], most: usize) -> Number
+pub fn small(f: &[u8], most: usize) -> Option<u64>
     ensures { result ≡ small_of (min most 14) f.now }
 {
     if leading(f) {
-        return Number::Bad;
+        return None;
     }
     digits(f, 1, most)
 }

@@ -1,4 +1,5 @@
 -- The ways out of reading a line, field by field. Assumes nothing.
+use Rattle.std.proofs.Common.{Option, Some, None}
 use Prim.Native.Nat.{ℕ, min, ◌≤◌, ◌<◌}
 use mathlib.Core.Path.{◌≡◌}
 use mathlib.Core.Bool.{Bool, true, false, not}
@@ -9,43 +10,41 @@ use lib.Dec.{eqb}
 use Rattle.format.specs.Cut.{fields, field}
 use Rattle.format.specs.Numbers.{number_of}
 use Rattle.format.specs.Texts.{is_nmi, is_suffix}
-use Rattle.format.specs.declared.Number.{Number}
-use Rattle.format.specs.declared.Number.TheVariants.{Is, Bad}
 use Rattle.map_table.specs.Rows.{number_up_to, with_share, without_key, is_keyless, keyed, row_of}
 use Rattle.map_table.specs.declared.Row.{Row}
 use Rattle.map_table.specs.declared.Row.TheVariants.{Used, Unused, Wrong}
 
 -- ---- a number
 
-module _ (most : ℕ) (s : List ℕ) {x : Number} (d : x ≡ number_of 1 (min 4 14) s) where
-  pub number-within : (n : ℕ) → x ≡ Is n → n ≤ most → Is n ≡ number_up_to most s
+module _ (most : ℕ) (s : List ℕ) {x : Option ℕ} (d : x ≡ number_of 1 (min 4 14) s) where
+  pub number-within : (n : ℕ) → x ≡ Some n → n ≤ most → Some n ≡ number_up_to most s
   unfolding number_up_to
   number-within n e h = rw (← d, e, le-leb n most h)
 
-  pub number-above : (n : ℕ) → x ≡ Is n → most < n → Bad ≡ number_up_to most s
+  pub number-above : (n : ℕ) → x ≡ Some n → most < n → None ≡ number_up_to most s
   unfolding number_up_to
   number-above n e h = rw (← d, e, lt-leb n most h)
 
-  pub number-none : x ≡ Bad → Bad ≡ number_up_to most s
+  pub number-none : x ≡ None → None ≡ number_up_to most s
   unfolding number_up_to
   number-none e = rw (← d, e)
 
 -- ---- a share
 
-module _ (output : ℕ) (s : List ℕ) {x : Number} (d : x ≡ number_up_to 1000 s) where
-  pub share-is : (n : ℕ) → x ≡ Is n → Used output n ≡ with_share output (number_up_to 1000 s)
+module _ (output : ℕ) (s : List ℕ) {x : Option ℕ} (d : x ≡ number_up_to 1000 s) where
+  pub share-is : (n : ℕ) → x ≡ Some n → Used output n ≡ with_share output (number_up_to 1000 s)
   share-is n e = rw (← d, e)
 
-  pub share-none : x ≡ Bad → Wrong 4 ≡ with_share output (number_up_to 1000 s)
+  pub share-none : x ≡ None → Wrong 4 ≡ with_share output (number_up_to 1000 s)
   share-none e = rw (← d, e)
 
-  pub unused-is : (n : ℕ) → x ≡ Is n → n ≡ 0 → Unused output ≡ without_key output (number_up_to 1000 s)
+  pub unused-is : (n : ℕ) → x ≡ Some n → n ≡ 0 → Unused output ≡ without_key output (number_up_to 1000 s)
   unused-is n e z = rw (← d, e, eq-eqb n 0 z)
 
-  pub unused-shared : (n : ℕ) → x ≡ Is n → (n ≡ 0 → ⊥) → Wrong 6 ≡ without_key output (number_up_to 1000 s)
+  pub unused-shared : (n : ℕ) → x ≡ Some n → (n ≡ 0 → ⊥) → Wrong 6 ≡ without_key output (number_up_to 1000 s)
   unused-shared n e z = rw (← d, e, ne_eqb n 0 z)
 
-  pub unused-none : x ≡ Bad → Wrong 4 ≡ without_key output (number_up_to 1000 s)
+  pub unused-none : x ≡ None → Wrong 4 ≡ without_key output (number_up_to 1000 s)
   unused-none e = rw (← d, e)
 
 -- ---- a key
@@ -76,12 +75,12 @@ module _ (s : List ℕ) {a : Bool} (l : a ≡ eqb (length (fields s)) 4) where
   unfolding row_of
   not-four t = rw (← l, not-true a t)
 
-  module _ (f : not a ≡ false) {o : List ℕ} (h : o ≡ field 0 (fields s)) {x : Number} (d : x ≡ number_up_to 127 o) where
-    pub no_output : x ≡ Bad → Wrong 1 ≡ row_of s
+  module _ (f : not a ≡ false) {o : List ℕ} (h : o ≡ field 0 (fields s)) {x : Option ℕ} (d : x ≡ number_up_to 127 o) where
+    pub no_output : x ≡ None → Wrong 1 ≡ row_of s
     unfolding row_of
     no_output e = rw (← l, not-false a f, ← h, ← d, e)
 
-    pub row_is_lem : (n : ℕ) → x ≡ Is n → {nmi suffix share : List ℕ} → nmi ≡ field 1 (fields s) → suffix ≡ field 2 (fields s) → share ≡ field 3 (fields s)
+    pub row_is_lem : (n : ℕ) → x ≡ Some n → {nmi suffix share : List ℕ} → nmi ≡ field 1 (fields s) → suffix ≡ field 2 (fields s) → share ≡ field 3 (fields s)
         → {r : Row} → r ≡ keyed n nmi suffix share → r ≡ row_of s
     unfolding row_of
     row_is_lem n e g i j q = rw (← l, not-false a f, ← h, ← d, e, ← g, ← i, ← j) q

@@ -1,32 +1,30 @@
 -- What a line of a table for a tenant map says: output, NMI, suffix, share. 02, 11: "each an NMI and suffix with a share from 0 to 1000"; "an unused output has
 -- an empty key and share 0".
-use Rattle.std.specs.Prelude.{ℕ, Bool, cond, ◌&&◌, List, length, leb, eqb}
+use Rattle.std.specs.Prelude.{ℕ, Bool, cond, ◌&&◌, List, length, leb, eqb, Option, Some, None}
 use Rattle.format.specs.Cut.{fields, field}
 use Rattle.format.specs.Numbers.{number_of}
 use Rattle.format.specs.Texts.{is_nmi, is_suffix}
-use Rattle.format.specs.declared.Number.{Number}
-use Rattle.format.specs.declared.Number.TheVariants.{Is, Bad}
 use Rattle.map_table.specs.declared.Row.{Row}
 use Rattle.map_table.specs.declared.Row.TheVariants.{Used, Unused, Wrong}
 
 -- a number that is not above a most
-abbrev pub up_to : ℕ → Number → Number
-up_to most (Is n) = cond (leb n most) (Is n) Bad
-up_to most Bad = Bad
+abbrev pub up_to : ℕ → Option ℕ → Option ℕ
+up_to most (Some n) = cond (leb n most) (Some n) None
+up_to most None = None
 
 -- 1 to 4 digits
-unfoldable pub number_up_to : ℕ → List ℕ → Number
+unfoldable pub number_up_to : ℕ → List ℕ → Option ℕ
 number_up_to most s = up_to most (number_of 1 4 s)
 
 -- the output at a share that may be none
-abbrev pub with_share : ℕ → Number → Row
-with_share output (Is share) = Used output share
-with_share output Bad = Wrong 4
+abbrev pub with_share : ℕ → Option ℕ → Row
+with_share output (Some share) = Used output share
+with_share output None = Wrong 4
 
 -- without NMI and suffix the share is 0
-abbrev pub without_key : ℕ → Number → Row
-without_key output (Is share) = cond (eqb share 0) (Unused output) (Wrong 6)
-without_key output Bad = Wrong 4
+abbrev pub without_key : ℕ → Option ℕ → Row
+without_key output (Some share) = cond (eqb share 0) (Unused output) (Wrong 6)
+without_key output None = Wrong 4
 
 abbrev pub is_keyless : List ℕ → List ℕ → Bool
 is_keyless nmi suffix = eqb (length nmi) 0 && eqb (length suffix) 0
@@ -37,9 +35,9 @@ keyed output nmi suffix share =
     cond (is_keyless nmi suffix) (without_key output (number_up_to 1000 share))
     (cond (is_nmi nmi) (cond (is_suffix suffix) (with_share output (number_up_to 1000 share)) (Wrong 3)) (Wrong 2))
 
-abbrev pub at_output : Number → List ℕ → List ℕ → List ℕ → Row
-at_output (Is output) nmi suffix share = keyed output nmi suffix share
-at_output Bad nmi suffix share = Wrong 1
+abbrev pub at_output : Option ℕ → List ℕ → List ℕ → List ℕ → Row
+at_output (Some output) nmi suffix share = keyed output nmi suffix share
+at_output None nmi suffix share = Wrong 1
 
 unfoldable pub row_of : List ℕ → Row
 row_of s =

@@ -5,7 +5,6 @@ ghost use Rattle.std.specs.Prelude.{◌≡◌, ◌&&◌, length, eqb};
 ghost use Rattle.format.specs.Cut.{fields};
 ghost use Rattle.map_table.specs.Rows.{number_up_to, with_share, without_key, is_keyless, keyed, row_of};
 
-use format::Number;
 use leaf::digits::digits;
 use measures::counts::count_of;
 use records::field;
@@ -44,17 +43,17 @@ const LAST_OUTPUT: u64 = 127;
 const HIGHEST_SHARE: u64 = 1000;
 
 // A number of 1 to 4 digits that is not above a most.
-fn number_up_to(f: &[u8], most: u64) -> Number
+fn number_up_to(f: &[u8], most: u64) -> Option<u64>
     ensures { result ≡ number_up_to most f.now }
 {
     match digits(f, 1, 4) {
-        Number::Is(n) => {
+        Some(n) => {
             if n <= most {
-                return Number::Is(n);
+                return Some(n);
             }
-            Number::Bad
+            None
         }
-        Number::Bad => Number::Bad,
+        None => None,
     }
 }
 
@@ -62,8 +61,8 @@ fn with_share(output: u64, share: &[u8]) -> Row
     ensures { result ≡ with_share output (number_up_to 1000 share.now) }
 {
     match number_up_to(share, HIGHEST_SHARE) {
-        Number::Is(n) => Row::Used(output, n),
-        Number::Bad => Row::Wrong(SHARE),
+        Some(n) => Row::Used(output, n),
+        None => Row::Wrong(SHARE),
     }
 }
 
@@ -71,13 +70,13 @@ fn without_key(output: u64, share: &[u8]) -> Row
     ensures { result ≡ without_key output (number_up_to 1000 share.now) }
 {
     match number_up_to(share, HIGHEST_SHARE) {
-        Number::Is(n) => {
+        Some(n) => {
             if n == 0 {
                 return Row::Unused(output);
             }
             Row::Wrong(NO_KEY)
         }
-        Number::Bad => Row::Wrong(SHARE),
+        None => Row::Wrong(SHARE),
     }
 }
 
@@ -118,12 +117,12 @@ pub fn row_of(line: &[u8]) -> Row
         return Row::Wrong(FIELDS);
     }
     match number_up_to(field(line, OUTPUT as usize), LAST_OUTPUT) {
-        Number::Is(output) => with_key(
+        Some(output) => with_key(
             output,
             field(line, NMI as usize),
             field(line, SUFFIX as usize),
             field(line, SHARE as usize),
         ),
-        Number::Bad => Row::Wrong(OUTPUT),
+        None => Row::Wrong(OUTPUT),
     }
 }

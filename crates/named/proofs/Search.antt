@@ -1,4 +1,5 @@
 -- The first day that has a key, as it is looked for. Assumes nothing.
+use Rattle.std.proofs.Common.{Option, Some, None}
 use Prim.Native.Nat.{ℕ, zero, suc, ◌+◌, ◌-◌, ◌≤◌, ◌<◌}
 use mathlib.Core.Path.{◌≡◌, refl, sym, ap, ◌∙◌}
 use mathlib.Core.List.{List, [], ◌∷◌}
@@ -15,8 +16,6 @@ use Rattle.format.specs.Day.{DayRows, days_of}
 use Rattle.format.specs.Numbers.{number_of}
 use Rattle.format.specs.Records.{date_in}
 use Rattle.format.specs.Units.{same_letters}
-use Rattle.format.specs.declared.Number.{Number}
-use Rattle.format.specs.declared.Number.TheVariants.{Is, Bad}
 use Rattle.day.specs.Places.{day_at, located}
 use Rattle.day.specs.declared.Under.{Under}
 use Rattle.day.specs.declared.Place.{Place}
@@ -29,7 +28,7 @@ take_none zero = refl
 take_none (suc n) = refl
 
 module _ (is : DayRows → Bool) (k : ℕ) where
-  first-here : (n : ℕ) (ds : List DayRows) → is_first is ds ≡ true → first_from is k (take (suc n) ds) ≡ Is k
+  first-here : (n : ℕ) (ds : List DayRows) → is_first is ds ≡ true → first_from is k (take (suc n) ds) ≡ Some k
   unfolding first_from
   first-here n [] t = absurd (false≢true t)
   first-here n (d ∷ ds) t = rw t
@@ -39,8 +38,8 @@ module _ (is : DayRows → Bool) (k : ℕ) where
   first-later n [] f = rw (take_none n)
   first-later n (d ∷ ds) f = rw f
 
-module _ (is : DayRows → Bool) (file : List ℕ) (k end : ℕ) (whole : Number) (inv : first_from is k (days_up_to file k end) ≡ whole) where
-  pub search-over : end ≤ k → Bad ≡ whole
+module _ (is : DayRows → Bool) (file : List ℕ) (k end : ℕ) (whole : Option ℕ) (inv : first_from is k (days_up_to file k end) ≡ whole) where
+  pub search-over : end ≤ k → None ≡ whole
   unfolding first_from
   search-over h =
       let z : end - k ≡ 0 = omega arith in
@@ -52,7 +51,7 @@ module _ (is : DayRows → Bool) (file : List ℕ) (k end : ℕ) (whole : Number
     more : end - k ≡ suc (end - (k + 1))
     more = omega arith
 
-    pub search-found : b ≡ true → Is k ≡ whole
+    pub search-found : b ≡ true → Some k ≡ whole
     search-found t = sym (first-here is k (end - (k + 1)) (drop k (days_of file)) (ap (is_first is) (sym there) ∙ sym eb ∙ t)) ∙ (rw more at inv)
 
     pub search-on : b ≡ false → first_from is (k + 1) (days_up_to file (k + 1) end) ≡ whole
@@ -108,10 +107,10 @@ module _ (s : List ℕ) {b : Bool} (eb : b ≡ is_dashed s) where
       let n : length s ≡ 10 = eqb-true _ _ (and-true (eqb (length s) 10) _ (sym eb ∙ t)).0 in
       omega arith
 
-  pub date-dashed : {r : Number} → b ≡ true → r ≡ number_of 8 8 (undashed s) → r ≡ date_word s
+  pub date-dashed : {r : Option ℕ} → b ≡ true → r ≡ number_of 8 8 (undashed s) → r ≡ date_word s
   unfolding date_word
   date-dashed t e = rw (← eb, t) e
 
-  pub date-plain : {r : Number} → b ≡ false → r ≡ number_of 8 8 s → r ≡ date_word s
+  pub date-plain : {r : Option ℕ} → b ≡ false → r ≡ number_of 8 8 s → r ≡ date_word s
   unfolding date_word
   date-plain f e = rw (← eb, f) e

@@ -12,7 +12,6 @@ ghost use Rattle.named.specs.Named.{has_key, is_first, first_from, days_up_to, i
 use day::head::head_at;
 use day::walk::{behind, find_day};
 use day::{DayStart, Place, Under};
-use format::Number;
 use leaf::digits::digits;
 use page::texts::part;
 use records::{NMI, SUFFIX, field};
@@ -94,7 +93,7 @@ pub fn day_named(
     nmi: &[u8],
     suffix: &[u8],
     date: u64,
-) -> Number
+) -> Option<u64>
     requires { DayAhead file.now first start }
     ensures { result ≡ first_from (has_key nmi.now suffix.now date) first (days_up_to file.now first end) }
 {
@@ -103,12 +102,12 @@ pub fn day_named(
     while k < end {
         let place = find_day(file, k, from);
         if is_wanted(file, place, nmi, suffix, date) {
-            return Number::Is(k as u64);
+            return Some(k as u64);
         }
         from = behind(file, place);
         k += 1;
     }
-    Number::Bad
+    None
 }
 
 // ---- the words of a key
@@ -127,7 +126,7 @@ fn is_dashed(word: &[u8]) -> bool
 }
 
 // A date as a number, from 2003-12-19 or 20031219.
-pub fn date_of(word: &[u8]) -> Number
+pub fn date_of(word: &[u8]) -> Option<u64>
     ensures { result ≡ date_word word.now }
 {
     if is_dashed(word) {

@@ -4,7 +4,6 @@ ghost use Rattle.channel.specs.Places.{ChannelAhead};
 use super::sheet::{Sheet, behind};
 use channel::{Channel, ChannelStart, walk};
 use csv_rows::rows::{front, heading, reading};
-use format::Number;
 use leaf::digits::digits;
 use machine::Machine;
 use outward::{DONE, write};
@@ -20,8 +19,8 @@ fn text(record: &[u8], field: Place) -> &[u8] {
 // A time of an accepted record.
 fn time_in(record: &[u8], field: Place) -> u64 {
     match digits(text(record, field), 14, 14) {
-        Number::Is(t) => t,
-        Number::Bad => 0,
+        Some(t) => t,
+        None => 0,
     }
 }
 

@@ -1,6 +1,5 @@
 // The words behind the map's file.
 use date_rules::calendar::is_date;
-use format::Number;
 use leaf::digits::digits;
 use machine::{Machine, WORD};
 use named::date_of;
@@ -25,7 +24,7 @@ pub enum Asked {
 pub fn date(rt: &impl Machine, page: &mut [u8], i: usize) -> Asked {
     let mut word = [0u8; WORD];
     let n = rt.arg(i, &mut word);
-    if let Number::Is(day) = date_of(&word[..n]) {
+    if let Some(day) = date_of(&word[..n]) {
         if is_date(day) {
             return Asked::Date((day % EIGHT_DIGITS) as u32);
         }
@@ -46,11 +45,11 @@ fn no_version(rt: &impl Machine, page: &mut [u8], word: &[u8]) {
 }
 
 // The number of a version, where the word is one.
-pub fn version(rt: &impl Machine, page: &mut [u8], i: usize) -> Number {
+pub fn version(rt: &impl Machine, page: &mut [u8], i: usize) -> Option<u64> {
     let mut word = [0u8; WORD];
     let n = rt.arg(i, &mut word);
     let x = digits(&word[..n], 1, 14);
-    if let Number::Bad = x {
+    if let None = x {
         no_version(rt, page, &word[..n]);
     }
     x

@@ -2,7 +2,6 @@
 use super::appended::keep_appended;
 use super::asked::{Asked, FIRST, date, version};
 use super::refused::of_going_back;
-use format::Number;
 use machine::Machine;
 use outward::{FAILED, REFUSED};
 use tenant_map::back_to;
@@ -19,7 +18,7 @@ fn go_back(rt: &impl Machine, page: &mut [u8], map: &mut [u8], k: u64, first: u3
 }
 
 pub fn back(rt: &impl Machine, page: &mut [u8], map: &mut [u8]) -> u8 {
-    let Number::Is(k) = version(rt, page, FIRST) else {
+    let Some(k) = version(rt, page, FIRST) else {
         return FAILED;
     };
     match date(rt, page, FIRST + 1) {

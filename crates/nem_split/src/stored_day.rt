@@ -1,6 +1,6 @@
 // A day that a store holds, by its key.
 use super::shown::{Day, show};
-use format::{Number, Totalled};
+use format::Totalled;
 use kept_files::no_day;
 use machine::{Machine, WORD};
 use named::date_of;
@@ -79,7 +79,7 @@ pub fn split(rt: &impl Machine, page: &mut [u8], map: &[u8], store: &[u8]) -> u8
     let mut date = [0u8; WORD];
     let k = rt.arg(DATE, &mut date);
     match date_of(&date[..k]) {
-        Number::Is(day) => split_key(
+        Some(day) => split_key(
             rt,
             page,
             map,
@@ -88,7 +88,7 @@ pub fn split(rt: &impl Machine, page: &mut [u8], map: &[u8], store: &[u8]) -> u8
             &suffix[..m],
             (day % EIGHT_DIGITS) as u32,
         ),
-        Number::Bad => {
+        None => {
             no_date(rt, page, &date[..k]);
             FAILED
         }

@@ -10,7 +10,6 @@ mod make;
 mod put;
 
 use disk::{Loaded, load_word};
-use format::Number;
 use kept_files::long_store;
 use leaf::bytes::same_bytes;
 use machine::{Machine, PAGE, WORD};
@@ -60,11 +59,11 @@ fn by_key(rt: &impl Machine, page: &mut [u8], store: &mut [u8], what: &[u8]) -> 
     let mut word = [0u8; WORD];
     let k = rt.arg(FIRST + 2, &mut word);
     match date_of(&word[..k]) {
-        Number::Is(day) => {
+        Some(day) => {
             let date = (day % EIGHT_DIGITS) as u32;
             of_key(rt, page, store, what, &nmi[..n], &suffix[..m], date)
         }
-        Number::Bad => {
+        None => {
             no_date(rt, page, &word[..k]);
             FAILED
         }

@@ -1,5 +1,4 @@
 // A store made in a new file.
-use format::Number;
 use leaf::digits::digits;
 use machine::{Machine, WORD};
 use making::make_store;
@@ -25,11 +24,11 @@ fn no_number(rt: &impl Machine, page: &mut [u8], word: &[u8], what: &[u8]) {
 }
 
 // The number that a word is, or what is wrong with it.
-fn number_in(rt: &impl Machine, page: &mut [u8], i: usize, what: &[u8]) -> Number {
+fn number_in(rt: &impl Machine, page: &mut [u8], i: usize, what: &[u8]) -> Option<u64> {
     let mut word = [0u8; WORD];
     let n = rt.arg(i, &mut word);
     let x = digits(&word[..n], 1, 14);
-    if let Number::Bad = x {
+    if let None = x {
         no_number(rt, page, &word[..n], what);
     }
     x
@@ -107,10 +106,10 @@ fn make_sized(
 }
 
 pub fn make(rt: &impl Machine, page: &mut [u8], memory: &mut [u8]) -> u8 {
-    let Number::Is(slots) = number_in(rt, page, SLOTS, b"slots") else {
+    let Some(slots) = number_in(rt, page, SLOTS, b"slots") else {
         return FAILED;
     };
-    let Number::Is(bytes) = number_in(rt, page, BYTES, b"bytes") else {
+    let Some(bytes) = number_in(rt, page, BYTES, b"bytes") else {
         return FAILED;
     };
     make_sized(rt, page, memory, slots, bytes as usize)

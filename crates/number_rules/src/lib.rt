@@ -5,7 +5,6 @@ ghost use Rattle.std.specs.Prelude.{◌≡◌};
 ghost use Rattle.format.specs.Numbers.{interval_of, is_length, length_of, intervals_of, reason_of};
 ghost use Rattle.format.specs.Records.{is_kind, indicator_of};
 
-use format::Number;
 use leaf::digits::{digits, small};
 
 fn is_kind(k: u64) -> bool
@@ -36,23 +35,14 @@ fn is_kind(k: u64) -> bool
 }
 
 // The kind of record that a first field names.
-pub fn indicator(f: &[u8]) -> Number
+pub fn indicator(f: &[u8]) -> Option<u64>
     ensures { result ≡ indicator_of f.now }
 {
-    let x = digits(f, 3, 3);
-    match x {
-        Number::Is(k) => {
-            if is_kind(k) {
-                return Number::Is(k);
-            }
-            Number::Bad
-        }
-        Number::Bad => Number::Bad,
-    }
+    digits(f, 3, 3).filter(|k| is_kind(*k))
 }
 
 // A 400's start or end.
-pub fn interval(f: &[u8]) -> Number
+pub fn interval(f: &[u8]) -> Option<u64>
     ensures { result ≡ interval_of f.now }
 {
     small(f, 4)
@@ -70,19 +60,10 @@ fn is_length(m: u64) -> bool
     m == 30
 }
 
-pub fn interval_length(f: &[u8]) -> Number
+pub fn interval_length(f: &[u8]) -> Option<u64>
     ensures { result ≡ length_of f.now }
 {
-    let x = small(f, 2);
-    match x {
-        Number::Is(m) => {
-            if is_length(m) {
-                return Number::Is(m);
-            }
-            Number::Bad
-        }
-        Number::Bad => Number::Bad,
-    }
+    small(f, 2).filter(|m| is_length(*m))
 }
 
 // How many intervals a day has, 0 where m minutes are no interval length.
@@ -102,11 +83,11 @@ pub fn intervals(m: u64) -> usize
 }
 
 // A reason, 65535 where the field is empty.
-pub fn reason(f: &[u8]) -> Number
+pub fn reason(f: &[u8]) -> Option<u64>
     ensures { result ≡ reason_of f.now }
 {
     if f.len() == 0 {
-        return Number::Is(65535);
+        return Some(65535);
     }
     small(f, 3)
 }

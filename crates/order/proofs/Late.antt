@@ -17,9 +17,8 @@ use Rattle.format.specs.Quality.{across}
 use Rattle.format.specs.Cut.{fields, field, start_of}
 use Rattle.format.specs.Records.{version_in, intervals_in, decimals_in, date_in, last_in, read_time_in, qualities_of}
 use Rattle.format.specs.Order.{none_yet, Due, is_varied, alike_with, on100, on200, after_of}
-use Rattle.format.specs.Faults.{scale_of, broken_in, f7, is_not_later, covers, is_off, is_alike, on_day, is_elsewhere}
+use Rattle.format.specs.Faults.{scale_of, broken_in, f7, is_not_later, covers, is_off, is_alike, on_day, is_elsewhere, Fine, Stop}
 use Rattle.format.specs.Day.{row_at, tag_at}
-use Rattle.format.specs.declared.Fault.TheVariants.{Fine, Stop}
 use Rattle.format.specs.declared.Tag.{Tag}
 use Rattle.runs.specs.Ran.{Ran}
 use Rattle.lines.proofs.Cuts.{rest-first}

@@ -6,9 +6,7 @@ use Rattle.format.specs.Numbers.{no_reason}
 use Rattle.format.specs.Cut.{fields}
 use Rattle.format.specs.Order.{Shared, none_yet, all_have, they_differ, share_with, are_alike, Due, after_of}
 use Rattle.format.specs.File.{after}
-use Rattle.format.specs.Faults.{◌▹◌, scale_of, f7, f8, f9, f11, f12, fault_in, fault_of}
-use Rattle.format.specs.declared.Fault.{Fault}
-use Rattle.format.specs.declared.Fault.TheVariants.{Fine, Stop}
+use Rattle.format.specs.Faults.{◌▹◌, scale_of, f7, f8, f9, f11, f12, fault_in, fault_of, Fault, Fine, Stop}
 use Rattle.format.specs.declared.Tag.{Tag}
 use Rattle.lines.specs.Places.{Starts}
 use Rattle.follows.specs.Tests.{mark_of, expected_as}

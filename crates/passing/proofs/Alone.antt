@@ -17,10 +17,8 @@ use Rattle.format.specs.Cut.{Lines, line, rest, lines, fields}
 use Rattle.format.specs.Records.{kind_in, date_in, update_in, load_in}
 use Rattle.format.specs.Order.{first300, may_come, in_day, Due, is_varied}
 use Rattle.format.specs.Answers.{accepted, refused}
-use Rattle.format.specs.Faults.{◌▹◌, stop, f3, is_open, f10, fault_at, fault_of}
+use Rattle.format.specs.Faults.{◌▹◌, stop, f3, is_open, f10, fault_at, fault_of, Fault, Fine}
 use Rattle.format.specs.File.{after, behind200, is_foreign, block_fault_of, end_of, block_walk_of, top_says, block_check_of}
-use Rattle.format.specs.declared.Fault.{Fault}
-use Rattle.format.specs.declared.Fault.TheVariants.{Fine}
 use Rattle.format.proofs.Faults.{both-fine, stop-fine}
 use Rattle.format.proofs.States.{implied, only}
 use Rattle.passing.specs.Passes.{Passes, kinds_of, are_under, Free, Accepted, top_date, Awaits, Alone}

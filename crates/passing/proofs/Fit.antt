@@ -15,9 +15,7 @@ use Rattle.format.specs.Bytes.{plain}
 use Rattle.format.specs.Cut.{fields, field}
 use Rattle.format.specs.Records.{Scale, kind_in, count_of, rule_of, obeys, date_in, first_in, last_in}
 use Rattle.format.specs.Order.{Expected, may_come, in_varied, Due}
-use Rattle.format.specs.Faults.{◌▹◌, f3, is_open, f10, f4, scale_of, f5, fault_in, f6, f7, is_not_later, f8, covers, is_off, f9, is_alike, f11, is_elsewhere, f12, fault_at, fault_of}
-use Rattle.format.specs.declared.Fault.{Fault}
-use Rattle.format.specs.declared.Fault.TheVariants.{Fine, Stop}
+use Rattle.format.specs.Faults.{◌▹◌, f3, is_open, f10, f4, scale_of, f5, fault_in, f6, f7, is_not_later, f8, covers, is_off, f9, is_alike, f11, is_elsewhere, f12, fault_at, fault_of, Fault, Fine, Stop}
 use Rattle.format.proofs.States.{no_kind}
 use Rattle.format.proofs.Faults.{both-fine, stop-fine}
 

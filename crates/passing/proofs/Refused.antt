@@ -14,10 +14,8 @@ use Rattle.format.specs.Cut.{Lines, line, rest, lines, fields}
 use Rattle.format.specs.Records.{kind_in}
 use Rattle.format.specs.Order.{first300, in_day, is_end, Due, due, begun}
 use Rattle.format.specs.Answers.{accepted, refused}
-use Rattle.format.specs.Faults.{◌▹◌, stop, f3, is_open, f10, fault_at, fault_of}
+use Rattle.format.specs.Faults.{◌▹◌, stop, f3, is_open, f10, fault_at, fault_of, Fault, Fine, Stop}
 use Rattle.format.specs.File.{after, or_go_on, walk_of, behind200, is_foreign, block_fault_of, end_of, block_walk_of, top_says, block_check_of}
-use Rattle.format.specs.declared.Fault.{Fault}
-use Rattle.format.specs.declared.Fault.TheVariants.{Fine, Stop}
 use Rattle.format.proofs.States.{only, not-ended}
 use Rattle.passing.specs.Passes.{Leads, kinds_of}
 use Rattle.passing.proofs.Fit.{fine-fit}

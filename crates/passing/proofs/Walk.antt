@@ -12,11 +12,9 @@ use Rattle.ground.proofs.Cases.{by}
 use Rattle.format.specs.Cut.{Lines, line, rest, lines, fields}
 use Rattle.format.specs.Records.{kind_in}
 use Rattle.format.specs.Order.{is_end, Due, begun}
-use Rattle.format.specs.Faults.{fault_of}
+use Rattle.format.specs.Faults.{fault_of, Fault, Fine, Stop}
 use Rattle.format.specs.Answers.{Answer, accepted, refused, refusal}
 use Rattle.format.specs.File.{after, or_go_on, walk_of, most, check_of, IsAccepted}
-use Rattle.format.specs.declared.Fault.{Fault}
-use Rattle.format.specs.declared.Fault.TheVariants.{Fine, Stop}
 use Rattle.format.proofs.States.{not-ended}
 use Rattle.passing.specs.Passes.{Passes}
 use Rattle.passing.proofs.Fit.{Fit, fine-fit}

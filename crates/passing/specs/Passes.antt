@@ -7,10 +7,9 @@ use Rattle.format.specs.Units.{is_unit, decimals_of}
 use Rattle.format.specs.Cut.{Lines, line, rest, lines, fields}
 use Rattle.format.specs.Records.{kind_in, unit_in, date_in}
 use Rattle.format.specs.Order.{may_come, Due, begun}
-use Rattle.format.specs.Faults.{is_open, fault_of}
+use Rattle.format.specs.Faults.{is_open, fault_of, Fine}
 use Rattle.format.specs.File.{after, behind200, top_says}
 use Rattle.format.specs.Day.{no_channel}
-use Rattle.format.specs.declared.Fault.TheVariants.{Fine}
 
 -- ---- passed
 

@@ -7,7 +7,7 @@ ghost use Rattle.std.specs.Prelude.{◌≡◌};
 ghost use Rattle.format.specs.Quality.{quality_of, across};
 
 use flags::{needs_reason, stands_alone, takes_method};
-use format::{Graded, Number};
+use format::Graded;
 use leaf::digits::digits;
 
 // The quality that a field of a record of the kind says.
@@ -28,10 +28,10 @@ pub fn quality(f: &[u8], kind: u64) -> Graded
     if takes_method(q) {
         let m = digits(&f[1..], 2, 2);
         match m {
-            Number::Is(v) => {
+            Some(v) => {
                 return Graded::Of(q, v as u8);
             }
-            Number::Bad => {
+            None => {
                 return Graded::Bad;
             }
         }

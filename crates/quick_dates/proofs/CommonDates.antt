@@ -1,4 +1,5 @@
 -- Bytes of the commonest shape are a date, or a time; and no date and no time holds a comma. Assumes nothing.
+use Rattle.std.proofs.Common.{Option}
 use Prim.Native.Nat.{ℕ, ◌+◌, ◌-◌, ◌*◌, ◌/◌, ◌%◌, ◌≤◌}
 use mathlib.Core.Path.{◌≡◌, refl, sym, ap, ◌∙◌}
 use mathlib.Core.Bool.{Bool, true, false, cond, not, ◌&&◌, ◌||◌}
@@ -15,7 +16,6 @@ use Rattle.ground.proofs.Decimal.{digit-is}
 use Rattle.ground.proofs.Digits.{all_append, digit-range}
 use Rattle.format.specs.Numbers.{is_number, that, number_of}
 use Rattle.format.specs.Dates.{is_leap, days_in_month, is_date, is_time, date_of, time_of}
-use Rattle.format.specs.declared.Number.{Number}
 use Rattle.format.proofs.Numbers.{digits_of}
 use Rattle.format.proofs.NumberText.{digits_are}
 use Rattle.format.proofs.Dates.{day-end, clock-end}
@@ -239,7 +239,7 @@ time-common s t =
     (spelled (λ m. is_time (decimal m) ≡ true) 14 s l (time-number _ d k))
 
 -- what the simple rule says of the field
-pub by-rule : {x y : Number} {b : Bool} → b ≡ is_number x → x ≡ y → b ≡ is_number y
+pub by-rule : {x y : Option ℕ} {b : Bool} → b ≡ is_number x → x ≡ y → b ≡ is_number y
 by-rule e f = rw (← f) e
 
 -- ---- no comma

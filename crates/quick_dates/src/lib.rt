@@ -9,7 +9,6 @@ ghost use Rattle.quick_dates.specs.Shapes.{is_month, is_early_day, is_hour, is_s
 
 use classes::is_digit;
 use date_rules::{date, time};
-use leaf::digits::is_number;
 
 // 01 to 12.
 fn is_month(a: u8, b: u8) -> bool
@@ -143,7 +142,7 @@ pub fn is_date(f: &[u8]) -> bool
     if common_date(f) {
         return true;
     }
-    is_number(date(f))
+    date(f).is_some()
 }
 
 // A time of fourteen digits.
@@ -153,5 +152,5 @@ pub fn is_time(f: &[u8]) -> bool
     if common_time(f) {
         return true;
     }
-    is_number(time(f))
+    time(f).is_some()
 }

@@ -3,9 +3,7 @@
 
 ghost use Rattle.std.specs.Prelude.{◌≡◌, ◌<◌, length};
 ghost use Rattle.format.specs.Records.{indicator_of};
-ghost use Rattle.format.specs.declared.Number.TheVariants.{Is};
 
-use format::Number;
 
 // The kind that three bytes name, if it is one of these; else 0.
 fn common_kind(f: &[u8]) -> u64
@@ -35,13 +33,13 @@ fn common_kind(f: &[u8]) -> u64
 }
 
 // The kind of record that a first field names.
-pub fn indicator(f: &[u8]) -> Number
+pub fn indicator(f: &[u8]) -> Option<u64>
     ensures { result ≡ indicator_of f.now }
 {
     if f.len() == 3 {
         let k = common_kind(f);
         if 0 < k {
-            return Number::Is(k);
+            return Some(k);
         }
     }
     number_rules::indicator(f)

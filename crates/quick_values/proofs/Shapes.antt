@@ -1,4 +1,5 @@
 -- A digit, a point and three digits: they are a value, its number, and they hold no comma. Assumes nothing.
+use Rattle.std.proofs.Common.{Some}
 use Prim.Native.Nat.{ℕ, ◌+◌, ◌-◌, ◌*◌, ◌≤◌, min}
 use mathlib.Core.Path.{◌≡◌, ap}
 use mathlib.Core.Bool.{true}
@@ -12,7 +13,6 @@ use Rattle.ground.specs.Digits.{is_digit}
 use Rattle.ground.proofs.Tests.{and-true}
 use Rattle.format.specs.Bytes.{are_all}
 use Rattle.format.specs.Numbers.{is_number, decimals, number_of, fraction_of, value_of}
-use Rattle.format.specs.declared.Number.TheVariants.{Is}
 use Rattle.quick_values.specs.Shapes.{is_thousandths}
 use Rattle.ground.proofs.Bytes.{spelled}
 use Rattle.ground.proofs.Digits.{digit-range, digit_not}
@@ -53,17 +53,17 @@ thousandths-bytes s t =
 
 -- the number of such a value: 53328 is that of four zeros, each a 48
 five-number : (a b c d : ℕ) → is_digit a ≡ true → is_digit b ≡ true → is_digit c ≡ true → is_digit d ≡ true
-    → value_of decimals (a ∷ 46 ∷ b ∷ c ∷ d ∷ []) ≡ Is ((a * 1000 + b * 100 + c * 10 + d - 53328) * 1000)
+    → value_of decimals (a ∷ 46 ∷ b ∷ c ∷ d ∷ []) ≡ Some ((a * 1000 + b * 100 + c * 10 + d - 53328) * 1000)
 unfolding value_of number_of fraction_of are_all span_of
 five-number a b c d ha hb hc hd =
-    rw (digit_not 46 a (omega arith) ha, ha, hb, hc, hd) (ap Is (omega (arith, digit-range a ha, digit-range b hb, digit-range c hc, digit-range d hd)))
+    rw (digit_not 46 a (omega arith) ha, ha, hb, hc, hd) (ap Some (omega (arith, digit-range a ha, digit-range b hb, digit-range c hc, digit-range d hd)))
 
 pub thousandths-number : (s : List ℕ) → is_thousandths s ≡ true
-    → value_of decimals s ≡ Is ((get_or s 0 0 * 1000 + get_or s 2 0 * 100 + get_or s 3 0 * 10 + get_or s 4 0 - 53328) * 1000)
+    → value_of decimals s ≡ Some ((get_or s 0 0 * 1000 + get_or s 2 0 * 100 + get_or s 3 0 * 10 + get_or s 4 0 - 53328) * 1000)
 unfolding from
 thousandths-number s t =
     let f = five-is s t in
-    spelled (λ l. value_of decimals l ≡ Is ((get_or s 0 0 * 1000 + get_or s 2 0 * 100 + get_or s 3 0 * 10 + get_or s 4 0 - 53328) * 1000)) 5 s f.size
+    spelled (λ l. value_of decimals l ≡ Some ((get_or s 0 0 * 1000 + get_or s 2 0 * 100 + get_or s 3 0 * 10 + get_or s 4 0 - 53328) * 1000)) 5 s f.size
     (rw f.dot (five-number _ _ _ _ f.first f.second f.third f.fourth))
 
 -- they are a value where three decimals are allowed

@@ -19,8 +19,7 @@ use Rattle.format.specs.Numbers.{number_in, that, number_of}
 use Rattle.format.specs.Units.{decimals_named}
 use Rattle.format.specs.Cut.{fields, field, start_of}
 use Rattle.format.specs.Records.{Scale, scale, scale_for, indicator_of, kind_in, row_of, count_of, rule_of, obeys, quantity_field, quantity_unit_field, quantity_decimals}
-use Rattle.format.specs.Faults.{fault_in}
-use Rattle.format.specs.declared.Fault.TheVariants.{Fine, Stop}
+use Rattle.format.specs.Faults.{fault_in, Fine, Stop}
 use Rattle.format.specs.declared.Rule.{Rule}
 use Rattle.format.specs.declared.Rule.TheVariants.{Indicator, Value}
 use Rattle.format.proofs.Cut.{fields-some, field-here, field-cons, start-zero, start-next, start-end, fields-from}

@@ -3,8 +3,7 @@ use Rattle.std.specs.Prelude.{ℕ, ◌+◌, ◌≤◌, ◌<◌, ◌≡◌, List,
 use Rattle.ground.specs.Lists.{part}
 use Rattle.format.specs.Cut.{fields, start_of}
 use Rattle.format.specs.Records.{Scale, scale_for, kind_in, count_of}
-use Rattle.format.specs.Faults.{fault_in}
-use Rattle.format.specs.declared.Fault.TheVariants.{Fine, Stop}
+use Rattle.format.specs.Faults.{fault_in, Fine, Stop}
 use Rattle.lines.specs.Places.{Starts}
 use Rattle.record.specs.declared.Spot.{Spot}
 use Rattle.record.specs.declared.Walked.{Walked}

@@ -1,5 +1,6 @@
 -- The rule of a field, found in the table by its number: past the row, in the values of a 300 and behind them.
 -- Assumes nothing.
+use Rattle.std.proofs.Common.{Option}
 use Prim.Native.Nat.{ℕ, zero, suc, ◌+◌, ◌-◌, ◌≤◌, ◌<◌, min}
 use mathlib.Core.Path.{◌≡◌, refl, sym, ◌∙◌, ap}
 use mathlib.Core.List.{List, [], ◌∷◌}
@@ -16,10 +17,9 @@ use Rattle.ground.proofs.Tests.{and-true}
 use Rattle.format.specs.Numbers.{is_number, fraction_of, value_of}
 use Rattle.format.specs.Quality.{is_graded}
 use Rattle.format.specs.Records.{Scale, scale, scale_for, row300, row250, row_of, count_of, rule_of, obeys, quantity_field, quantity_decimals}
-use Rattle.format.specs.declared.Number.{Number}
-use Rattle.format.specs.declared.Graded.{Graded}
 use Rattle.format.specs.declared.Rule.{Rule}
 use Rattle.format.specs.declared.Rule.TheVariants.{Indicator, Value, Quality, Reason, Description, Time, Load}
+use Rattle.format.specs.declared.Grade.{Grade}
 
 pub past_row : (row : List Rule) (i : ℕ) → length row ≤ i → Indicator ≡ get_or row i Indicator
 past_row row i h = sym (get_or-eq_default row Indicator {n = i} h)
@@ -146,7 +146,7 @@ module _ (k : ℕ) (rule : Rule) (s : List ℕ) (x : Rule) {b : Bool} (h : rule 
   obeys-is e = rw h e
 
   -- y is what a rule of numbers answers
-  pub obeys-number : {y z : Number} → b ≡ is_number y → y ≡ z → is_number z ≡ obeys k x s → b ≡ obeys k rule s
+  pub obeys-number : {y z : Option ℕ} → b ≡ is_number y → y ≡ z → is_number z ≡ obeys k x s → b ≡ obeys k rule s
   obeys-number e q w = rw h (e ∙ ap is_number q ∙ w)
 
   -- what `is_value` answers, which is asked for no more than six decimals
@@ -154,5 +154,5 @@ module _ (k : ℕ) (rule : Rule) (s : List ℕ) (x : Rule) {b : Bool} (h : rule 
   unfolding obeys
   obeys-value d m q w e = rw (h, q) (e ∙ ap is_number (value-six d m w s))
 
-  pub obeys-graded : {y z : Graded} → b ≡ is_graded y → y ≡ z → is_graded z ≡ obeys k x s → b ≡ obeys k rule s
+  pub obeys-graded : {y z : Option Grade} → b ≡ is_graded y → y ≡ z → is_graded z ≡ obeys k x s → b ≡ obeys k rule s
   obeys-graded e q w = rw h (e ∙ ap is_graded q ∙ w)

@@ -7,7 +7,6 @@ ghost use Rattle.format.specs.Records.{scale, row100, row200, row300, row400, ro
 ghost use Rattle.format.specs.declared.Rule.TheVariants.{Indicator};
 
 use format::{Graded, Rule};
-use leaf::digits::is_number;
 use quick_values::{is_read, is_value};
 use value_rules::up_to_six;
 
@@ -180,8 +179,8 @@ pub fn obeys(kind: u64, rule: Rule, f: &[u8]) -> bool
 {
     match rule {
         Rule::Indicator => true,
-        Rule::Version => is_number(text_rules::version(f)),
-        Rule::Created => is_number(date_rules::created(f)),
+        Rule::Version => text_rules::version(f).is_some(),
+        Rule::Created => date_rules::created(f).is_some(),
         Rule::Party => text_rules::party(f),
         Rule::Nmi => text_rules::nmi(f),
         Rule::Configuration => text_rules::configuration(f),
@@ -189,20 +188,20 @@ pub fn obeys(kind: u64, rule: Rule, f: &[u8]) -> bool
         Rule::Suffix => text_rules::suffix(f),
         Rule::Stream => text_rules::data_stream(f),
         Rule::Serial => text_rules::serial(f),
-        Rule::Unit => is_number(units::number(f)),
-        Rule::Length => is_number(number_rules::interval_length(f)),
-        Rule::NextRead => is_number(date_rules::next_read_date(f)),
-        Rule::Date => is_number(date_rules::date(f)),
+        Rule::Unit => units::number(f).is_some(),
+        Rule::Length => number_rules::interval_length(f).is_some(),
+        Rule::NextRead => date_rules::next_read_date(f).is_some(),
+        Rule::Date => date_rules::date(f).is_some(),
         Rule::Value(d) => is_value(f, up_to_six(d)),
         Rule::Quality => is_graded(quality_rules::quality(f, kind)),
-        Rule::Reason => is_number(number_rules::reason(f)),
+        Rule::Reason => number_rules::reason(f).is_some(),
         Rule::Description => text_rules::description(f),
-        Rule::Time => is_number(date_rules::time(f)),
-        Rule::Load => is_number(date_rules::load_time(f)),
-        Rule::Interval => is_number(number_rules::interval(f)),
+        Rule::Time => date_rules::time(f).is_some(),
+        Rule::Load => date_rules::load_time(f).is_some(),
+        Rule::Interval => number_rules::interval(f).is_some(),
         Rule::TransCode => text_rules::trans_code(f),
         Rule::ServiceOrder => text_rules::service_order(f),
-        Rule::ReadTime => is_number(date_rules::read_time(f)),
+        Rule::ReadTime => date_rules::read_time(f).is_some(),
         Rule::IndexRead => value_rules::index_read(f),
         Rule::Direction => text_rules::direction(f),
         Rule::RegisterRead => is_read(f),

@@ -1,4 +1,5 @@
 -- A 400 read in one go. Assumes nothing.
+use Rattle.std.proofs.Common.{Option, Some, None}
 use Prim.Native.Nat.{ℕ, ◌+◌, ◌-◌, ◌<◌}
 use mathlib.Core.Path.{◌≡◌, refl, sym, ◌∙◌, ap}
 use mathlib.Core.List.{List}
@@ -11,19 +12,14 @@ use borrow.Author.Tests.{not-true, not-false}
 use Rattle.ground.specs.Lists.{span_of, other, part}
 use Rattle.ground.proofs.Spans.{span-le, part_length}
 use Rattle.format.specs.Numbers.{is_number, number_in, interval_of, reason_of}
-use Rattle.format.specs.Quality.{is_graded, flag_in, method_in, quality_of}
+use Rattle.format.specs.Quality.{is_graded, flag_in, method_in, quality_of, grade}
 use Rattle.format.specs.Texts.{is_description}
 use Rattle.format.specs.Cut.{fields, field, start_of}
 use Rattle.format.specs.Records.{no_scale, row_of, count_of, rule_of, obeys, first_in, last_in}
 use Rattle.format.specs.Day.{tag_at}
-use Rattle.format.specs.declared.Number.{Number}
-use Rattle.format.specs.declared.Number.TheVariants.{Is, Bad}
-use Rattle.format.specs.declared.Graded.{Graded}
-use Rattle.format.specs.declared.Graded.TheVariants as graded
 use Rattle.format.specs.declared.Rule.{Rule}
 use Rattle.format.specs.declared.Rule.TheVariants.{Interval, Quality, Reason, Description}
-use Rattle.format.specs.Faults.{fault_in}
-use Rattle.format.specs.declared.Fault.TheVariants.{Fine}
+use Rattle.format.specs.Faults.{fault_in, Fine}
 use Rattle.format.proofs.Cut.{field-here, start-next, start-end}
 use Rattle.lines.specs.Places.{Starts}
 use Rattle.record.specs.Walk.{Typed, Along, Broken}
@@ -33,6 +29,7 @@ use Rattle.lines.proofs.Cuts.{first-is, rest_at, rest-first}
 use Rattle.says.proofs.Fields.{tag-eq}
 use Rattle.tries.proofs.Holds.{held_to, held-broken}
 use Rattle.record.proofs.Turns.{left, along-on, along-stops, obeyed-all}
+use Rattle.format.specs.declared.Grade.{Grade}
 
 -- the rules of its fields
 pub row_first : Interval ≡ rule_of 400 no_scale 1
@@ -87,41 +84,41 @@ module _ (file : List ℕ) (at e : ℕ) (y : Typed file at e 400 no_scale) where
             along-stops file at e 400 no_scale i b y l x held.Broken behind ex (held-broken file (b + 1) e m 400 x (omega (arith, behind)) y.within em eo t) refl
 
       -- x is what the rule of an interval answers
-      module _ (ei : Interval ≡ rule_of 400 no_scale i) {x : Number} (q : x ≡ interval_of (take (b + 1 + m - (b + 1)) (drop (b + 1) file))) where
-        pub interval-on : {v : ℕ} → x ≡ Is v → Along file at e 400 no_scale (i + 1) (b + 1 + m)
+      module _ (ei : Interval ≡ rule_of 400 no_scale i) {x : Option ℕ} (q : x ≡ interval_of (take (b + 1 + m - (b + 1)) (drop (b + 1) file))) where
+        pub interval-on : {v : ℕ} → x ≡ Some v → Along file at e 400 no_scale (i + 1) (b + 1 + m)
         unfolding obeys
         interval-on h = run_on Interval ei (sym (ap is_number (sym q ∙ h))) refl
 
-        pub interval-stops : x ≡ Bad → Broken file at e 400 no_scale (b + 1 - at) (i + 1)
+        pub interval-stops : x ≡ None → Broken file at e 400 no_scale (b + 1 - at) (i + 1)
         unfolding obeys
         interval-stops h = run-stops Interval ei (sym (ap is_number (sym q ∙ h))) refl
 
-        pub interval-is : {v : ℕ} → x ≡ Is v → v ≡ number_in (interval_of (field i fs))
+        pub interval-is : {v : ℕ} → x ≡ Some v → v ≡ number_in (interval_of (field i fs))
         interval-is h = ap number_in (sym h) ∙ ap number_in (q ∙ ap interval_of said)
 
       -- g is what the rule of a quality answers
-      module _ (ei : Quality ≡ rule_of 400 no_scale i) {g : Graded} (q : g ≡ quality_of 400 (take (b + 1 + m - (b + 1)) (drop (b + 1) file))) where
-        pub quality-on : {f v : ℕ} → g ≡ graded.Of f v → Along file at e 400 no_scale (i + 1) (b + 1 + m)
+      module _ (ei : Quality ≡ rule_of 400 no_scale i) {g : Option Grade} (q : g ≡ quality_of 400 (take (b + 1 + m - (b + 1)) (drop (b + 1) file))) where
+        pub quality-on : {f v : ℕ} → g ≡ Some (grade f v) → Along file at e 400 no_scale (i + 1) (b + 1 + m)
         unfolding obeys
         quality-on h = run_on Quality ei (sym (ap is_graded (sym q ∙ h))) refl
 
-        pub quality-stops : g ≡ graded.Bad → Broken file at e 400 no_scale (b + 1 - at) (i + 1)
+        pub quality-stops : g ≡ None → Broken file at e 400 no_scale (b + 1 - at) (i + 1)
         unfolding obeys
         quality-stops h = run-stops Quality ei (sym (ap is_graded (sym q ∙ h))) refl
 
-        quality-is : {f v : ℕ} → g ≡ graded.Of f v → graded.Of f v ≡ quality_of 400 (field i fs)
+        quality-is : {f v : ℕ} → g ≡ Some (grade f v) → Some (grade f v) ≡ quality_of 400 (field i fs)
         quality-is h = sym h ∙ q ∙ ap (quality_of 400) said
 
-      module _ (ei : Reason ≡ rule_of 400 no_scale i) {x : Number} (q : x ≡ reason_of (take (b + 1 + m - (b + 1)) (drop (b + 1) file))) where
-        pub reason-on : {v : ℕ} → x ≡ Is v → Along file at e 400 no_scale (i + 1) (b + 1 + m)
+      module _ (ei : Reason ≡ rule_of 400 no_scale i) {x : Option ℕ} (q : x ≡ reason_of (take (b + 1 + m - (b + 1)) (drop (b + 1) file))) where
+        pub reason-on : {v : ℕ} → x ≡ Some v → Along file at e 400 no_scale (i + 1) (b + 1 + m)
         unfolding obeys
         reason-on h = run_on Reason ei (sym (ap is_number (sym q ∙ h))) refl
 
-        pub reason-stops : x ≡ Bad → Broken file at e 400 no_scale (b + 1 - at) (i + 1)
+        pub reason-stops : x ≡ None → Broken file at e 400 no_scale (b + 1 - at) (i + 1)
         unfolding obeys
         reason-stops h = run-stops Reason ei (sym (ap is_number (sym q ∙ h))) refl
 
-        pub reason-is : {v : ℕ} → x ≡ Is v → v ≡ number_in (reason_of (field i fs))
+        pub reason-is : {v : ℕ} → x ≡ Some v → v ≡ number_in (reason_of (field i fs))
         reason-is h = ap number_in (sym h) ∙ ap number_in (q ∙ ap reason_of said)
 
   -- ---- the last field ends where the record does
@@ -170,17 +167,17 @@ module _ (file : List ℕ) (at e : ℕ) (y : Typed file at e 400 no_scale) where
 
   -- ---- what the next part is told
 
-  pub grades : (b m : ℕ) (l : Along file at e 400 no_scale 3 b) → m ≡ span_of (other 44) (take (e - (b + 1)) (drop (b + 1) file)) → {g : Graded} {f v : ℕ}
-      → g ≡ quality_of 400 (take (b + 1 + m - (b + 1)) (drop (b + 1) file)) → g ≡ graded.Of f v → Grades file at e (b + 1) f v
+  pub grades : (b m : ℕ) (l : Along file at e 400 no_scale 3 b) → m ≡ span_of (other 44) (take (e - (b + 1)) (drop (b + 1) file)) → {g : Option Grade} {f v : ℕ}
+      → g ≡ quality_of 400 (take (b + 1 + m - (b + 1)) (drop (b + 1) file)) → g ≡ Some (grade f v) → Grades file at e (b + 1) f v
   grades b m l em q h =
       record { place = starts 3 b l (omega arith); is = quality-is 3 b l (omega arith) m em row-quality q h }
 
-  pub spans : (b m from to : ℕ) (l : Along file at e 400 no_scale 2 b) → m ≡ span_of (other 44) (take (e - (b + 1)) (drop (b + 1) file)) → {x : Number}
-      → from ≡ first_in fs → x ≡ interval_of (take (b + 1 + m - (b + 1)) (drop (b + 1) file)) → x ≡ Is to → Spans file at e from to
+  pub spans : (b m from to : ℕ) (l : Along file at e 400 no_scale 2 b) → m ≡ span_of (other 44) (take (e - (b + 1)) (drop (b + 1) file)) → {x : Option ℕ}
+      → from ≡ first_in fs → x ≡ interval_of (take (b + 1 + m - (b + 1)) (drop (b + 1) file)) → x ≡ Some to → Spans file at e from to
   unfolding last_in
   spans b m from to l em ef q h = record { first = ef; last = interval-is 2 b l (omega arith) m em row_last q h }
 
-  pub first : (b m from : ℕ) (l : Along file at e 400 no_scale 1 b) → m ≡ span_of (other 44) (take (e - (b + 1)) (drop (b + 1) file)) → {x : Number}
-      → x ≡ interval_of (take (b + 1 + m - (b + 1)) (drop (b + 1) file)) → x ≡ Is from → from ≡ first_in fs
+  pub first : (b m from : ℕ) (l : Along file at e 400 no_scale 1 b) → m ≡ span_of (other 44) (take (e - (b + 1)) (drop (b + 1) file)) → {x : Option ℕ}
+      → x ≡ interval_of (take (b + 1 + m - (b + 1)) (drop (b + 1) file)) → x ≡ Some from → from ≡ first_in fs
   unfolding first_in
   first b m from l em q h = interval-is 1 b l (omega arith) m em row_first q h

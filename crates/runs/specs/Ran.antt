@@ -1,13 +1,11 @@
 -- A 400 that was read in one go, for the contracts of the inner functions.
-use Rattle.std.specs.Prelude.{ℕ, ◌≡◌, List}
+use Rattle.std.specs.Prelude.{ℕ, ◌≡◌, List, Some}
 use Rattle.ground.specs.Lists.{part}
 use Rattle.format.specs.Cut.{fields, field}
 use Rattle.format.specs.Records.{no_scale, first_in, last_in}
 use Rattle.format.specs.Day.{row_at, tag_at}
-use Rattle.format.specs.Faults.{fault_in}
-use Rattle.format.specs.Quality.{quality_of}
-use Rattle.format.specs.declared.Fault.TheVariants.{Fine}
-use Rattle.format.specs.declared.Graded.TheVariants.{Of}
+use Rattle.format.specs.Faults.{fault_in, Fine}
+use Rattle.format.specs.Quality.{quality_of, grade}
 use Rattle.format.specs.declared.Tag.{Tag}
 use Rattle.lines.specs.Places.{Starts}
 use Rattle.record.specs.Walk.{Broken}
@@ -22,7 +20,7 @@ pub record Spans (file : List ℕ) (at e from to : ℕ) : Type 0 where
 -- its quality, which stands at q
 pub record Grades (file : List ℕ) (at e q flag method : ℕ) : Type 0 where
   pub place : Starts file (fields (part file at e)) at 3 q e
-  pub is : Of flag method ≡ quality_of 400 (field 3 (fields (part file at e)))
+  pub is : Some (grade flag method) ≡ quality_of 400 (field 3 (fields (part file at e)))
 
 -- every field meets its rule; its intervals, where its quality stands, and its mark
 pub record Ran (file : List ℕ) (at e from to q : ℕ) (t : Tag) : Type 0 where
@@ -32,5 +30,5 @@ pub record Ran (file : List ℕ) (at e from to q : ℕ) (t : Tag) : Type 0 where
   pub tag : t ≡ tag_at 400 (row_at at (part file at e)) 3
 
 abbrev pub Runs : List ℕ → ℕ → ℕ → Run → Type 0
-Runs file at e (run.Of from to q t) = Ran file at e from to q t
+Runs file at e (run.Some (grade from to) q t) = Ran file at e from to q t
 Runs file at e (run.Broken o i) = Broken file at e 400 no_scale o i

@@ -8,7 +8,7 @@ ghost use Rattle.format.specs.Records.{no_scale, first_in};
 ghost use Rattle.record.specs.Walk.{Typed, Along};
 ghost use Rattle.runs.specs.Ran.{Spans, Grades, Runs};
 
-use format::{Graded, Number, Tag};
+use format::{Graded, Tag};
 use lines::pieces::field_end;
 use says::start_of;
 
@@ -37,7 +37,7 @@ fn reasoned(
     let x = b + 1;
     let c = x + field_end(&file[x..e]);
     let r = number_rules::reason(&file[x..c]);
-    let Number::Is(reason) = r else {
+    let Some(reason) = r else {
         return Run::Broken(x - at, 5);
     };
     let y = c + 1;
@@ -81,7 +81,7 @@ fn ended(file: &[u8], at: usize, e: usize, b: usize, from: usize) -> Run
     let p = b + 1;
     let c = p + field_end(&file[p..e]);
     let x = number_rules::interval(&file[p..c]);
-    let Number::Is(to) = x else {
+    let Some(to) = x else {
         return Run::Broken(p - at, 3);
     };
     graded(file, at, e, c, from, to as usize)
@@ -96,7 +96,7 @@ pub fn run_at(file: &[u8], at: usize, e: usize) -> Run
     let a = b + 1;
     let c = a + field_end(&file[a..e]);
     let x = number_rules::interval(&file[a..c]);
-    let Number::Is(from) = x else {
+    let Some(from) = x else {
         return Run::Broken(a - at, 2);
     };
     ended(file, at, e, c, from as usize)

@@ -12,17 +12,17 @@ ghost use Rattle.format.specs.Quality.{flag_in, method_in};
 ghost use Rattle.format.specs.Records.{kind_in, millionths};
 ghost use Rattle.format.specs.Day.{row_at, tag_at};
 
-use format::{Graded, Number, Tag};
+use format::{Graded, Tag};
 use lines::pieces::{field_at, first_field};
 use units::named_decimals;
 
 // The number, 0 where there is none.
-pub fn number_in(x: Number) -> u64
+pub fn number_in(x: Option<u64>) -> u64
     ensures { result ≡ number_in x }
 {
     match x {
-        Number::Is(v) => v,
-        Number::Bad => 0,
+        Some(v) => v,
+        None => 0,
     }
 }
 
@@ -36,8 +36,8 @@ pub fn kind_at(file: &[u8], at: usize, e: usize) -> u64
         if file[z] == 44 {
             let x = quick_kinds::indicator(&file[at..z]);
             match x {
-                Number::Is(k) => return k,
-                Number::Bad => {}
+                Some(k) => return k,
+                None => {}
             }
         }
     }

@@ -1,5 +1,6 @@
 -- A block inside a file: where one may stand, what the check does behind it, which day a reading finds there, and that a 900 may close the file behind it.
 -- Assumes nothing.
+use Rattle.std.proofs.Common.{Some}
 use Prim.Native.Nat.{ℕ, ◌+◌, ◌≤◌, ◌<◌}
 use mathlib.Core.Path.{◌≡◌, refl, sym, ap, ap₂, ◌∙◌, subst}
 use mathlib.Core.Bool.{true, false}
@@ -17,11 +18,9 @@ use Rattle.format.specs.Cut.{Lines, line, rest, lines, fields, field}
 use Rattle.format.specs.Records.{is_kind, indicator_of, kind_in, row_of, count_of, rule_of, obeys, unit_field, unit_in, decimals_in, intervals_in, qualities_of}
 use Rattle.format.specs.Order.{may_come, in_day, is_end, Due, begun, is_varied, on300, after_of}
 use Rattle.format.specs.Answers.{accepted}
-use Rattle.format.specs.Faults.{is_open, fault_in, broken_in, is_not_later, is_off, is_alike, is_elsewhere, fault_of}
+use Rattle.format.specs.Faults.{is_open, fault_in, broken_in, is_not_later, is_off, is_alike, is_elsewhere, fault_of, Fine}
 use Rattle.format.specs.File.{after, walk_of, most, check_of}
 use Rattle.format.specs.Day.{Row, row_at, BlockRows, DayRows, runs_from, day_from, days_from, days_of, tags_of, Day, marks_of, day_of}
-use Rattle.format.specs.declared.Fault.TheVariants.{Fine}
-use Rattle.format.specs.declared.Number.TheVariants.{Is}
 use Rattle.format.proofs.Cut.{bytes_of, bytes-lines}
 use Rattle.format.proofs.States.{implied, not-ended}
 use Rattle.passing.specs.Passes.{kinds_of, unit_before, Free, Accepted, Awaits, Leads}
@@ -71,7 +70,7 @@ module _ (st : Due) (b : List ℕ) (a : Accepted st b) where
   behind-day p c d n h t l = let w = ended p c d n h in record { free = a.free; intervals = w.n; decimals = w.decimals; earlier = omega (arith, w.date) }
 
 -- behind a 200, in its unit u
-pub behind-200 : (st : Due) (r : List ℕ) (u : ℕ) → kind_in (fields r) ≡ 200 → unit_of (field unit_field (fields r)) ≡ Is u → (date : ℕ) → 1 ≤ date
+pub behind-200 : (st : Due) (r : List ℕ) (u : ℕ) → kind_in (fields r) ≡ 200 → unit_of (field unit_field (fields r)) ≡ Some u → (date : ℕ) → 1 ≤ date
     → Awaits (after st r) (intervals_in (fields r)) (decimals_of u) date
 unfolding after_of is_open decimals_in decimals_named
 behind-200 st r u k e t l = rw k (record { free = (refl, refl); intervals = refl; decimals = rw e; earlier = l })

@@ -1,5 +1,6 @@
 -- No accepted block that says the same day has fewer records, or fewer bytes, than the block that is written. Each field that is read so is no shorter
 -- than the text that is written for it, and the 400s are a cover of the day's marks. Assumes nothing.
+use Rattle.std.proofs.Common.{Some}
 use Prim.Native.Nat.{ℕ, zero, suc, ◌+◌, ◌-◌, ◌≤◌, zero-le}
 use mathlib.Core.Path.{◌≡◌, refl, sym, ap, ◌∙◌, subst}
 use mathlib.Core.Logic.{◌≢◌}
@@ -28,7 +29,6 @@ use Rattle.format.proofs.NumberText.{small-shortest, reason-shortest, date-lengt
 use Rattle.format.proofs.ValueText.{value_same, value-shortest}
 use Rattle.format.proofs.MarkText.{quality-shortest, length-mark}
 use Rattle.format.proofs.CoverText.{length_run, runs-fewest, cover-shortest, runs-spell, runs-are-proper, uniform-is}
-use Rattle.format.specs.declared.Number.TheVariants.{Is}
 use Rattle.format.proofs.Cut.{bytes_of, bytes-lines}
 use Rattle.format.proofs.Forms.{uniform-top, uniform-tail, varied-top, varied-tail}
 use Rattle.passing.specs.Passes.{Passes, kinds_of}
@@ -76,7 +76,7 @@ values-least d (v ∷ vs) h =
 
 interval-least : (s : List ℕ) (i : ℕ) → is_number (interval_of s) ≡ true → number_in (interval_of s) ≡ i → length (dec i) ≤ length s
 unfolding interval_of
-interval-least s i h e = small-shortest 4 s i (number_is (interval_of s) h ∙ ap Is e)
+interval-least s i h e = small-shortest 4 s i (number_is (interval_of s) h ∙ ap Some e)
 
 -- ---- the 400s of a V day
 

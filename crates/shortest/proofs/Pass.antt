@@ -12,10 +12,9 @@ use Rattle.ground.proofs.Cases.{by}
 use Rattle.format.specs.Cut.{Lines, line, rest, lines, fields}
 use Rattle.format.specs.Records.{Scale, scale_for, kind_in, unit_in, intervals_in, date_in, first_in, last_in, mark_in}
 use Rattle.format.specs.Order.{may_come, in_day, in_varied, share_with, Due, is_varied, alike_with, on300, on400, on500, after_of}
-use Rattle.format.specs.Faults.{scale_of, is_open, is_not_later, covers, is_off, is_alike, is_elsewhere, fault_of}
+use Rattle.format.specs.Faults.{scale_of, is_open, is_not_later, covers, is_off, is_alike, is_elsewhere, fault_of, Fine}
 use Rattle.format.specs.File.{after, behind200}
 use Rattle.format.specs.Day.{Row, DayRows, runs_from, day_from, days_from, Day, day_of}
-use Rattle.format.specs.declared.Fault.TheVariants.{Fine}
 use Rattle.format.proofs.States.{implied}
 use Rattle.passing.specs.Passes.{Passes, kinds_of, are_under, is_block, Free, Accepted}
 use Rattle.passing.proofs.Fit.{Ok, fit-fine, free-if, free-400}

@@ -1,4 +1,5 @@
 -- For each interval length and unit there is a 200, and a file's beginning with it, a short one, behind which a day of them may stand. Assumes nothing.
+use Rattle.std.proofs.Common.{Some}
 use Prim.Native.Nat.{ℕ, ◌≤◌, ◌<◌}
 use mathlib.Core.Path.{◌≡◌, refl, sym, ap, ◌∙◌, subst}
 use mathlib.Core.Logic.{◌≢◌}
@@ -24,7 +25,6 @@ use Rattle.format.specs.Order.{first200, first300, Due, due, begun, on100, on200
 use Rattle.format.specs.Faults.{is_open, is_not_later, is_off, is_alike, is_elsewhere}
 use Rattle.format.specs.File.{behind200}
 use Rattle.format.specs.Day.{no_channel}
-use Rattle.format.specs.declared.Number.TheVariants.{Is}
 use Rattle.format.specs.declared.Rule.TheVariants.{Nmi, Configuration, Register, Suffix, Stream, Serial, Unit, Length, NextRead}
 use Rattle.format.proofs.Numbers.{intervals-known}
 use Rattle.format.proofs.NumberText.{small-back}
@@ -69,7 +69,7 @@ module _ (m u : ℕ) (z : intervals_of m ≢ 0) (h : is_unit u ≡ true) where
       λ e₁. by (eqb m 15) (λ e. let y = eqb-true m 15 e in omega arith)
       λ e₂. let y = eqb-true m 30 (let x : eqb m 30 ≡ true = (rw (e₁, e₂) at known) in x) in omega arith
 
-  length_back : length_of (dec m) ≡ Is m
+  length_back : length_of (dec m) ≡ Some m
   unfolding length_of
   length_back = rw (small-back 2 m (omega arith) (omega (arith, small)) (omega (arith, small)), known)
 

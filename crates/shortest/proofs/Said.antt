@@ -1,4 +1,5 @@
 -- A day that an accepted block says is fit. Assumes nothing.
+use Rattle.std.proofs.Common.{Option, Some, None}
 use Prim.Native.Nat.{ℕ, zero, suc, ◌+◌, ◌-◌, ◌^◌}
 use mathlib.Core.Path.{◌≡◌, refl, sym, ap, ◌∙◌}
 use mathlib.Core.Logic.{◌≢◌}
@@ -15,17 +16,13 @@ use Rattle.ground.proofs.Tests.{or_right}
 use Rattle.format.specs.Numbers.{is_number, number_in, number_of, small_of, no_reason, reason_of, value_of}
 use Rattle.format.specs.Units.{is_unit, decimals_of}
 use Rattle.format.specs.Dates.{is_date, is_time, date_of, time_of, load_of}
-use Rattle.format.specs.Quality.{stands_alone, takes_method, no_method, with_method, quality_of, is_graded, flag_in, method_in, Mark}
+use Rattle.format.specs.Quality.{stands_alone, takes_method, no_method, with_method, quality_of, is_graded, flag_in, method_in, Mark, grade}
 use Rattle.format.specs.Cut.{Lines, line, rest, fields, field}
 use Rattle.format.specs.Records.{kind_in, unit_field, unit_in, decimals_in, millionths, first_in, last_in, mark_at, mark_in, agrees, qualities_of}
 use Rattle.format.specs.Order.{Due, is_varied}
 use Rattle.format.specs.File.{after}
 use Rattle.format.specs.Day.{runs_from, cover_of, each_of, values_of, Day, marks_of, day_of}
 use Rattle.format.specs.Block.{fit_quality, fit_reason, fit_mark, fit_value, fit_day}
-use Rattle.format.specs.declared.Graded.{Graded}
-use Rattle.format.specs.declared.Graded.TheVariants.{Of}
-use Rattle.format.specs.declared.Number.{Number}
-use Rattle.format.specs.declared.Number.TheVariants.{Is, Bad}
 use Rattle.format.proofs.Numbers.{that-holds, under, under-is, number-under, small-under}
 use Rattle.format.proofs.Units.{unit-in, unit-decimals}
 use Rattle.format.proofs.ValueText.{value-fits}
@@ -40,6 +37,7 @@ use Rattle.theorems.proofs.Told.{fit-rec, fit-300}
 use Rattle.shortest.specs.Blocks.{Says}
 use Rattle.shortest.proofs.Shapes.{number_is, value-is, said, Marking, Top, top_of, stretch-of}
 use Rattle.shortest.proofs.Steps.{read-day}
+use Rattle.format.specs.declared.Grade.{Grade}
 
 -- ---- single fields
 
@@ -68,18 +66,18 @@ reason-fit s h =
     rw t (or_right (eqb (number_in (small_of 3 s)) no_reason) (ltb (number_in (small_of 3 s)) 1000)
     (lt-ltb _ _ (under-is (10 ^ 3) (small-under 3 s) (number_is (small_of 3 s) g)))))
 
-abbrev Fits : Graded → Type 0
+abbrev Fits : Option Grade → Type 0
 Fits x = is_graded x ≡ true → flag_in x ≢ 86 → fit_quality (flag_in x) (method_in x) ≡ true
 
-fits-alone : (k c : ℕ) (b : Bool) → stands_alone k c ≡ true → Fits (cond b (Of c no_method) Graded.Bad)
+fits-alone : (k c : ℕ) (b : Bool) → stands_alone k c ≡ true → Fits (cond b (Some (grade c no_method)) None)
 unfolding fit_quality stands_alone
 fits-alone k c true a h n = alone-is k c a (λ e. rw e) (λ e. rw e) (λ e. absurd (n e))
 fits-alone k c false a h n = absurd (false≢true h)
 
-fits-method : (c : ℕ) (x : Number) (b : Bool) → takes_method c ≡ b → under 100 x → Fits (cond b (with_method c x) Graded.Bad)
+fits-method : (c : ℕ) (x : Option ℕ) (b : Bool) → takes_method c ≡ b → under 100 x → Fits (cond b (with_method c x) None)
 unfolding fit_quality
-fits-method c (Is m) true t u h n = rw (method-flag 400 c t, t) (lt-ltb m 100 (under-is 100 u refl))
-fits-method c Bad true t u h n = absurd (false≢true h)
+fits-method c (Some m) true t u h n = rw (method-flag 400 c t, t) (lt-ltb m 100 (under-is 100 u refl))
+fits-method c None true t u h n = absurd (false≢true h)
 fits-method c x false t u h n = absurd (false≢true h)
 
 -- a quality that is not V is one that a 400 may carry
@@ -91,15 +89,15 @@ quality-fit k s =
     (λ t. rw t (fits-method (get_or s 0 0) (number_of 2 2 (drop 1 s)) (takes_method (get_or s 0 0)) refl (number-under 2 2 (drop 1 s))))
 
 -- V is no quality of a 400
-v-alone : (c : ℕ) (b : Bool) → stands_alone 400 c ≡ true → flag_in (cond b (Of c no_method) Graded.Bad) ≢ 86
+v-alone : (c : ℕ) (b : Bool) → stands_alone 400 c ≡ true → flag_in (cond b (Some (grade c no_method)) None) ≢ 86
 unfolding stands_alone
 v-alone c true t e = false≢true (rw e at t)
 v-alone c false t e = omega arith
 
-v-method : (c : ℕ) (x : Number) (b : Bool) → takes_method c ≡ b → flag_in (cond b (with_method c x) Graded.Bad) ≢ 86
+v-method : (c : ℕ) (x : Option ℕ) (b : Bool) → takes_method c ≡ b → flag_in (cond b (with_method c x) None) ≢ 86
 unfolding takes_method
-v-method c (Is m) true t e = false≢true (rw e at t)
-v-method c Bad true t e = omega arith
+v-method c (Some m) true t e = false≢true (rw e at t)
+v-method c None true t e = omega arith
 v-method c x false t e = omega arith
 
 no-v : (s : List ℕ) → flag_in (quality_of 400 s) ≢ 86

@@ -1,4 +1,5 @@
 -- A 300 and a 400 taken apart into their fields, each with what its rule says of it. Assumes nothing.
+use Rattle.std.proofs.Common.{Option, Some, None}
 use Prim.Native.Nat.{ℕ, zero, suc, ◌+◌}
 use mathlib.Core.Path.{◌≡◌, refl, sym, ap, ◌∙◌, subst}
 use mathlib.Core.Logic.{◌≢◌}
@@ -17,33 +18,30 @@ use Rattle.format.specs.Bytes.{field_byte, are_all}
 use Rattle.format.specs.Texts.{is_description}
 use Rattle.format.specs.Numbers.{is_number, number_in, number_of, interval_of, reason_of, value_of}
 use Rattle.format.specs.Dates.{date_of, time_of, load_of}
-use Rattle.format.specs.Quality.{quality_of, is_graded, flag_in, method_in, Mark}
+use Rattle.format.specs.Quality.{quality_of, is_graded, flag_in, method_in, Mark, grade}
 use Rattle.format.specs.Cut.{field}
 use Rattle.format.specs.Records.{scale, indicator_of, kind_in, row_of, obeys, date_in, millionths, values_in, update_in, load_in, first_in, last_in, mark_at, mark_in}
 use Rattle.format.specs.Order.{is_varied}
-use Rattle.format.specs.declared.Number.{Number}
-use Rattle.format.specs.declared.Number.TheVariants.{Is, Bad}
-use Rattle.format.specs.declared.Graded.{Graded}
-use Rattle.format.specs.declared.Graded.TheVariants.{Of}
 use Rattle.format.specs.declared.Rule.{Rule}
 use Rattle.format.specs.declared.Rule.TheVariants.{Value, Quality, Reason, Description, Time, Load}
 use Rattle.format.proofs.ValueText.{value_same}
 use Rattle.theorems.specs.Grammar.{Each, Record, Meets, IsRecord}
+use Rattle.format.specs.declared.Grade.{Grade}
 
 -- ---- single fields
 
-pub number_is : (x : Number) → is_number x ≡ true → x ≡ Is (number_in x)
-number_is (Is v) h = refl
-number_is Bad h = absurd (false≢true h)
+pub number_is : (x : Option ℕ) → is_number x ≡ true → x ≡ Some (number_in x)
+number_is (Some v) h = refl
+number_is None h = absurd (false≢true h)
 
-pub graded-is : (x : Graded) → is_graded x ≡ true → x ≡ Of (flag_in x) (method_in x)
-graded-is (Of q m) h = refl
-graded-is Graded.Bad h = absurd (false≢true h)
+pub graded-is : (x : Option Grade) → is_graded x ≡ true → x ≡ Some (grade (flag_in x) (method_in x))
+graded-is (Some (grade q m)) h = refl
+graded-is None h = absurd (false≢true h)
 
 -- a value with at most d decimals is the number that is read of it, whatever d is
-pub value-is : (d : ℕ) (s : List ℕ) → is_number (value_of d s) ≡ true → value_of d s ≡ Is (millionths s)
+pub value-is : (d : ℕ) (s : List ℕ) → is_number (value_of d s) ≡ true → value_of d s ≡ Some (millionths s)
 unfolding millionths
-value-is d s h = let e = number_is (value_of d s) h in e ∙ ap Is (sym (ap number_in (value_same d s (number_in (value_of d s)) e)))
+value-is d s h = let e = number_is (value_of d s) h in e ∙ ap Some (sym (ap number_in (value_same d s (number_in (value_of d s)) e)))
 
 -- an indicator has three bytes
 pub indicator-long : (f : List ℕ) (fs : Record) (k : ℕ) → kind_in (f ∷ fs) ≡ k → k ≢ 0 → length f ≡ 3

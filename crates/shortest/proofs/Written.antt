@@ -1,4 +1,5 @@
 -- The written block as records: they are a block of the grammar, and their bytes are the block's. Assumes nothing.
+use Rattle.std.proofs.Common.{Some}
 use Prim.Native.Nat.{ℕ, zero, suc, ◌+◌, ◌^◌, ◌≤◌, ◌<◌}
 use mathlib.Core.Path.{◌≡◌, refl, sym, ap, ◌∙◌, subst}
 use mathlib.Core.Logic.{◌≢◌}
@@ -19,7 +20,6 @@ use Rattle.format.specs.Dates.{is_date, is_time}
 use Rattle.format.specs.Quality.{Mark}
 use Rattle.format.specs.Records.{scale_for, is_kind, indicator_of, kind_in, row_of, obeys, qualities_of, mark_at, mark_in, first_in, last_in}
 use Rattle.format.specs.Block.{fit_mark, fit_value, value_text, quality_text, reason_text, load_text, comma, crlf, mark_text, values_text, run_text, cover_text}
-use Rattle.format.specs.declared.Number.TheVariants.{Is}
 use Rattle.format.specs.declared.Rule.{Rule}
 use Rattle.format.specs.declared.Rule.TheVariants.{Indicator, Date, Value, Quality, Reason, Description, Time, Load, Interval}
 use Rattle.format.proofs.NumberText.{small-back, date-back, time-back, load-back}
@@ -170,7 +170,7 @@ fitting a (run (suc k) m ∷ c) p h b =
       fitting (a + suc k) c (and-true (leb 1 (suc k)) (proper c) p).1 (drop-fit (suc k) m (spell c) h) (omega arith),
     )
 
-interval-back : (i : ℕ) → i < 10 ^ 4 → interval_of (dec i) ≡ Is i
+interval-back : (i : ℕ) → i < 10 ^ 4 → interval_of (dec i) ≡ Some i
 unfolding interval_of
 interval-back i h = small-back 4 i (omega arith) h (omega arith)
 

@@ -1,4 +1,5 @@
 -- A value read byte by byte, its digits and its point. Assumes nothing.
+use Rattle.std.proofs.Common.{Some}
 use Prim.Native.Nat.{ℕ, suc, ◌+◌, ◌-◌, ◌*◌, ◌^◌, ◌≤◌, ◌<◌}
 use mathlib.Core.Path.{◌≡◌, refl, sym, ◌∙◌, ap}
 use mathlib.Core.List.{List, [], ◌∷◌, ◌++◌, append-nil}
@@ -16,7 +17,6 @@ use Rattle.ground.proofs.Lists.{rest}
 use Rattle.ground.proofs.Spans.{span-block, part_length}
 use Rattle.format.specs.Numbers.{point, before, behind, decimals, fraction_of, value_of}
 use Rattle.format.specs.Records.{millionths}
-use Rattle.format.specs.declared.Number.TheVariants.{Is}
 use Rattle.format.proofs.Numbers.{value-below}
 use Rattle.format.proofs.NumberText.{digits_are}
 use Rattle.format.proofs.ValueText.{point-behind}
@@ -55,11 +55,11 @@ decimal-shift v (b ∷ s) =
     let m : (v * 10 + d) * k ≡ v * (k * 10) + (0 * 10 + d) * k = rw (add-mul, mul_assoc) (omega (arith, mul_comm 10 k)) in
     rw (pow-suc 10 (length s)) (omega (arith, decimal-shift (v * 10 + (b - 48)) s, decimal-shift (0 * 10 + (b - 48)) s, m))
 
-whole-number : (u : List ℕ) → all is_digit u ≡ true → 1 ≤ length u → length u ≤ 7 → value_of decimals u ≡ Is (decimal u * 10 ^ 6)
+whole-number : (u : List ℕ) → all is_digit u ≡ true → 1 ≤ length u → length u ≤ 7 → value_of decimals u ≡ Some (decimal u * 10 ^ 6)
 unfolding value_of span_of
 whole-number u h l m =
     let p : point u ≡ length u = ap point (sym (append-nil u)) ∙ point-behind u [] h ∙ omega arith in
-    rw (eq-eqb (point u) (length u) p, digits_are 1 7 u l m h) (ap Is (omega arith))
+    rw (eq-eqb (point u) (length u) p, digits_are 1 7 u l m h) (ap Some (omega arith))
 
 scale : (v w n : ℕ) → n ≤ 6 → v * 10 ^ 6 + w * 10 ^ (6 - n) ≡ (v * 10 ^ n + w) * 10 ^ (6 - n)
 scale v w n h =
@@ -68,7 +68,7 @@ scale v w n h =
     rw (← p) (omega arith)
 
 point-number : (u v : List ℕ) → all is_digit u ≡ true → 1 ≤ length u → length u ≤ 7 → all is_digit v ≡ true → 1 ≤ length v → length v ≤ 6
-    → value_of decimals (u ++ 46 ∷ v) ≡ Is (decimal_from (decimal u) v * 10 ^ (6 - length v))
+    → value_of decimals (u ++ 46 ∷ v) ≡ Some (decimal_from (decimal u) v * 10 ^ (6 - length v))
 unfolding value_of fraction_of span_of
 point-number u v h l m h₂ l₂ m₂ =
     let s : List ℕ = u ++ 46 ∷ v in
@@ -76,9 +76,9 @@ point-number u v h l m h₂ l₂ m₂ =
     let g : (point s ≡ length s → ⊥) = λ r. omega (arith, length-append u (46 ∷ v)) in
     let b : before s ≡ u = ap (λ (k : ℕ). take k s) p ∙ take-append_seam u (46 ∷ v) in
     let c : behind s ≡ v = ap (λ (k : ℕ). drop (k + 1) s) p ∙ drop-append-add u (46 ∷ v) 1 in
-    rw (ne_eqb (point s) (length s) g, b, c, digits_are 1 7 u l m h, digits_are 1 6 v l₂ m₂ h₂, decimal-shift (decimal u) v) (ap Is (scale (decimal u) (decimal v) (length v) m₂))
+    rw (ne_eqb (point s) (length s) g, b, c, digits_are 1 7 u l m h, digits_are 1 6 v l₂ m₂ h₂, decimal-shift (decimal u) v) (ap Some (scale (decimal u) (decimal v) (length v) m₂))
 
-number_is : (s : List ℕ) (v : ℕ) → value_of decimals s ≡ Is v → (v ≡ millionths s) × (v < 10 ^ 13)
+number_is : (s : List ℕ) (v : ℕ) → value_of decimals s ≡ Some v → (v ≡ millionths s) × (v < 10 ^ 13)
 unfolding millionths
 number_is s v e = (rw e, value-below decimals s v e)
 

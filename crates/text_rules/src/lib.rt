@@ -6,7 +6,6 @@ ghost use Rattle.std.specs.Prelude.{◌≡◌};
 ghost use Rattle.format.specs.Texts.{is_nmi, is_suffix, is_stream, is_party, is_configuration, is_register, is_serial, is_service_order, is_description, is_direction, is_trans_code, version_of};
 
 use classes::{Class, all_in, are_all};
-use format::Number;
 use leaf::bytes::{same_bytes, text};
 
 pub fn nmi(f: &[u8]) -> bool
@@ -86,14 +85,14 @@ pub fn trans_code(f: &[u8]) -> bool
 }
 
 // 12 or 13.
-pub fn version(f: &[u8]) -> Number
+pub fn version(f: &[u8]) -> Option<u64>
     ensures { result ≡ version_of f.now }
 {
     if same_bytes(f, b"NEM12") {
-        return Number::Is(12);
+        return Some(12);
     }
     if same_bytes(f, b"NEM13") {
-        return Number::Is(13);
+        return Some(13);
     }
-    Number::Bad
+    None
 }

@@ -13,8 +13,7 @@ use Rattle.format.specs.Numbers.{no_reason}
 use Rattle.format.specs.Cut.{start_of}
 use Rattle.format.specs.Quality.{Mark, needs_reason, across}
 use Rattle.format.specs.Records.{mark_at, agrees, qualities_of}
-use Rattle.format.specs.Faults.{broken_in, f7}
-use Rattle.format.specs.declared.Fault.TheVariants.{Fine, Stop}
+use Rattle.format.specs.Faults.{broken_in, f7, Fine, Stop}
 use Rattle.theorems.specs.Grammar.{Each, Record, Together}
 
 module _ (m : Mark) where

@@ -1,4 +1,5 @@
 -- A field that meets its rule neither begins nor ends with a space: a law for each rule, and so for each row of the table. Assumes nothing.
+use Rattle.std.proofs.Common.{Option, Some, None}
 use Prim.Native.Nat.{ℕ, zero, suc, ◌+◌, ◌-◌, ◌≤◌, ◌<◌}
 use mathlib.Core.Path.{◌≡◌, refl}
 use mathlib.Core.Bool.{Bool, true, false, false≢true, cond, not, ◌&&◌}
@@ -19,12 +20,8 @@ use Rattle.format.specs.Bytes.{is_capital, is_letter, is_alnum, end_space, is_te
 use Rattle.format.specs.Texts.{is_nmi, is_suffix, is_stream, is_party, is_configuration, is_register, is_serial, is_service_order, is_description, is_direction, is_trans_code, version_of}
 use Rattle.format.specs.Numbers.{is_number, number_in, that, or_empty, number_of, small_of, leading_zero, interval_of, length_of, is_length, no_reason, reason_of, point, before, behind, times, fraction_of, amount, value_of, are_digits, is_read, is_index_read}
 use Rattle.format.specs.Dates.{is_date, is_time, is_minute, date_of, time_of, created_of, next_read_of, load_of, is_read_time, taken_of, read_time_of}
-use Rattle.format.specs.Quality.{stands_alone, takes_method, no_method, with_method, quality_of, is_graded}
+use Rattle.format.specs.Quality.{stands_alone, takes_method, no_method, with_method, quality_of, is_graded, grade}
 use Rattle.format.specs.Records.{Scale, is_kind, indicator_of, kind_in, row_of, obeys}
-use Rattle.format.specs.declared.Number.{Number}
-use Rattle.format.specs.declared.Number.TheVariants.{Is, Bad}
-use Rattle.format.specs.declared.Graded.{Graded}
-use Rattle.format.specs.declared.Graded.TheVariants.{Of}
 use Rattle.format.specs.declared.Rule.{Rule}
 use Rattle.format.specs.declared.Rule.TheVariants.{Indicator, Version, Created, Party, Nmi, Configuration, Register, Suffix, Stream, Serial, Unit, Length, NextRead, Date, Value, Quality, Reason, Description, Time, Load, Interval, TransCode, ServiceOrder, ReadTime, IndexRead, Direction, RegisterRead}
 use Rattle.format.proofs.Units.{unit-are-letters}
@@ -97,9 +94,9 @@ text-tidy a b s h = not-true _ (and-true (leb a (length s) && leb (length s) b) 
 
 -- ---- numbers
 
-of-that : (p : ℕ → Bool) (x : Number) → is_number (that p x) ≡ true → is_number x ≡ true
-of-that p (Is v) h = refl
-of-that p Bad h = h
+of-that : (p : ℕ → Bool) (x : Option ℕ) → is_number (that p x) ≡ true → is_number x ≡ true
+of-that p (Some v) h = refl
+of-that p None h = h
 
 number_digits : (a b : ℕ) (s : List ℕ) → is_number (number_of a b s) ≡ true → all is_digit s ≡ true
 unfolding number_of are_all
@@ -118,21 +115,21 @@ small-tidy m s h =
     (λ e. absurd (let z : false ≡ true = (rw e at h) in false≢true z))
     (λ e. number-tidy 1 m s (rw e at h))
 
-empty-tidy : (v : ℕ) (rule : List ℕ → Number) (s : List ℕ) → (is_number (rule s) ≡ true → end_space s ≡ false) → is_number (or_empty v rule s) ≡ true → end_space s ≡ false
+empty-tidy : (v : ℕ) (rule : List ℕ → Option ℕ) (s : List ℕ) → (is_number (rule s) ≡ true → end_space s ≡ false) → is_number (or_empty v rule s) ≡ true → end_space s ≡ false
 empty-tidy v rule s f h = by (eqb (length s) 0) (λ e. empty s e) (λ e. f (rw e at h))
 
 -- so many digits, whose number passes a test
 that-tidy : (p : ℕ → Bool) (m : ℕ) (s : List ℕ) → is_number (that p (number_of m m s)) ≡ true → end_space s ≡ false
 that-tidy p m s h = number-tidy m m s (of-that p (number_of m m s) h)
 
-amount-parts : (x y : Number) → is_number (amount x y) ≡ true → (is_number x ≡ true) × (is_number y ≡ true)
-amount-parts (Is w) (Is m) h = (refl, refl)
-amount-parts (Is w) Bad h = (refl, h)
-amount-parts Bad y h = absurd (false≢true h)
+amount-parts : (x y : Option ℕ) → is_number (amount x y) ≡ true → (is_number x ≡ true) × (is_number y ≡ true)
+amount-parts (Some w) (Some m) h = (refl, refl)
+amount-parts (Some w) None h = (refl, h)
+amount-parts None y h = absurd (false≢true h)
 
-of-times : (k : ℕ) (x : Number) → is_number (times k x) ≡ true → is_number x ≡ true
-of-times k (Is v) h = refl
-of-times k Bad h = h
+of-times : (k : ℕ) (x : Option ℕ) → is_number (times k x) ≡ true → is_number x ≡ true
+of-times k (Some v) h = refl
+of-times k None h = h
 
 -- digits before the first point and digits behind it
 split-tidy : (s : List ℕ) → all is_digit (before s) ≡ true → all is_digit (behind s) ≡ true → end_space s ≡ false
@@ -143,7 +140,7 @@ value-tidy : (d : ℕ) (s : List ℕ) → is_number (value_of d s) ≡ true → 
 unfolding value_of fraction_of
 value-tidy d s h =
     by (eqb (point s) (length s))
-    (λ e. number-tidy 1 7 s (amount-parts (number_of 1 7 s) (Is 0) (rw e at h)).0)
+    (λ e. number-tidy 1 7 s (amount-parts (number_of 1 7 s) (Some 0) (rw e at h)).0)
     (λ e.
     let u = amount-parts (number_of 1 7 (before s)) (fraction_of d (behind s)) (rw e at h) in
     split-tidy s (number_digits 1 7 (before s) u.0) (number_digits 1 _ (behind s) (of-times _ (number_of 1 _ (behind s)) u.1)))
@@ -172,9 +169,9 @@ method-byte : (b : ℕ) → takes_method b ≡ true → other 32 b ≡ true
 unfolding takes_method
 method-byte b h = by (eqb b 32) (λ e. absurd (let z : false ≡ true = (rw (eqb-true b 32 e) at h) in false≢true z)) (λ e. rw e)
 
-with_number : (q : ℕ) (x : Number) → is_graded (with_method q x) ≡ true → is_number x ≡ true
-with_number q (Is v) h = refl
-with_number q Bad h = h
+with_number : (q : ℕ) (x : Option ℕ) → is_graded (with_method q x) ≡ true → is_number x ≡ true
+with_number q (Some v) h = refl
+with_number q None h = h
 
 quality-tidy : (k : ℕ) (s : List ℕ) → is_graded (quality_of k s) ≡ true → end_space s ≡ false
 unfolding quality_of stands_alone takes_method
@@ -183,12 +180,12 @@ quality-tidy k (b ∷ s) h =
     no-space (b ∷ s)
     (by (stands_alone k b)
     (λ e.
-    let u : is_graded (cond (eqb (length (b ∷ s)) 1) (Of b no_method) Graded.Bad) ≡ true = rw e at h in
+    let u : is_graded (cond (eqb (length (b ∷ s)) 1) (Some (grade b no_method)) None) ≡ true = rw e at h in
     by (eqb (length (b ∷ s)) 1)
     (λ f. both (other 32 b) (all (other 32) s) (alone-byte k b e) (single s (eqb-true _ _ f)))
     (λ f. absurd (let z : false ≡ true = (rw f at u) in false≢true z)))
     (λ e.
-    let u : is_graded (cond (takes_method b) (with_method b (number_of 2 2 s)) Graded.Bad) ≡ true = rw e at h in
+    let u : is_graded (cond (takes_method b) (with_method b (number_of 2 2 s)) None) ≡ true = rw e at h in
     by (takes_method b)
     (λ f. both (other 32 b) (all (other 32) s) (method-byte b f)
     (all_map is_digit (other 32) digit-byte s (number_digits 2 2 s (with_number b (number_of 2 2 s) (rw f at u)))))
@@ -317,9 +314,9 @@ pub indicator-tidy : (f : List ℕ) (fs : List (List ℕ)) → (kind_in (f ∷ f
 unfolding kind_in indicator_of
 indicator-tidy f fs h = number-tidy 3 3 f (of-that is_kind (number_of 3 3 f) (some (that is_kind (number_of 3 3 f)) h))
   where
-    some : (x : Number) → (number_in x ≡ 0 → ⊥) → is_number x ≡ true
-    some (Is v) h = refl
-    some Bad h = absurd (h refl)
+    some : (x : Option ℕ) → (number_in x ≡ 0 → ⊥) → is_number x ≡ true
+    some (Some v) h = refl
+    some None h = absurd (h refl)
 
 -- ---- each row
 

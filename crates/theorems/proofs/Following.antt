@@ -13,10 +13,9 @@ use Rattle.ground.proofs.Cases.{by, same_or}
 use Rattle.format.specs.Cut.{line, rest, lines, fields}
 use Rattle.format.specs.Records.{kind_in}
 use Rattle.format.specs.Order.{may_come, in_varied, Due, begun}
-use Rattle.format.specs.Faults.{scale_of, fault_of}
+use Rattle.format.specs.Faults.{scale_of, fault_of, Stop}
 use Rattle.format.specs.Answers.{refused}
 use Rattle.format.specs.File.{walk_of, check_of}
-use Rattle.format.specs.declared.Fault.TheVariants.{Stop}
 use Rattle.format.proofs.States.{implied}
 use Rattle.passing.proofs.Fit.{Fit, fit-cover, free_of, Head, h100, h200, h300, h400, h500, h250, h550, h900, head}
 use Rattle.passing.proofs.Walk.{goes}

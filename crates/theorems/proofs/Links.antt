@@ -17,9 +17,7 @@ use Rattle.format.specs.Bytes.{plain}
 use Rattle.format.specs.Cut.{fields, field, start_of}
 use Rattle.format.specs.Records.{Scale, kind_in, count_of, rule_of, obeys, date_in, first_in, last_in, read_time_in, qualities_of, mark_at, agrees}
 use Rattle.format.specs.Order.{may_come, in_varied, Due, alike_with}
-use Rattle.format.specs.Faults.{◌▹◌, stop, f3, is_open, f10, f4, scale_of, f5, fault_in, f6, broken_in, f7, is_not_later, f8, covers, is_off, f9, is_alike, f11, on_day, is_elsewhere, f12, fault_at, fault_of}
-use Rattle.format.specs.declared.Fault.{Fault}
-use Rattle.format.specs.declared.Fault.TheVariants.{Fine, Stop}
+use Rattle.format.specs.Faults.{◌▹◌, stop, f3, is_open, f10, f4, scale_of, f5, fault_in, f6, broken_in, f7, is_not_later, f8, covers, is_off, f9, is_alike, f11, on_day, is_elsewhere, f12, fault_at, fault_of, Fault, Fine, Stop}
 use Rattle.passing.proofs.Fit.{fine-unbroken}
 use Rattle.theorems.specs.Grammar.{Record, Together}
 use Rattle.theorems.specs.First.{Entry, Leftmost, entry3, entry10, entry4, entry5, entry6, entry7, entry8, entry9, entry11, entry12, in_order, Never, None, First}

@@ -12,11 +12,9 @@ use borrow.Author.Tests.{eqb-false}
 use Rattle.ground.proofs.Cases.{same_or, by}
 use Rattle.format.specs.Cut.{Lines, line, rest, lines}
 use Rattle.format.specs.Order.{is_end, Due, begun}
-use Rattle.format.specs.Faults.{fault_of}
+use Rattle.format.specs.Faults.{fault_of, Fault, Fine, Stop}
 use Rattle.format.specs.Answers.{Answer, accepted, refused}
 use Rattle.format.specs.File.{after, or_go_on, walk_of, check_of}
-use Rattle.format.specs.declared.Fault.{Fault}
-use Rattle.format.specs.declared.Fault.TheVariants.{Fine, Stop}
 use Rattle.format.proofs.Cut.{bytes_of}
 use Rattle.passing.proofs.Walk.{walk-of, of-walk}
 use Rattle.theorems.specs.First.{Clear}

@@ -11,8 +11,7 @@ use borrow.Author.Tests.{ne_eqb}
 use Rattle.ground.proofs.Cases.{by}
 use Rattle.format.specs.Bytes.{end_space}
 use Rattle.format.specs.Records.{Scale, scale_for, kind_in, row_of, count_of, rule_of, obeys, qualities_of, mark_at}
-use Rattle.format.specs.Faults.{fault_in}
-use Rattle.format.specs.declared.Fault.TheVariants.{Fine, Stop}
+use Rattle.format.specs.Faults.{fault_in, Fine, Stop}
 use Rattle.format.specs.declared.Rule.{Rule}
 use Rattle.format.specs.declared.Rule.TheVariants.{Indicator}
 use Rattle.passing.proofs.Fit.{Ok}

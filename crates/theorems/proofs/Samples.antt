@@ -1,4 +1,5 @@
 -- A record of each kind that is in order: the 300 with any number of intervals, and 400s that complete any cover. Assumes nothing.
+use Rattle.std.proofs.Common.{Some}
 use Prim.Native.Nat.{ℕ, zero, suc, ◌+◌, ◌≤◌, ◌<◌}
 use mathlib.Core.Path.{◌≡◌, refl, sym, ap, ◌∙◌}
 use mathlib.Core.Bool.{true, false}
@@ -23,7 +24,6 @@ use Rattle.format.specs.Cut.{fields, field}
 use Rattle.format.specs.Records.{scale_for, is_kind, indicator_of, kind_in, row_of, count_of, rule_of, obeys, version_in, date_in, first_in, last_in, quantity_decimals, qualities_of, mark_at, mark_in, agrees}
 use Rattle.format.specs.Order.{Shared, none_yet, all_have, they_differ, is_varied}
 use Rattle.format.specs.Faults.{fault_in, broken_in}
-use Rattle.format.specs.declared.Number.TheVariants.{Is}
 use Rattle.format.specs.declared.Rule.{Rule}
 use Rattle.format.specs.declared.Rule.TheVariants.{Value, Quality, Reason, Description, Time, Load}
 use Rattle.format.proofs.Cut.{fields-some}
@@ -163,10 +163,10 @@ unfolding field_byte number_of are_all is_digit stands_alone takes_method qualit
 bare-e = record { clean = refl; graded = refl; says = refl; agreed = refl }
 
 module _ (a e : ℕ) (q : List ℕ) (flag : ℕ) (b : Bare q flag) (l : a < 10000) (m : e < 10000) where
-  start_back : small_of 4 (dec a) ≡ Is a
+  start_back : small_of 4 (dec a) ≡ Some a
   start_back = small-back 4 a (omega arith) (omega arith) (omega arith)
 
-  end_back : small_of 4 (dec e) ≡ Is e
+  end_back : small_of 4 (dec e) ≡ Some e
   end_back = small-back 4 e (omega arith) (omega arith) (omega arith)
 
   is-400 : IsRecord 400 0 0 (sample400 a e q)

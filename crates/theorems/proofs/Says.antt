@@ -1,5 +1,6 @@
 -- What the rules of single fields bring with them: a date and a time are not 0, a version is 12 or 13, a 200 has intervals and a unit that is known.
 -- Assumes nothing.
+use Rattle.std.proofs.Common.{Option}
 use Prim.Native.Nat.{ℕ, ◌≤◌}
 use mathlib.Core.Path.{◌≡◌, refl, sym, ◌∙◌}
 use mathlib.Core.Logic.{◌⊎◌, inl, inr}
@@ -19,7 +20,6 @@ use Rattle.format.specs.Dates.{is_day, is_date, is_time, date_of, is_read_time, 
 use Rattle.format.specs.Cut.{field}
 use Rattle.format.specs.Records.{scale, row_of, obeys, version_in, unit_in, decimals_in, intervals_in, date_in, read_time_in}
 use Rattle.format.specs.Faults.{on_day}
-use Rattle.format.specs.declared.Number.{Number}
 use Rattle.format.proofs.Numbers.{that-holds}
 use Rattle.format.proofs.Units.{unit-in, unit-decimals}
 use Rattle.theorems.specs.Grammar.{Record, IsRecord, Extra}
@@ -27,7 +27,7 @@ use Rattle.theorems.proofs.Rows.{meets_at}
 use Rattle.theorems.proofs.Calendar.{last-date, none-on, on-within, within_on}
 
 -- a number that passes a test which 0 does not pass
-that-some : (p : ℕ → Bool) (x : Number) → p 0 ≡ false → is_number (that p x) ≡ true → 1 ≤ number_in (that p x)
+that-some : (p : ℕ → Bool) (x : Option ℕ) → p 0 ≡ false → is_number (that p x) ≡ true → 1 ≤ number_in (that p x)
 that-some p x z h =
     by (eqb (number_in (that p x)) 0)
     (λ e.

@@ -1,4 +1,5 @@
 -- One field held to its rule, at a likely length or by its end. Assumes nothing.
+use Rattle.std.proofs.Common.{Option, Some}
 use Prim.Native.Nat.{ℕ, ◌+◌, ◌-◌, ◌≤◌, ◌<◌}
 use mathlib.Core.Path.{◌≡◌, refl, sym, ap, ◌∙◌}
 use mathlib.Core.List.{List, [], ◌∷◌}
@@ -27,8 +28,6 @@ use Rattle.format.specs.Cut.{fields, field}
 use Rattle.format.specs.Records.{obeys}
 use Rattle.format.specs.declared.Rule.{Rule}
 use Rattle.format.specs.declared.Rule.TheVariants as rule
-use Rattle.format.specs.declared.Number.{Number}
-use Rattle.format.specs.declared.Number.TheVariants.{Is}
 use Rattle.format.proofs.Cut.{field-here}
 use Rattle.format.proofs.Units.{named_some}
 use Rattle.format.proofs.ValueText.{value-still}
@@ -95,10 +94,10 @@ ended_by : (p q : List ℕ → Bool) → ((f : List ℕ) → p f ≡ true → q 
 ended_by p q h a s (To z) g = (g.0, h (field 0 (fields s)) g.1)
 ended_by p q h a s Broken g = tt
 
-or-empty : (rule : List ℕ → Number) (f : List ℕ) → is_number (rule f) ≡ true → is_number (or_empty 0 rule f) ≡ true
+or-empty : (rule : List ℕ → Option ℕ) (f : List ℕ) → is_number (rule f) ≡ true → is_number (or_empty 0 rule f) ≡ true
 or-empty rule f t = go (eqb (length f) 0)
   where
-    go : (b : Bool) → is_number (cond b (Is 0) (rule f)) ≡ true
+    go : (b : Bool) → is_number (cond b (Some 0) (rule f)) ≡ true
     go true = refl
     go false = t
 

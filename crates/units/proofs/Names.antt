@@ -1,4 +1,5 @@
 -- A unit's name beside a field, letter by letter, and the units tried one after the other. Assumes nothing.
+use Rattle.std.proofs.Common.{Option, Some, None}
 use Prim.Native.Nat.{ℕ, suc, ◌+◌, ◌≤◌, ◌<◌}
 use mathlib.Core.Path.{◌≡◌, refl, sym, ap, ◌∙◌}
 use mathlib.Core.Bool.{Bool, true, false, cond}
@@ -17,8 +18,6 @@ use Rattle.format.specs.Units.{UnitRow, no_unit, units, same_letters, unit_from,
 use Rattle.format.proofs.Units.{known_small, unit-known, unit-named, unit-back}
 use Rattle.units.specs.declared.Spelling.{Spelling}
 use Rattle.units.proofs.Cells.{none}
-use Rattle.format.specs.declared.Number.{Number}
-use Rattle.format.specs.declared.Number.TheVariants.{Is, Bad}
 
 capital-at : (s : List ℕ) (i : ℕ) → get_or (map capital s) i 0 ≡ capital (get_or s i 0)
 unfolding capital
@@ -71,17 +70,17 @@ module _ (s : List ℕ) where
   tried-none = record { same = refl }
 
   module _ (u : ℕ) (t : Tried s u) (l : u < 23) {b : Bool} (e : b ≡ same_letters (unit_name u) s) where
-    here : unit_of s ≡ cond (same_letters (unit_name u) s) (Is u) (unit_from (u + 1) (drop (u + 1) units) s)
+    here : unit_of s ≡ cond (same_letters (unit_name u) s) (Some u) (unit_from (u + 1) (drop (u + 1) units) s)
     unfolding unit_from unit_name unit_at
     here = t.same ∙ ap (λ (us : List UnitRow). unit_from u us s) (drop-cons units u no_unit (many u l) ∙ ap (λ (k : ℕ). get_or units u no_unit ∷ drop k units) (sym (add-one u)))
 
-    pub tried-found : b ≡ true → Is u ≡ unit_of s
+    pub tried-found : b ≡ true → Some u ≡ unit_of s
     tried-found h = sym (rw (← e, h) at here)
 
     pub tried-more : b ≡ false → Tried s (u + 1)
     tried-more h = record { same = rw (← e, h) at here }
 
-  pub tried-all : (u : ℕ) → 23 ≤ u → Tried s u → Bad ≡ unit_of s
+  pub tried-all : (u : ℕ) → 23 ≤ u → Tried s u → None ≡ unit_of s
   unfolding unit_from units
   tried-all u h t = sym (rw (drop_of_length-le units h) at t.same)
 
@@ -107,24 +106,24 @@ name-none u e t = sym (ap (λ (r : UnitRow). r.name) (get_or-eq_default units no
 
 -- ---- a name's decimals
 
-module _ (s : List ℕ) {x : Number} (e : x ≡ unit_of s) where
-  pub number_fits : {u : ℕ} → x ≡ Is u → Fits w8 u
+module _ (s : List ℕ) {x : Option ℕ} (e : x ≡ unit_of s) where
+  pub number_fits : {u : ℕ} → x ≡ Some u → Fits w8 u
   number_fits {u} i = omega (arith, known_small u (unit-known s u (sym e ∙ i)))
 
-  pub named-is : {u d : ℕ} → x ≡ Is u → d ≡ decimals_of u → d ≡ decimals_named s
+  pub named-is : {u d : ℕ} → x ≡ Some u → d ≡ decimals_of u → d ≡ decimals_named s
   unfolding decimals_named
   named-is i q = rw (← e, i) q
 
-  pub named-bad : x ≡ Bad → 6 ≡ decimals_named s
+  pub named-bad : x ≡ None → 6 ≡ decimals_named s
   unfolding decimals_named
   named-bad i = rw (← e, i)
 
 -- ---- a name and its number undo each other
 
 -- the number of the name that `name` answers is the unit's
-pub name-number : (u : ℕ) → is_unit u ≡ true → (r : Spelling) → take r.length r.bytes ≡ unit_name u → unit_of (take r.length r.bytes) ≡ Is u
+pub name-number : (u : ℕ) → is_unit u ≡ true → (r : Spelling) → take r.length r.bytes ≡ unit_name u → unit_of (take r.length r.bytes) ≡ Some u
 name-number u h r e = rw e (unit-back u h)
 
 -- the name of the number that `number` answers has the letters of the field
-pub number-name : (s : List ℕ) (u : ℕ) → unit_of s ≡ Is u → (r : Spelling) → take r.length r.bytes ≡ unit_name u → same_letters (take r.length r.bytes) s ≡ true
+pub number-name : (s : List ℕ) (u : ℕ) → unit_of s ≡ Some u → (r : Spelling) → take r.length r.bytes ≡ unit_name u → same_letters (take r.length r.bytes) s ≡ true
 number-name s u h r e = rw e (unit-named s u h)

@@ -6,7 +6,6 @@ ghost use Rattle.format.specs.Bytes.{capital};
 ghost use Rattle.format.specs.Units.{same_letters, unit_of, is_unit, unit_name, decimals_of, decimals_named};
 ghost use Rattle.units.specs.Table.{table};
 
-use format::Number;
 
 // How many units there are.
 const COUNT: usize = 23;
@@ -116,18 +115,18 @@ fn is_named(t: &[u8; 161], unit: usize, f: &[u8]) -> bool
 }
 
 // The number of the unit that a field names.
-pub fn number(f: &[u8]) -> Number
+pub fn number(f: &[u8]) -> Option<u64>
     ensures { result ≡ unit_of f.now }
 {
     let t = rows();
     let mut u: usize = 0;
     while u < COUNT {
         if is_named(&t, u, f) {
-            return Number::Is(u as u64);
+            return Some(u as u64);
         }
         u += 1;
     }
-    Number::Bad
+    None
 }
 
 // A unit has that number.
@@ -156,8 +155,8 @@ pub fn named_decimals(f: &[u8]) -> usize
 {
     let x = number(f);
     match x {
-        Number::Is(u) => decimals(u as u8),
-        Number::Bad => 6,
+        Some(u) => decimals(u as u8),
+        None => 6,
     }
 }
 

@@ -6,7 +6,6 @@ ghost use Rattle.format.specs.Numbers.{fraction_of, amount, value_of, are_digits
 ghost use Rattle.format.proofs.Numbers.{under};
 
 use classes::{Class, all_in};
-use format::Number;
 use leaf::bytes::first_at;
 use leaf::digits::digits;
 
@@ -38,38 +37,30 @@ pub fn up_to_six(d: usize) -> usize
 }
 
 // What stands behind a point: 1 to d digits, as millionths.
-fn fraction(f: &[u8], d: usize) -> Number
+fn fraction(f: &[u8], d: usize) -> Option<u64>
     ensures { result ≡ fraction_of d f.now }
 {
-    let x = digits(f, 1, up_to_six(d));
-    match x {
-        Number::Is(v) => Number::Is(v * tens(f.len())),
-        Number::Bad => Number::Bad,
-    }
+    digits(f, 1, up_to_six(d)).map(|v| v * tens(f.len()))
 }
 
 // A whole number and millionths together.
-fn join(w: Number, m: Number) -> Number
+fn join(w: Option<u64>, m: Option<u64>) -> Option<u64>
     requires { under (10 ^ 7) w × under (10 ^ 6) m }
     ensures { result ≡ amount w m }
 {
-    match w {
-        Number::Is(a) => match m {
-            Number::Is(b) => Number::Is(a * 1000000 + b),
-            Number::Bad => Number::Bad,
-        },
-        Number::Bad => Number::Bad,
-    }
+    let whole = w?;
+    let millionths = m?;
+    Some(whole * 1000000 + millionths)
 }
 
 // A value or a quantity with at most d decimals (6 at most), as millionths.
-pub fn value(f: &[u8], d: usize) -> Number
+pub fn value(f: &[u8], d: usize) -> Option<u64>
     ensures { result ≡ value_of d f.now }
 {
     let n = f.len();
     let p = first_at(f, 46);
     if p == n {
-        return join(digits(f, 1, 7), Number::Is(0));
+        return join(digits(f, 1, 7), Some(0));
     }
     let q = p + 1;
     join(digits(&f[..p], 1, 7), fraction(&f[q..], d))

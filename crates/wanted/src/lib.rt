@@ -4,7 +4,7 @@
 
 use checking::tour::check_and_note;
 use explain::refused::explained;
-use format::{Checked, Number};
+use format::Checked;
 use leaf::digits::digits;
 use machine::{Machine, WORD};
 use named::{date_of, day_named};
@@ -40,8 +40,8 @@ pub fn by_number(rt: &impl Machine, page: &mut [u8], i: usize) -> Wanted {
     let mut word = [0u8; WORD];
     let n = rt.arg(i, &mut word);
     match digits(&word[..n], 1, 14) {
-        Number::Is(k) => Wanted::Day(k as usize),
-        Number::Bad => {
+        Some(k) => Wanted::Day(k as usize),
+        None => {
             no_number(rt, page, &word[..n]);
             Wanted::Nothing(FAILED)
         }
@@ -95,8 +95,8 @@ fn single(
     let next = first as usize + 1;
     let noted = check_and_note(file, next, 0);
     match day_named(file, next, days, noted.day, nmi, suffix, day) {
-        Number::Bad => Wanted::Day(first as usize),
-        Number::Is(second) => {
+        None => Wanted::Day(first as usize),
+        Some(second) => {
             twice(rt, page, first, second);
             Wanted::Nothing(REFUSED)
         }
@@ -125,8 +125,8 @@ fn in_file(
             channels: _,
             days,
         } => match day_named(file, 0, days, start, nmi, suffix, day) {
-            Number::Is(first) => single(rt, page, file, first, days, nmi, suffix, day),
-            Number::Bad => {
+            Some(first) => single(rt, page, file, first, days, nmi, suffix, day),
+            None => {
                 not_there(rt, page, nmi, suffix, day);
                 Wanted::Nothing(REFUSED)
             }
@@ -142,8 +142,8 @@ fn by_key(rt: &impl Machine, page: &mut [u8], file: &[u8]) -> Wanted {
     let mut word = [0u8; WORD];
     let k = rt.arg(FIRST + 2, &mut word);
     match date_of(&word[..k]) {
-        Number::Is(day) => in_file(rt, page, file, &nmi[..n], &suffix[..m], day),
-        Number::Bad => {
+        Some(day) => in_file(rt, page, file, &nmi[..n], &suffix[..m], day),
+        None => {
             no_date(rt, page, &word[..k]);
             Wanted::Nothing(FAILED)
         }

@@ -1,4 +1,5 @@
 -- What is found of a day, place by place: the fields of its 200, the end of its block, and how many channels stand before it. Assumes nothing.
+use Rattle.std.proofs.Common.{Option, Some, None}
 use Prim.Native.Nat.{ℕ, ◌+◌, ◌-◌, ◌≤◌, ◌<◌}
 use mathlib.Core.Path.{◌≡◌, sym, ap, ◌∙◌}
 use mathlib.Core.Bool.{Bool, true, false, not, ◌&&◌, ◌||◌}
@@ -21,8 +22,6 @@ use Rattle.format.specs.Answers.{accepted, refusal, refused_as, checked_as}
 use Rattle.format.specs.File.{check_of, IsAccepted}
 use Rattle.format.specs.Day.{DayRows, days_of}
 use Rattle.format.specs.Total.{totals_from}
-use Rattle.format.specs.declared.Number.{Number}
-use Rattle.format.specs.declared.Number.TheVariants.{Is, Bad}
 use Rattle.format.specs.declared.Refusal.{Refusal}
 use Rattle.format.specs.declared.Checked.{Checked}
 use Rattle.format.specs.declared.Checked.TheVariants as checked
@@ -60,12 +59,12 @@ length-small : (s : List ℕ) → number_in (length_of s) ≤ 30
 unfolding length_of
 length-small s = go (small_of 2 s)
   where
-    go : (x : Number) → number_in (that is_length x) ≤ 30
-    go (Is m) = by (is_length m) (λ t. rw t (small-length m t)) (λ t. rw t (omega arith))
-    go Bad = omega arith
+    go : (x : Option ℕ) → number_in (that is_length x) ≤ 30
+    go (Some m) = by (is_length m) (λ t. rw t (small-length m t)) (λ t. rw t (omega arith))
+    go None = omega arith
 
 -- what the number of a field is that was read as one
-module _ (f : List ℕ) (x : Number) (m : ℕ) (ex : x ≡ length_of f) (em : m ≡ number_in x) where
+module _ (f : List ℕ) (x : Option ℕ) (m : ℕ) (ex : x ≡ length_of f) (em : m ≡ number_in x) where
   pub minutes-small : m ≤ 30
   minutes-small = rw (em, ex) (length-small f)
 

@@ -15,6 +15,6 @@ pub returns-else-is_minute : goal.returns-else-is_minute
 unfolding created_of
 returns-else-is_minute c = search (that-is, that-not, that-bad)
 
-pub returns-in-Bad : goal.returns-in-Bad
+pub returns-in-None : goal.returns-in-None
 unfolding created_of
-returns-in-Bad c = search (that-is, that-not, that-bad)
+returns-in-None c = search (that-is, that-not, that-bad)

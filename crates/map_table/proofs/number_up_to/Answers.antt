@@ -8,5 +8,5 @@ returns-then-n-most c = search number-within
 pub returns-else-n-most : goal.returns-else-n-most
 returns-else-n-most c = search number-above
 
-pub returns-in-Bad : goal.returns-in-Bad
-returns-in-Bad c = search number-none
+pub returns-in-None : goal.returns-in-None
+returns-in-None c = search number-none

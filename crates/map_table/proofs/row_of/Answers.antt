@@ -5,8 +5,8 @@ use Rattle.map_table.proofs.row_of.Goals as goal
 pub returns-then-not-has_four : goal.returns-then-not-has_four
 returns-then-not-has_four c = search not-four
 
-pub returns-in-Is : goal.returns-in-Is
-returns-in-Is c = search row_is_lem
+pub returns-in-Some : goal.returns-in-Some
+returns-in-Some c = search row_is_lem
 
-pub returns-in-Bad : goal.returns-in-Bad
-returns-in-Bad c = search no_output
+pub returns-in-None : goal.returns-in-None
+returns-in-None c = search no_output

@@ -2,8 +2,8 @@
 use Rattle.map_table.proofs.Ways.{share-is, share-none}
 use Rattle.map_table.proofs.with_share.Goals as goal
 
-pub returns-in-Is : goal.returns-in-Is
-returns-in-Is c = search share-is
+pub returns-in-Some : goal.returns-in-Some
+returns-in-Some c = search share-is
 
-pub returns-in-Bad : goal.returns-in-Bad
-returns-in-Bad c = search share-none
+pub returns-in-None : goal.returns-in-None
+returns-in-None c = search share-none

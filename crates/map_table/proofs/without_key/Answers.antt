@@ -8,5 +8,5 @@ returns-then-n-eq0 c = search unused-is
 pub returns-else-n-eq0 : goal.returns-else-n-eq0
 returns-else-n-eq0 c = search unused-shared
 
-pub returns-in-Bad : goal.returns-in-Bad
-returns-in-Bad c = search unused-none
+pub returns-in-None : goal.returns-in-None
+returns-in-None c = search unused-none

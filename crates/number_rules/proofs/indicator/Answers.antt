@@ -11,6 +11,6 @@ pub returns-else-is_kind : goal.returns-else-is_kind
 unfolding indicator_of
 returns-else-is_kind c = search (that-is, that-not, that-bad)
 
-pub returns-in-Bad : goal.returns-in-Bad
+pub returns-in-None : goal.returns-in-None
 unfolding indicator_of
-returns-in-Bad c = search (that-is, that-not, that-bad)
+returns-in-None c = search (that-is, that-not, that-bad)

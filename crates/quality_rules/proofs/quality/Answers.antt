@@ -14,11 +14,11 @@ returns-then-stands_alone c = search (quality-none, quality-alone, quality-long,
 pub overflow_cast-result : goal.overflow_cast-result
 overflow_cast-result c = search method-fits
 
-pub returns-in-Is : goal.returns-in-Is
-returns-in-Is c = search (quality-none, quality-alone, quality-long, quality-other, quality-is, quality-bad)
+pub returns-in-Some : goal.returns-in-Some
+returns-in-Some c = search (quality-none, quality-alone, quality-long, quality-other, quality-is, quality-bad)
 
-pub returns-in-Bad : goal.returns-in-Bad
-returns-in-Bad c = search (quality-none, quality-alone, quality-long, quality-other, quality-is, quality-bad)
+pub returns-in-None : goal.returns-in-None
+returns-in-None c = search (quality-none, quality-alone, quality-long, quality-other, quality-is, quality-bad)
 
 pub returns : goal.returns
 returns c = search (quality-none, quality-alone, quality-long, quality-other, quality-is, quality-bad)

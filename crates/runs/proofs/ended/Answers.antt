@@ -17,4 +17,4 @@ pub returns-in_default : goal.returns-in_default
 returns-in_default c = interval-stops _ _ _ c.requires.0 2 _ c.requires.1 (omega arith) _ c.field_end.ensures.is row_last c.interval-x.ensures c.in_default.is
 
 pub graded-requires : goal.graded-requires
-graded-requires c = (c.requires.0, (interval-on _ _ _ c.requires.0 2 _ c.requires.1 (omega arith) _ c.field_end.ensures.is row_last c.interval-x.ensures c.in-Is.is), spans _ _ _ c.requires.0 _ _ _ _ c.requires.1 c.field_end.ensures.is c.requires.2 c.interval-x.ensures c.in-Is.is)
+graded-requires c = (c.requires.0, (interval-on _ _ _ c.requires.0 2 _ c.requires.1 (omega arith) _ c.field_end.ensures.is row_last c.interval-x.ensures c.in-Some.is), spans _ _ _ c.requires.0 _ _ _ _ c.requires.1 c.field_end.ensures.is c.requires.2 c.interval-x.ensures c.in-Some.is)

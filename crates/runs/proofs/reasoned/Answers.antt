@@ -21,19 +21,19 @@ pub returns-in_default : goal.returns-in_default
 returns-in_default c = reason-stops _ _ _ c.requires.0 4 _ c.requires.1 (omega arith) _ c.field_end.ensures.is row-reason c.reason-r.ensures c.in_default.is
 
 pub slice_bounds-description-count : goal.slice_bounds-description-count
-slice_bounds-description-count c = let h = behind _ _ _ c.requires.0 5 _ (reason-on _ _ _ c.requires.0 4 _ c.requires.1 (omega arith) _ c.field_end.ensures.is row-reason c.reason-r.ensures c.in-Is.is) (omega arith) in omega (arith, h)
+slice_bounds-description-count c = let h = behind _ _ _ c.requires.0 5 _ (reason-on _ _ _ c.requires.0 4 _ c.requires.1 (omega arith) _ c.field_end.ensures.is row-reason c.reason-r.ensures c.in-Some.is) (omega arith) in omega (arith, h)
 
 pub slice_bounds-description-start : goal.slice_bounds-description-start
-slice_bounds-description-start c = let h = behind _ _ _ c.requires.0 5 _ (reason-on _ _ _ c.requires.0 4 _ c.requires.1 (omega arith) _ c.field_end.ensures.is row-reason c.reason-r.ensures c.in-Is.is) (omega arith) in search rules
+slice_bounds-description-start c = let h = behind _ _ _ c.requires.0 5 _ (reason-on _ _ _ c.requires.0 4 _ c.requires.1 (omega arith) _ c.field_end.ensures.is row-reason c.reason-r.ensures c.in-Some.is) (omega arith) in search rules
 
 pub returns-then-not-description : goal.returns-then-not-description
-returns-then-not-description c = description-stops _ _ _ c.requires.0 _ (reason-on _ _ _ c.requires.0 4 _ c.requires.1 (omega arith) _ c.field_end.ensures.is row-reason c.reason-r.ensures c.in-Is.is) c.description.ensures (ap not c.if-not-description.true)
+returns-then-not-description c = description-stops _ _ _ c.requires.0 _ (reason-on _ _ _ c.requires.0 4 _ c.requires.1 (omega arith) _ c.field_end.ensures.is row-reason c.reason-r.ensures c.in-Some.is) c.description.ensures (ap not c.if-not-description.true)
 
 pub overflow_sub-n : goal.overflow_sub-n
-overflow_sub-n c = let h = behind _ _ _ c.requires.0 5 _ (reason-on _ _ _ c.requires.0 4 _ c.requires.1 (omega arith) _ c.field_end.ensures.is row-reason c.reason-r.ensures c.in-Is.is) (omega arith) in omega (arith, h)
+overflow_sub-n c = let h = behind _ _ _ c.requires.0 5 _ (reason-on _ _ _ c.requires.0 4 _ c.requires.1 (omega arith) _ c.field_end.ensures.is row-reason c.reason-r.ensures c.in-Some.is) (omega arith) in omega (arith, h)
 
 pub overflow_cast-result : goal.overflow_cast-result
-overflow_cast-result c = reason-fits _ c.reason-r.ensures (ap number_in (sym c.in-Is.is))
+overflow_cast-result c = reason-fits _ c.reason-r.ensures (ap number_in (sym c.in-Some.is))
 
 pub returns : goal.returns
-returns c = ran _ _ _ c.requires.0 _ (reason-on _ _ _ c.requires.0 4 _ c.requires.1 (omega arith) _ c.field_end.ensures.is row-reason c.reason-r.ensures c.in-Is.is) c.description.ensures _ _ _ _ _ _ _ (ap not c.if-not-description.false) c.requires.2 c.requires.3 (reason-is _ _ _ c.requires.0 4 _ c.requires.1 (omega arith) _ c.field_end.ensures.is row-reason c.reason-r.ensures c.in-Is.is) c.start_of.ensures
+returns c = ran _ _ _ c.requires.0 _ (reason-on _ _ _ c.requires.0 4 _ c.requires.1 (omega arith) _ c.field_end.ensures.is row-reason c.reason-r.ensures c.in-Some.is) c.description.ensures _ _ _ _ _ _ _ (ap not c.if-not-description.false) c.requires.2 c.requires.3 (reason-is _ _ _ c.requires.0 4 _ c.requires.1 (omega arith) _ c.field_end.ensures.is row-reason c.reason-r.ensures c.in-Some.is) c.start_of.ensures

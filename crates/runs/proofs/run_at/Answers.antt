@@ -18,4 +18,4 @@ pub returns-in_default : goal.returns-in_default
 returns-in_default c = interval-stops _ _ _ c.requires 1 _ (along-first _ _ _ _ _ c.requires) (omega arith) _ c.field_end.ensures.is row_first c.interval-x.ensures c.in_default.is
 
 pub ended-requires : goal.ended-requires
-ended-requires c = (c.requires, (interval-on _ _ _ c.requires 1 _ (along-first _ _ _ _ _ c.requires) (omega arith) _ c.field_end.ensures.is row_first c.interval-x.ensures c.in-Is.is), first _ _ _ c.requires _ _ _ (along-first _ _ _ _ _ c.requires) c.field_end.ensures.is c.interval-x.ensures c.in-Is.is)
+ended-requires c = (c.requires, (interval-on _ _ _ c.requires 1 _ (along-first _ _ _ _ _ c.requires) (omega arith) _ c.field_end.ensures.is row_first c.interval-x.ensures c.in-Some.is), first _ _ _ c.requires _ _ _ (along-first _ _ _ _ _ c.requires) c.field_end.ensures.is c.interval-x.ensures c.in-Some.is)

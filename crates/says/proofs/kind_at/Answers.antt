@@ -3,8 +3,8 @@ use Rattle.says.proofs.Fields.{kind-says}
 use Rattle.says.proofs.Fields.{kind-tried}
 use Rattle.says.proofs.kind_at.Goals as goal
 
-pub returns-in-Is : goal.returns-in-Is
-returns-in-Is c = search kind-tried
+pub returns-in-Some : goal.returns-in-Some
+returns-in-Some c = search kind-tried
 
 pub returns : goal.returns
 returns c = search kind-says

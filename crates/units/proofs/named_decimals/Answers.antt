@@ -6,8 +6,8 @@ use Rattle.units.proofs.named_decimals.Goals as goal
 pub overflow_cast-u : goal.overflow_cast-u
 overflow_cast-u c = search number_fits
 
-pub returns-in-Is : goal.returns-in-Is
-returns-in-Is c = search (named-is, rules)
+pub returns-in-Some : goal.returns-in-Some
+returns-in-Some c = search (named-is, rules)
 
-pub returns-in-Bad : goal.returns-in-Bad
-returns-in-Bad c = search (named-bad, rules)
+pub returns-in-None : goal.returns-in-None
+returns-in-None c = search (named-bad, rules)

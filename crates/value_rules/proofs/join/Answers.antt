@@ -8,5 +8,5 @@ overflow_mul-result c = search join-fits
 pub overflow_add-result : goal.overflow_add-result
 overflow_add-result c = search join-fits-both
 
-pub returns-in-Is-m : goal.returns-in-Is-m
-returns-in-Is-m c = search join_is
+pub returns-in-Some-m : goal.returns-in-Some-m
+returns-in-Some-m c = search join_is
