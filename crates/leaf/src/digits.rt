@@ -29,17 +29,14 @@ pub fn digits(f: &[u8], least: usize, most: usize) -> Number
         return Number::Bad;
     }
     let mut v: u64 = 0;
-    let mut i: usize = 0;
-    while i < n {
-        let b = f[i];
+    for &b in f {
         if b < 48 {
             return Number::Bad;
         }
         if 57 < b {
             return Number::Bad;
         }
-        v = v * 10 + (b - 48) as u64;
-        i += 1;
+        v = v * 10 + u64::from(b - b'0');
     }
     Number::Is(v)
 }
@@ -48,10 +45,7 @@ pub fn digits(f: &[u8], least: usize, most: usize) -> Number
 fn leading(f: &[u8]) -> bool
     ensures { result ≡ leading_zero f.now }
 {
-    if 1 < f.len() {
-        return f[0] == 48;
-    }
-    false
+    f.len() > 1 && f[0] == b'0'
 }
 
 // 1 to most digits without a leading zero, of which no more than 14 are read.
