@@ -91,7 +91,10 @@ fn bytewise(s: &[u8], from: Span) -> Span
             commas += 1;
         }
     }
-    Span { stop: s.len(), commas }
+    Span {
+        stop: s.len(),
+        commas,
+    }
 }
 
 // The plain bytes that s starts with: how many, and the commas among them.
@@ -108,9 +111,9 @@ fn plain_span(s: &[u8]) -> Span
 fn line_len(s: &[u8]) -> usize
     ensures { (result ≡ line_len s.now) × (result ≤ length s.now) }
 {
-    for i in 1..s.len() {
-        if s[i - 1] == b'\r' && s[i] == b'\n' {
-            return i - 1;
+    for i in 0..s.len().saturating_sub(1) {
+        if s[i] == b'\r' && s[i + 1] == b'\n' {
+            return i;
         }
     }
     s.len()
