@@ -78,13 +78,7 @@ fn name_len(t: &[u8; 161], unit: usize) -> usize
 pub fn capital(b: u8) -> u8
     ensures { result ≡ capital b }
 {
-    if b < 97 {
-        return b;
-    }
-    if 122 < b {
-        return b;
-    }
-    b - 32
+    b.to_ascii_uppercase()
 }
 
 // A byte of the name and that of the field are the same letter.
@@ -104,11 +98,8 @@ fn is_named(t: &[u8; 161], unit: usize, f: &[u8]) -> bool
     if n != name_len(t, unit) {
         return false;
     }
-    let mut i: usize = 0;
-    while i < n {
-        if same_letter(t, unit, f, i) {
-            i += 1;
-        } else {
+    for i in 0..n {
+        if !same_letter(t, unit, f, i) {
             return false;
         }
     }
@@ -120,12 +111,10 @@ pub fn number(f: &[u8]) -> Number
     ensures { result ≡ unit_of f.now }
 {
     let t = rows();
-    let mut u: usize = 0;
-    while u < COUNT {
+    for u in 0..COUNT {
         if is_named(&t, u, f) {
             return Number::Is(u as u64);
         }
-        u += 1;
     }
     Number::Bad
 }
@@ -144,9 +133,10 @@ pub fn decimals(unit: u8) -> usize
 {
     if is_unit(unit) {
         let t = rows();
-        return cell(&t, unit as usize, DECIMALS) as usize;
+        cell(&t, unit as usize, DECIMALS) as usize
+    } else {
+        0
     }
-    0
 }
 
 // How many decimals a value may have whose unit is so named: six at most where there is no such unit.
@@ -175,7 +165,7 @@ pub fn name(unit: u8) -> Spelling
     if is_unit(unit) {
         let t = rows();
         let u = unit as usize;
-        return Spelling {
+        Spelling {
             bytes: [
                 letter(&t, u, 0),
                 letter(&t, u, 1),
@@ -184,10 +174,11 @@ pub fn name(unit: u8) -> Spelling
                 letter(&t, u, 4),
             ],
             length: name_len(&t, u),
-        };
-    }
-    Spelling {
-        bytes: [0; 5],
-        length: 0,
+        }
+    } else {
+        Spelling {
+            bytes: [0; 5],
+            length: 0,
+        }
     }
 }
