@@ -27,21 +27,15 @@ pub fn sixteen(file: &[u8], x: usize) -> bool
     requires { x + 96 ≤ length file.now }
     ensures { result ≡ true → Alike file.now x 16 }
 {
-    if file[x + 5] != b',' {
-        return false;
-    }
-    if file[x + 95] != b',' {
+    if file[x + 5] != b',' || file[x + 95] != b',' {
         return false;
     }
     let z = x + 96;
     let s = &file[x..z];
-    if !no_less(
+    no_less(
         s,
         b"0.000,0.000,0.000,0.000,0.000,0.000,0.000,0.000,0.000,0.000,0.000,0.000,0.000,0.000,0.000,0.000,",
-    ) {
-        return false;
-    }
-    no_less(
+    ) && no_less(
         b"9.999,9.999,9.999,9.999,9.999,9.999,9.999,9.999,9.999,9.999,9.999,9.999,9.999,9.999,9.999,9.999,",
         s,
     )
