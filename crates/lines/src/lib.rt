@@ -56,7 +56,7 @@ fn commas_in(s: &[u8]) -> u8
     n
 }
 
-// Goes on by whole chunks, as long as they are plain.
+// Goes on by whole chunks, as long as they are plain. The place is what is answered, so the loop keeps it: a `for` over `chunks_exact` would count it beside itself.
 fn chunks(s: &[u8], from: Span, size: usize) -> Span
     requires { Scanned s.now from.stop from.commas × (0 < size) × (size ≤ 255) }
     ensures { Scanned s.now result.stop result.commas }
@@ -132,7 +132,7 @@ fn no_cr(s: &[u8]) -> bool
     ok
 }
 
-// Goes on by whole chunks, as long as no CR stands in them.
+// Goes on by whole chunks, as long as no CR stands in them; the place is kept by the loop, as in `chunks`.
 fn past_chunks(s: &[u8], from: usize, size: usize) -> usize
     requires { Unended s.now from × (0 < size) }
     ensures { Unended s.now result }

@@ -21,7 +21,7 @@ fn end_singly(t: &[u8], from: usize) -> usize
     t.len()
 }
 
-// The same for the whole: eight bytes are looked at together while eight are left, the rest one by one.
+// The same for the whole: eight bytes are looked at together while eight are left, the rest one by one from the place where the loop ended, so the loop keeps it.
 pub fn field_end(t: &[u8]) -> usize
     ensures is { result ≡ span_of (other 44) t.now }
     ensures within { result ≤ length t.now }
