@@ -20,40 +20,25 @@ pub enum Class {
 pub fn is_digit(b: u8) -> bool
     ensures { result ≡ is_digit b }
 {
-    if b < 48 {
-        return false;
-    }
-    b <= 57
+    b.is_ascii_digit()
 }
 
 fn is_capital(b: u8) -> bool
     ensures { result ≡ is_capital b }
 {
-    if b < 65 {
-        return false;
-    }
-    b <= 90
+    b.is_ascii_uppercase()
 }
 
 fn is_letter(b: u8) -> bool
     ensures { result ≡ is_letter b }
 {
-    if is_capital(b) {
-        return true;
-    }
-    if b < 97 {
-        return false;
-    }
-    b <= 122
+    b.is_ascii_alphabetic()
 }
 
 fn is_alnum(b: u8) -> bool
     ensures { result ≡ is_alnum b }
 {
-    if is_digit(b) {
-        return true;
-    }
-    is_letter(b)
+    b.is_ascii_alphanumeric()
 }
 
 fn in_class(c: Class, b: u8) -> bool
@@ -63,7 +48,7 @@ fn in_class(c: Class, b: u8) -> bool
         Class::Digit => is_digit(b),
         Class::Capital => is_capital(b),
         Class::Alnum => is_alnum(b),
-        Class::NoHash => b != 35,
+        Class::NoHash => b != b'#',
     }
 }
 
@@ -71,28 +56,12 @@ fn in_class(c: Class, b: u8) -> bool
 pub fn all_in(f: &[u8], c: Class) -> bool
     ensures { result ≡ all (in_class c) f.now }
 {
-    let n = f.len();
-    let mut i: usize = 0;
-    while i < n {
-        if in_class(c, f[i]) {
-            i += 1;
-        } else {
-            return false;
-        }
-    }
-    true
+    f.iter().all(|b| in_class(c, *b))
 }
 
 // least to most bytes, all of the class.
 pub fn are_all(f: &[u8], c: Class, least: usize, most: usize) -> bool
     ensures { result ≡ are_all (in_class c) least most f.now }
 {
-    let n = f.len();
-    if n < least {
-        return false;
-    }
-    if most < n {
-        return false;
-    }
-    all_in(f, c)
+    least <= f.len() && f.len() <= most && all_in(f, c)
 }

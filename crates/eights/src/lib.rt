@@ -8,7 +8,8 @@ ghost use Rattle.eights.specs.Words.{number};
 
 use std::num::wrapping_add_u64;
 
-// Eight bytes as one number, the first of them lowest. Put together by shifts the compiler reads them at once.
+// Eight bytes as one number, the first of them lowest. Put together by shifts the compiler reads them at once; `from_le_bytes` wants an array, and the bytes
+// are a part of the file.
 fn word(t: &[u8]) -> u64
     requires { length t.now ≡ 8 }
     ensures is { result ≡ number t.now }

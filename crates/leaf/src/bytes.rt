@@ -7,28 +7,14 @@ ghost use Rattle.format.specs.Bytes.{end_space, is_text};
 fn end_space(f: &[u8]) -> bool
     ensures { result ≡ end_space f.now }
 {
-    let n = f.len();
-    if n == 0 {
-        return false;
-    }
-    if f[0] == 32 {
-        return true;
-    }
-    f[n - 1] == 32
+    f.first() == Some(&b' ') || f.last() == Some(&b' ')
 }
 
 // least to most bytes with no space at either end. The bytes themselves are looked at once for the whole record.
 pub fn text(f: &[u8], least: usize, most: usize) -> bool
     ensures { result ≡ is_text least most f.now }
 {
-    let n = f.len();
-    if n < least {
-        return false;
-    }
-    if most < n {
-        return false;
-    }
-    !end_space(f)
+    least <= f.len() && f.len() <= most && !end_space(f)
 }
 
 // The place of the first x, or the length where there is none.
@@ -36,31 +22,12 @@ pub fn first_at(f: &[u8], x: u8) -> usize
     ensures is { result ≡ span_of (other x) f.now }
     ensures within { result ≤ length f.now }
 {
-    let n = f.len();
-    let mut i: usize = 0;
-    while i < n {
-        if f[i] == x {
-            return i;
-        }
-        i += 1;
-    }
-    i
+    f.iter().position(|b| *b == x).unwrap_or(f.len())
 }
 
 // The same bytes.
 pub fn same_bytes(f: &[u8], g: &[u8]) -> bool
     ensures { result ≡ same f.now g.now }
 {
-    let n = f.len();
-    if n != g.len() {
-        return false;
-    }
-    let mut i: usize = 0;
-    while i < n {
-        if f[i] != g[i] {
-            return false;
-        }
-        i += 1;
-    }
-    true
+    f == g
 }

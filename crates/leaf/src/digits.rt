@@ -17,17 +17,14 @@ pub fn digits(f: &[u8], least: usize, most: usize) -> Option<u64>
         return None;
     }
     let mut v: u64 = 0;
-    let mut i: usize = 0;
-    while i < n {
-        let b = f[i];
+    for &b in f {
         if b < 48 {
             return None;
         }
         if 57 < b {
             return None;
         }
-        v = v * 10 + (b - 48) as u64;
-        i += 1;
+        v = v * 10 + u64::from(b - b'0');
     }
     Some(v)
 }
@@ -36,10 +33,7 @@ pub fn digits(f: &[u8], least: usize, most: usize) -> Option<u64>
 fn leading(f: &[u8]) -> bool
     ensures { result ≡ leading_zero f.now }
 {
-    if 1 < f.len() {
-        return f[0] == 48;
-    }
-    false
+    f.len() > 1 && f[0] == b'0'
 }
 
 // 1 to most digits without a leading zero, of which no more than 14 are read.

@@ -34,11 +34,8 @@ fn all_plain(s: &[u8]) -> bool
     ensures { result ≡ all plain s.now }
 {
     let mut ok = true;
-    let mut i: usize = 0;
-    while i < s.len() {
-        let is = is_plain(s[i]);
-        i += 1;
-        if !is {
+    for b in s {
+        if !is_plain(*b) {
             ok = false;
         }
     }
@@ -51,18 +48,15 @@ fn commas_in(s: &[u8]) -> u8
     ensures { (result + 1 ≡ length (fields s.now)) × (result ≤ length s.now) }
 {
     let mut n: u8 = 0;
-    let mut i: usize = 0;
-    while i < s.len() {
-        let b = s[i];
-        i += 1;
-        if b == 44 {
+    for b in s {
+        if *b == b',' {
             n += 1;
         }
     }
     n
 }
 
-// Goes on by whole chunks, as long as they are plain.
+// Goes on by whole chunks, as long as they are plain. The place is what is answered, so the loop keeps it: a `for` over `chunks_exact` would count it beside itself.
 fn chunks(s: &[u8], from: Span, size: usize) -> Span
     requires { Scanned s.now from.stop from.commas × (0 < size) × (size ≤ 255) }
     ensures { Scanned s.now result.stop result.commas }
@@ -74,18 +68,12 @@ fn chunks(s: &[u8], from: Span, size: usize) -> Span
         let e = i + size;
         let t = &s[i..e];
         if !all_plain(t) {
-            return Span {
-                stop: i,
-                commas: commas,
-            };
+            return Span { stop: i, commas };
         }
-        commas += commas_in(t) as usize;
+        commas += usize::from(commas_in(t));
         i = e;
     }
-    Span {
-        stop: i,
-        commas: commas,
-    }
+    Span { stop: i, commas }
 }
 
 // Goes on byte by byte, to the first that is not plain.
@@ -93,24 +81,19 @@ fn bytewise(s: &[u8], from: Span) -> Span
     requires { Scanned s.now from.stop from.commas }
     ensures { Scanned s.now result.stop result.commas × (result.stop ≡ span_of plain s.now) }
 {
-    let mut i = from.stop;
     let mut commas = from.commas;
-    while i < s.len() {
-        let b = s[i];
+    for stop in from.stop..s.len() {
+        let b = s[stop];
         if !is_plain(b) {
-            return Span {
-                stop: i,
-                commas: commas,
-            };
+            return Span { stop, commas };
         }
-        i += 1;
-        if b == 44 {
+        if b == b',' {
             commas += 1;
         }
     }
     Span {
-        stop: i,
-        commas: commas,
+        stop: s.len(),
+        commas,
     }
 }
 
@@ -128,17 +111,12 @@ fn plain_span(s: &[u8]) -> Span
 fn line_len(s: &[u8]) -> usize
     ensures { (result ≡ line_len s.now) × (result ≤ length s.now) }
 {
-    let n = s.len();
-    let mut i: usize = 0;
-    while i + 1 < n {
-        if s[i] == 13 {
-            if s[i + 1] == 10 {
-                return i;
-            }
+    for i in 0..s.len().saturating_sub(1) {
+        if s[i] == b'\r' && s[i + 1] == b'\n' {
+            return i;
         }
-        i += 1;
     }
-    n
+    s.len()
 }
 
 // No CR among the bytes.
@@ -146,18 +124,15 @@ fn no_cr(s: &[u8]) -> bool
     ensures { result ≡ all (other 13) s.now }
 {
     let mut ok = true;
-    let mut i: usize = 0;
-    while i < s.len() {
-        let b = s[i];
-        i += 1;
-        if b == 13 {
+    for b in s {
+        if *b == b'\r' {
             ok = false;
         }
     }
     ok
 }
 
-// Goes on by whole chunks, as long as no CR stands in them.
+// Goes on by whole chunks, as long as no CR stands in them; the place is kept by the loop, as in `chunks`.
 fn past_chunks(s: &[u8], from: usize, size: usize) -> usize
     requires { Unended s.now from × (0 < size) }
     ensures { Unended s.now result }
@@ -197,7 +172,7 @@ pub fn scan(file: &[u8], at: usize) -> Found
     let n = line_len(&file[bad..]);
     Found {
         end: bad + n,
-        bad: bad,
+        bad,
         commas: p.commas,
     }
 }

@@ -13,18 +13,15 @@ fn end_singly(t: &[u8], from: usize) -> usize
     ensures is { result ≡ span_of (other 44) t.now }
     ensures within { result ≤ length t.now }
 {
-    let n = t.len();
-    let mut i = from;
-    while i < n {
-        if t[i] == 44 {
+    for i in from..t.len() {
+        if t[i] == b',' {
             return i;
         }
-        i += 1;
     }
-    i
+    t.len()
 }
 
-// The same for the whole: eight bytes are looked at together while eight are left, the rest one by one.
+// The same for the whole: eight bytes are looked at together while eight are left, the rest one by one from the place where the loop ended, so the loop keeps it.
 pub fn field_end(t: &[u8]) -> usize
     ensures is { result ≡ span_of (other 44) t.now }
     ensures within { result ≤ length t.now }

@@ -2,12 +2,12 @@
 use Prim.Native.Nat.{ℕ, zero, suc, ◌+◌, ◌-◌, ◌*◌, ◌≤◌, ◌<◌}
 use mathlib.Core.Path.{◌≡◌, refl, sym, ◌∙◌}
 use mathlib.Core.List.{List, [], ◌∷◌, ◌++◌}
-use mathlib.Core.Bool.{Bool, true, false, not, ◌&&◌}
+use mathlib.Core.Bool.{Bool, true, false, ◌&&◌}
 use native.Mathlib.Omega.{arith}
 use lib.ListN.{length, get_or, take, drop, drop_of_length-le, length-append, get_or-append}
 use lib.Seq.{get_or-take, get_or-drop, get_or-append-add}
 use lib.Dec.{leb}
-use borrow.Author.Tests.{eq-eqb, le-leb, lt-leb, leb-true, not-false}
+use borrow.Author.Tests.{eq-eqb, le-leb, lt-leb, leb-true}
 use Rattle.ground.specs.Lists.{part}
 use Rattle.ground.specs.Digits.{is_digit}
 use Rattle.ground.proofs.Tests.{and-true, and-false, and-all}
@@ -119,9 +119,9 @@ module _ (file : List ℕ) (x : ℕ) (room : x + 96 ≤ length file) (f : no_les
       )
 
 -- the ways out: b and c are what the two comparisons answer
-pub alike : (file : List ℕ) (x : ℕ) {b c : Bool} → x + 96 ≤ length file → b ≡ no_less (take (x + 96 - x) (drop x file)) (again 16 low) → not b ≡ false
+pub alike : (file : List ℕ) (x : ℕ) {b c : Bool} → x + 96 ≤ length file → b ≡ no_less (take (x + 96 - x) (drop x file)) (again 16 low) → b ≡ true
     → c ≡ no_less (again 16 high) (take (x + 96 - x) (drop x file)) → c ≡ true → Alike file x 16
-alike file x {b} h e n f t = all_alike file x h (sym e ∙ not-false b n) (sym f ∙ t)
+alike file x {b} h e n f t = all_alike file x h (sym e ∙ n) (sym f ∙ t)
 
 -- the number of such a value
 pub thousand-is : (s : List ℕ) → is_thousandths s ≡ true → (get_or s 0 0 * 1000 + get_or s 2 0 * 100 + get_or s 3 0 * 10 + get_or s 4 0 - 53328) * 1000 ≡ millionths s

@@ -14,12 +14,8 @@ fn no_less(s: &[u8], t: &[u8]) -> bool
     ensures { result ≡ no_less s.now t.now }
 {
     let mut ok = true;
-    let mut i: usize = 0;
-    while i < s.len() {
-        let b = s[i];
-        let c = t[i];
-        i += 1;
-        if b < c {
+    for (i, b) in s.iter().enumerate() {
+        if *b < t[i] {
             ok = false;
         }
     }
@@ -31,21 +27,15 @@ pub fn sixteen(file: &[u8], x: usize) -> bool
     requires { x + 96 ≤ length file.now }
     ensures { result ≡ true → Alike file.now x 16 }
 {
-    if file[x + 5] != 44 {
-        return false;
-    }
-    if file[x + 95] != 44 {
+    if file[x + 5] != b',' || file[x + 95] != b',' {
         return false;
     }
     let z = x + 96;
     let s = &file[x..z];
-    if !no_less(
+    no_less(
         s,
         b"0.000,0.000,0.000,0.000,0.000,0.000,0.000,0.000,0.000,0.000,0.000,0.000,0.000,0.000,0.000,0.000,",
-    ) {
-        return false;
-    }
-    no_less(
+    ) && no_less(
         b"9.999,9.999,9.999,9.999,9.999,9.999,9.999,9.999,9.999,9.999,9.999,9.999,9.999,9.999,9.999,9.999,",
         s,
     )

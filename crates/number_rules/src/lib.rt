@@ -10,28 +10,7 @@ use leaf::digits::{digits, small};
 fn is_kind(k: u64) -> bool
     ensures { result ≡ is_kind k }
 {
-    if k == 100 {
-        return true;
-    }
-    if k == 200 {
-        return true;
-    }
-    if k == 300 {
-        return true;
-    }
-    if k == 400 {
-        return true;
-    }
-    if k == 500 {
-        return true;
-    }
-    if k == 250 {
-        return true;
-    }
-    if k == 550 {
-        return true;
-    }
-    k == 900
+    matches!(k, 100 | 200 | 250 | 300 | 400 | 500 | 550 | 900)
 }
 
 // The kind of record that a first field names.
@@ -52,13 +31,7 @@ pub fn interval(f: &[u8]) -> Option<u64>
 fn is_length(m: u64) -> bool
     ensures { result ≡ is_length m }
 {
-    if m == 5 {
-        return true;
-    }
-    if m == 15 {
-        return true;
-    }
-    m == 30
+    matches!(m, 5 | 15 | 30)
 }
 
 pub fn interval_length(f: &[u8]) -> Option<u64>
@@ -72,16 +45,12 @@ pub fn interval_length(f: &[u8]) -> Option<u64>
 pub fn intervals(m: u64) -> usize
     ensures { result ≡ intervals_of m }
 {
-    if m == 5 {
-        return 288;
+    match m {
+        5 => 288,
+        15 => 96,
+        30 => 48,
+        _ => 0,
     }
-    if m == 15 {
-        return 96;
-    }
-    if m == 30 {
-        return 48;
-    }
-    0
 }
 
 // A reason, 65535 where the field is empty.

@@ -39,17 +39,12 @@ pub fn quality(f: &[u8], kind: u64) -> Option<Grade>
 pub fn across(flag: u8, reason: u16, described: usize) -> bool
     ensures { result ≡ across flag reason described }
 {
-    if flag == 86 {
-        if reason == 65535 {
-            return described == 0;
-        }
-        return false;
+    if flag == b'V' {
+        return reason == 65535 && described == 0;
     }
-    if reason == 0 {
-        return described != 0;
+    match reason {
+        0 => described != 0,
+        65535 => !needs_reason(flag),
+        _ => true,
     }
-    if reason == 65535 {
-        return !needs_reason(flag);
-    }
-    true
 }

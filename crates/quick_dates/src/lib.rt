@@ -14,67 +14,31 @@ use date_rules::{date, time};
 fn is_month(a: u8, b: u8) -> bool
     ensures { result ≡ is_month a b }
 {
-    if a == 48 {
-        if b < 49 {
-            return false;
-        }
-        return b <= 57;
-    }
-    if a != 49 {
-        return false;
-    }
-    if b < 48 {
-        return false;
-    }
-    b <= 50
+    matches!((a, b), (b'0', b'1'..=b'9') | (b'1', b'0'..=b'2'))
 }
 
 // 01 to 28: with a day that every month has, the month and the year need not be asked.
 fn is_early_day(a: u8, b: u8) -> bool
     ensures { result ≡ is_early_day a b }
 {
-    if !is_digit(b) {
-        return false;
-    }
-    if a == 48 {
-        return b != 48;
-    }
-    if a == 49 {
-        return true;
-    }
-    if a != 50 {
-        return false;
-    }
-    b != 57
+    matches!(
+        (a, b),
+        (b'0', b'1'..=b'9') | (b'1', b'0'..=b'9') | (b'2', b'0'..=b'8')
+    )
 }
 
 // 00 to 23.
 fn is_hour(a: u8, b: u8) -> bool
     ensures { result ≡ is_hour a b }
 {
-    if !is_digit(b) {
-        return false;
-    }
-    if a == 50 {
-        return b <= 51;
-    }
-    if a < 48 {
-        return false;
-    }
-    a <= 49
+    matches!((a, b), (b'0' | b'1', b'0'..=b'9') | (b'2', b'0'..=b'3'))
 }
 
 // 00 to 59.
 fn is_sixtieth(a: u8, b: u8) -> bool
     ensures { result ≡ is_sixtieth a b }
 {
-    if a < 48 {
-        return false;
-    }
-    if 53 < a {
-        return false;
-    }
-    is_digit(b)
+    matches!((a, b), (b'0'..=b'5', b'0'..=b'9'))
 }
 
 // The first eight bytes.
@@ -82,22 +46,12 @@ fn starts_date(f: &[u8]) -> bool
     requires { 8 ≤ length f.now }
     ensures { result ≡ starts_date f.now }
 {
-    if f[0] != 50 {
-        return false;
-    }
-    if f[1] != 48 {
-        return false;
-    }
-    if !is_digit(f[2]) {
-        return false;
-    }
-    if !is_digit(f[3]) {
-        return false;
-    }
-    if !is_month(f[4], f[5]) {
-        return false;
-    }
-    is_early_day(f[6], f[7])
+    f[0] == b'2'
+        && f[1] == b'0'
+        && is_digit(f[2])
+        && is_digit(f[3])
+        && is_month(f[4], f[5])
+        && is_early_day(f[6], f[7])
 }
 
 // The six bytes behind them: hour, minute and second.
@@ -105,34 +59,19 @@ fn ends_time(f: &[u8]) -> bool
     requires { 14 ≤ length f.now }
     ensures { result ≡ ends_time f.now }
 {
-    if !is_hour(f[8], f[9]) {
-        return false;
-    }
-    if !is_sixtieth(f[10], f[11]) {
-        return false;
-    }
-    is_sixtieth(f[12], f[13])
+    is_hour(f[8], f[9]) && is_sixtieth(f[10], f[11]) && is_sixtieth(f[12], f[13])
 }
 
 fn common_date(f: &[u8]) -> bool
     ensures { result ≡ is_common_date f.now }
 {
-    if f.len() != 8 {
-        return false;
-    }
-    starts_date(f)
+    f.len() == 8 && starts_date(f)
 }
 
 fn common_time(f: &[u8]) -> bool
     ensures { result ≡ is_common_time f.now }
 {
-    if f.len() != 14 {
-        return false;
-    }
-    if !starts_date(f) {
-        return false;
-    }
-    ends_time(f)
+    f.len() == 14 && starts_date(f) && ends_time(f)
 }
 
 // A date of eight digits.

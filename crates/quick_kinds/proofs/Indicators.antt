@@ -30,12 +30,6 @@ module _ (s : List ℕ) (n : length s ≡ 3) (z : get_or s 2 0 ≡ 48) where
   unfolding from indicator_of is_kind number_of are_all is_digit
   kind-250 y x = spelled (λ t. indicator_of t ≡ Some 250) 3 s n (rw (x, y, z))
 
--- 0 is no kind, and says nothing
-pub kind-none : {P : Type 0} → 0 < 0 → P
-kind-none h = absurd (let z : ⊥ = omega arith in z)
-
-pub ruleset kinds-known = (kind-hundreds, kind-250, kind-none)
-
 pub kind-told : (s : List ℕ) {k : ℕ} → (0 < k → indicator_of s ≡ Some k) → 0 < k → Some k ≡ indicator_of s
 kind-told s h g = rw (h g)
 

@@ -9,26 +9,11 @@ fn common_kind(f: &[u8]) -> u64
     requires { length f.now ≡ 3 }
     ensures { 0 < result → indicator_of f.now ≡ Some result }
 {
-    if f[2] != 48 {
-        return 0;
+    match (f[0], f[1], f[2]) {
+        (b @ b'1'..=b'5', b'0', b'0') => u64::from(b - b'0') * 100,
+        (b'2', b'5', b'0') => 250,
+        _ => 0,
     }
-    let b = f[0];
-    if f[1] == 48 {
-        if b < 49 {
-            return 0;
-        }
-        if 53 < b {
-            return 0;
-        }
-        return (b as u64 - 48) * 100;
-    }
-    if f[1] != 53 {
-        return 0;
-    }
-    if b != 50 {
-        return 0;
-    }
-    250
 }
 
 // The kind of record that a first field names.

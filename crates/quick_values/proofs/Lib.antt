@@ -1,3 +1,4 @@
 pub mod Spans
 pub mod Shapes
 pub mod RegisterReads
+pub mod Decimals

@@ -1,12 +1,13 @@
 -- A loop over the digits that a field begins with. Assumes nothing.
 use Prim.Native.Nat.{ℕ, ◌+◌, ◌≤◌, ◌<◌}
-use mathlib.Core.Path.{◌≡◌, sym}
+use mathlib.Core.Path.{◌≡◌, sym, ◌∙◌}
+use mathlib.Core.Bool.{Bool, true, false, not}
 use mathlib.Core.List.{List}
 use native.Mathlib.Omega.{arith}
 use lib.ListN.{length, get_or, drop}
+use borrow.Author.Tests.{not-true, not-false}
 use Rattle.ground.specs.Lists.{span_of}
 use Rattle.ground.specs.Digits.{is_digit}
-use Rattle.ground.proofs.Decimal.{digit-is, digit_low, digit-high}
 use Rattle.ground.proofs.Spans.{span-on, span-stop, span-all}
 
 -- the bytes before i are digits
@@ -18,15 +19,13 @@ pub far_none : (s : List ℕ) → Far s 0
 far_none s = record { within = omega arith; rest = omega arith }
 
 module _ (s : List ℕ) (i : ℕ) (r : Far s i) where
-  module _ (h : i < length s) where
-    pub far-on : 48 ≤ get_or s i 0 → get_or s i 0 ≤ 57 → Far s (i + 1)
-    far-on a b = record { within = omega arith; rest = span-on is_digit s i h (sym (digit-is _ a b)) r.rest }
+  -- d is what `is_digit` answers of the byte at i
+  module _ (h : i < length s) {d : Bool} (e : d ≡ is_digit (get_or s i 0)) where
+    pub far-on : not d ≡ false → Far s (i + 1)
+    far-on t = record { within = omega arith; rest = span-on is_digit s i h (sym e ∙ not-false d t) r.rest }
 
-    pub far-low : get_or s i 0 < 48 → i ≡ span_of is_digit s
-    far-low a = span-stop is_digit s i h (sym (digit_low _ a)) r.rest
-
-    pub far-high : 57 < get_or s i 0 → i ≡ span_of is_digit s
-    far-high a = span-stop is_digit s i h (sym (digit-high _ a)) r.rest
+    pub far-stop : not d ≡ true → i ≡ span_of is_digit s
+    far-stop t = span-stop is_digit s i h (sym e ∙ not-true d t) r.rest
 
   pub far-all : length s ≤ i → i ≡ span_of is_digit s
   far-all h = span-all is_digit s i h r.rest

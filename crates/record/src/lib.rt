@@ -59,10 +59,7 @@ fn second_asked(kind: u64) -> usize
 fn noted(w: usize, before: usize, i: usize, a: usize) -> usize
     ensures { result ≡ cond (eqb i w) a before }
 {
-    if i == w {
-        return a;
-    }
-    before
+    if i == w { a } else { before }
 }
 
 // Passes the values of a 300, up to one that breaks its rule. Those that are left are counted down, so that the loop has one number less to keep.
@@ -102,26 +99,18 @@ fn passed(
     requires { Typed file.now at e kind (scale_at file.now at e kind n d) × Along file.now at e kind (scale_at file.now at e kind n d) i b × (1 ≤ i) × (n ≤ 288) }
     ensures { Goes file.now at e kind (scale_at file.now at e kind n d) i b result }
 {
-    if kind != 300 {
-        return Spot { i: i, b: b };
+    if kind == 300 && 2 <= i && i < n + 2 {
+        pass_values(file, at, e, n, d, i, b)
+    } else {
+        Spot { i, b }
     }
-    if i < 2 {
-        return Spot { i: i, b: b };
-    }
-    if n + 2 <= i {
-        return Spot { i: i, b: b };
-    }
-    pass_values(file, at, e, n, d, i, b)
 }
 
 // Field i of a record of the kind is a 250's quantity.
 fn is_quantity(kind: u64, i: usize) -> bool
     ensures { result ≡ eqb i quantity_field && eqb kind 250 }
 {
-    if i != 18 {
-        return false;
-    }
-    kind == 250
+    i == 18 && kind == 250
 }
 
 // Field i, which starts at a, held to its rule. A 250's quantity is held to the unit that stands behind it.

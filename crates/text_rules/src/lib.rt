@@ -23,20 +23,14 @@ pub fn suffix(f: &[u8]) -> bool
 pub fn data_stream(f: &[u8]) -> bool
     ensures { result ≡ is_stream f.now }
 {
-    if f.len() == 0 {
-        return true;
-    }
-    suffix(f)
+    f.is_empty() || suffix(f)
 }
 
 // From and to.
 pub fn party(f: &[u8]) -> bool
     ensures { result ≡ is_party f.now }
 {
-    if text(f, 1, 10) {
-        return all_in(f, Class::NoHash);
-    }
-    false
+    text(f, 1, 10) && all_in(f, Class::NoHash)
 }
 
 pub fn configuration(f: &[u8]) -> bool
@@ -72,10 +66,7 @@ pub fn description(f: &[u8]) -> bool
 pub fn direction(f: &[u8]) -> bool
     ensures { result ≡ is_direction f.now }
 {
-    if same_bytes(f, b"I") {
-        return true;
-    }
-    same_bytes(f, b"E")
+    same_bytes(f, b"I") || same_bytes(f, b"E")
 }
 
 pub fn trans_code(f: &[u8]) -> bool

@@ -30,9 +30,10 @@ fn ends(file: &[u8], a: usize, e: usize, m: usize) -> bool
     ensures { result ≡ true → Stops file.now a e m }
 {
     if m < e - a {
-        return file[a + m] == 44;
+        file[a + m] == b','
+    } else {
+        m == e - a
     }
-    m == e - a
 }
 
 // m letters and digits.
@@ -123,12 +124,12 @@ fn tried(file: &[u8], a: usize, e: usize, rule: Rule) -> Option<usize>
         Rule::Suffix => alnum_to(file, a, e, 2),
         Rule::Stream => alnum_to(file, a, e, 2),
         Rule::Unit => kwh_to(file, a, e),
-        Rule::Direction => one_to(file, a, e, 69),
+        Rule::Direction => one_to(file, a, e, b'E'),
         Rule::Date => date_to(file, a, e),
         Rule::NextRead => date_to(file, a, e),
         Rule::Time => time_to(file, a, e),
         Rule::Load => time_to(file, a, e),
-        Rule::Quality => one_to(file, a, e, 65),
+        Rule::Quality => one_to(file, a, e, b'A'),
         Rule::Reason => none_to(file, a, e),
         Rule::Description => none_to(file, a, e),
         _ => None,
@@ -182,7 +183,7 @@ pub fn value_held(file: &[u8], a: usize, e: usize, d: usize) -> Option<usize>
     }
     if 5 < e - a {
         let z = a + 5;
-        if file[z] == 44 {
+        if file[z] == b',' {
             if thousandths(&file[a..z]) {
                 return Some(z);
             }

@@ -2,14 +2,14 @@
 use Rattle.std.proofs.Common.{Option, Some, None}
 use Prim.Native.Nat.{ℕ, ◌+◌, ◌≤◌, ◌<◌}
 use mathlib.Core.Path.{◌≡◌, refl, sym, ap, ◌∙◌}
-use mathlib.Core.Bool.{Bool, true, false, cond}
+use mathlib.Core.Bool.{Bool, true, false, cond, not}
 use mathlib.Core.List.{List, [], ◌∷◌, map}
 use native.Mathlib.Omega.{arith}
 use native.Mathlib.Numerals.{add-one}
 use lib.ListN.{length, get_or, drop, length-map, take, drop_of_length-le, get_or-map, get_or-eq_default}
 use lib.Seq.{drop-cons}
 use lib.Dec.{eqb}
-use borrow.Author.Tests.{eqb-true, eqb-false}
+use borrow.Author.Tests.{eqb-true, eqb-false, not-true, not-false}
 use mir.Val.{Fits}
 use mir.Syntax.{w8}
 use Rattle.ground.proofs.Lists.{Agreed, unlike, agreed-none, agreed-more, agreed-stops, agreed-all}
@@ -45,12 +45,12 @@ module _ (u : ℕ) (s : List ℕ) where
     within : i < length (map capital (unit_name u))
     within = omega (arith, r.agreed.as_long, length-map s capital)
 
-    pub named_more : t ≡ true → Spelt u s (i + 1)
-    named_more h = record { agreed = agreed-more (map capital (unit_name u)) (map capital s) i within (eqb-true _ _ (sym letters ∙ h)) r.agreed }
+    pub named_more : not t ≡ false → Spelt u s (i + 1)
+    named_more h = record { agreed = agreed-more (map capital (unit_name u)) (map capital s) i within (eqb-true _ _ (sym letters ∙ not-false t h)) r.agreed }
 
-    pub named-stops : t ≡ false → false ≡ same_letters (unit_name u) s
+    pub named-stops : not t ≡ true → false ≡ same_letters (unit_name u) s
     unfolding same_letters
-    named-stops h = agreed-stops (map capital (unit_name u)) (map capital s) i within (eqb-false _ _ (sym letters ∙ h)) r.agreed
+    named-stops h = agreed-stops (map capital (unit_name u)) (map capital s) i within (eqb-false _ _ (sym letters ∙ not-true t h)) r.agreed
 
   pub named-all : (i : ℕ) → length s ≤ i → Spelt u s i → true ≡ same_letters (unit_name u) s
   unfolding same_letters

@@ -76,13 +76,7 @@ fn name_len(t: &[u8; 161], unit: usize) -> usize
 pub fn capital(b: u8) -> u8
     ensures { result ≡ capital b }
 {
-    if b < 97 {
-        return b;
-    }
-    if 122 < b {
-        return b;
-    }
-    b - 32
+    b.to_ascii_uppercase()
 }
 
 // A byte of the name and that of the field are the same letter.
@@ -102,11 +96,8 @@ fn is_named(t: &[u8; 161], unit: usize, f: &[u8]) -> bool
     if n != name_len(t, unit) {
         return false;
     }
-    let mut i: usize = 0;
-    while i < n {
-        if same_letter(t, unit, f, i) {
-            i += 1;
-        } else {
+    for i in 0..n {
+        if !same_letter(t, unit, f, i) {
             return false;
         }
     }
@@ -118,12 +109,10 @@ pub fn number(f: &[u8]) -> Option<u64>
     ensures { result ≡ unit_of f.now }
 {
     let t = rows();
-    let mut u: usize = 0;
-    while u < COUNT {
+    for u in 0..COUNT {
         if is_named(&t, u, f) {
             return Some(u as u64);
         }
-        u += 1;
     }
     None
 }
@@ -142,9 +131,10 @@ pub fn decimals(unit: u8) -> usize
 {
     if is_unit(unit) {
         let t = rows();
-        return cell(&t, unit as usize, DECIMALS) as usize;
+        cell(&t, unit as usize, DECIMALS) as usize
+    } else {
+        0
     }
-    0
 }
 
 // How many decimals a value may have whose unit is so named: six at most where there is no such unit.
@@ -172,7 +162,7 @@ pub fn name(unit: u8) -> Spelling
     if is_unit(unit) {
         let t = rows();
         let u = unit as usize;
-        return Spelling {
+        Spelling {
             bytes: [
                 letter(&t, u, 0),
                 letter(&t, u, 1),
@@ -181,10 +171,11 @@ pub fn name(unit: u8) -> Spelling
                 letter(&t, u, 4),
             ],
             length: name_len(&t, u),
-        };
-    }
-    Spelling {
-        bytes: [0; 5],
-        length: 0,
+        }
+    } else {
+        Spelling {
+            bytes: [0; 5],
+            length: 0,
+        }
     }
 }

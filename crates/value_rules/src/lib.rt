@@ -13,16 +13,14 @@ use leaf::digits::digits;
 pub fn tens(n: usize) -> u64
     ensures { result ≡ 10 ^ (6 - n) }
 {
-    if 5 < n {
-        return 1;
-    }
     match n {
+        0 => 1000000,
         1 => 100000,
         2 => 10000,
         3 => 1000,
         4 => 100,
         5 => 10,
-        _ => 1000000,
+        _ => 1,
     }
 }
 
@@ -30,10 +28,7 @@ pub fn tens(n: usize) -> u64
 pub fn up_to_six(d: usize) -> usize
     ensures { result ≡ min d 6 }
 {
-    if d < 6 {
-        return d;
-    }
-    6
+    d.min(6)
 }
 
 // What stands behind a point: 1 to d digits, as millionths.
@@ -59,7 +54,7 @@ pub fn value(f: &[u8], d: usize) -> Option<u64>
     ensures { result ≡ value_of d f.now }
 {
     let n = f.len();
-    let p = first_at(f, 46);
+    let p = first_at(f, b'.');
     if p == n {
         return join(digits(f, 1, 7), Some(0));
     }
@@ -70,10 +65,7 @@ pub fn value(f: &[u8], d: usize) -> Option<u64>
 fn are_digits(f: &[u8]) -> bool
     ensures { result ≡ are_digits f.now }
 {
-    if f.len() < 1 {
-        return false;
-    }
-    all_in(f, Class::Digit)
+    !f.is_empty() && all_in(f, Class::Digit)
 }
 
 // A previous or current read.
@@ -84,23 +76,15 @@ pub fn register_read(f: &[u8]) -> bool
     if 15 < n {
         return false;
     }
-    let p = first_at(f, 46);
+    let p = first_at(f, b'.');
     if p == n {
         return are_digits(f);
     }
-    if are_digits(&f[..p]) {
-        let q = p + 1;
-        return are_digits(&f[q..]);
-    }
-    false
+    are_digits(&f[..p]) && are_digits(&f[p + 1..])
 }
 
 pub fn index_read(f: &[u8]) -> bool
     ensures { result ≡ is_index_read f.now }
 {
-    let n = f.len();
-    if n == 0 {
-        return true;
-    }
-    register_read(f)
+    f.is_empty() || register_read(f)
 }

@@ -1,16 +1,13 @@
 -- `classes::are_all` meets its contract. Assumes nothing.
+use Rattle.std.proofs.Common.{arith}
+use Rattle.std.proofs.lemmas.Bool.Decides.{nat_tests}
 use Rattle.format.specs.Bytes.{are_all}
-use Rattle.ground.proofs.Tests.{tests}
 use Rattle.classes.proofs.are_all.Goals as goal
 
-pub returns-then-n-least : goal.returns-then-n-least
+pub returns-then-f-most : goal.returns-then-f-most
 unfolding are_all
-returns-then-n-least c = search tests
+returns-then-f-most c = grind (arith, nat_tests)
 
-pub returns-then-most-n : goal.returns-then-most-n
+pub returns-else-f-most : goal.returns-else-f-most
 unfolding are_all
-returns-then-most-n c = search tests
-
-pub returns : goal.returns
-unfolding are_all
-returns c = search tests
+returns-else-f-most c = grind (arith, nat_tests)

@@ -1,9 +1,10 @@
 -- `classes::is_alnum` meets its contract. Assumes nothing.
-use Rattle.classes.proofs.Cases.{alnum-digit, alnum-letter}
+use mathlib.Core.Path.{◌∙◌}
+use Rattle.ground.specs.Digits.{is_digit}
+use Rattle.format.specs.Bytes.{is_capital}
+use Rattle.classes.proofs.Cases.{alnum-is}
 use Rattle.classes.proofs.is_alnum.Goals as goal
 
-pub returns-then-is_digit : goal.returns-then-is_digit
-returns-then-is_digit c = search (alnum-digit, alnum-letter)
-
 pub returns : goal.returns
-returns c = search (alnum-digit, alnum-letter)
+unfolding is_capital is_digit
+returns c = c.is_ascii_alphanumeric.ensures.value ∙ alnum-is c.args.b

@@ -6,7 +6,7 @@ pub returns-then-not-all_plain : goal.returns-then-not-all_plain
 returns-then-not-all_plain c = search passes
 
 pub loop-i-preserved : goal.loop-i-preserved
-loop-i-preserved c = search passes
+loop-i-preserved c = rw c.from-commas.ensures (search passes)
 
 pub returns : goal.returns
 returns c = search passes

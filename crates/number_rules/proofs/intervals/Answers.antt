@@ -1,15 +1,21 @@
 -- `number_rules::intervals` meets its contract. Assumes nothing.
-use Rattle.number_rules.proofs.Cases.{five-minutes, fifteen-minutes, thirty-minutes, no-minutes}
+use Rattle.std.proofs.Common.{arith}
+use Rattle.std.proofs.lemmas.Bool.Decides.{nat_tests}
+use Rattle.format.specs.Numbers.{is_length, intervals_of}
 use Rattle.number_rules.proofs.intervals.Goals as goal
 
-pub returns-then-m-eq5 : goal.returns-then-m-eq5
-returns-then-m-eq5 c = search (five-minutes, fifteen-minutes, thirty-minutes, no-minutes)
+pub returns-in-5 : goal.returns-in-5
+unfolding intervals_of is_length
+returns-in-5 c = grind (arith, nat_tests)
 
-pub returns-then-m-eq15 : goal.returns-then-m-eq15
-returns-then-m-eq15 c = search (five-minutes, fifteen-minutes, thirty-minutes, no-minutes)
+pub returns-in-15 : goal.returns-in-15
+unfolding intervals_of is_length
+returns-in-15 c = grind (arith, nat_tests)
 
-pub returns-then-m-eq30 : goal.returns-then-m-eq30
-returns-then-m-eq30 c = search (five-minutes, fifteen-minutes, thirty-minutes, no-minutes)
+pub returns-in-30 : goal.returns-in-30
+unfolding intervals_of is_length
+returns-in-30 c = grind (arith, nat_tests)
 
-pub returns : goal.returns
-returns c = search (five-minutes, fifteen-minutes, thirty-minutes, no-minutes)
+pub returns-in_default : goal.returns-in_default
+unfolding intervals_of is_length
+returns-in_default c = grind (arith, nat_tests)

@@ -1,16 +1,13 @@
 -- `number_rules::is_length` meets its contract. Assumes nothing.
+use Rattle.std.proofs.Common.{arith}
+use Rattle.std.proofs.lemmas.Bool.Decides.{nat_tests}
 use Rattle.format.specs.Numbers.{is_length}
-use Rattle.ground.proofs.Tests.{tests}
 use Rattle.number_rules.proofs.is_length.Goals as goal
 
-pub returns-then-m-eq5 : goal.returns-then-m-eq5
+pub returns-in-5 : goal.returns-in-5
 unfolding is_length
-returns-then-m-eq5 c = search tests
+returns-in-5 c = grind (arith, nat_tests)
 
-pub returns-then-m-eq15 : goal.returns-then-m-eq15
+pub returns-in_default : goal.returns-in_default
 unfolding is_length
-returns-then-m-eq15 c = search tests
-
-pub returns : goal.returns
-unfolding is_length
-returns c = search tests
+returns-in_default c = grind (arith, nat_tests)

@@ -1,16 +1,13 @@
 -- `quick_dates::ends_time` meets its contract. Assumes nothing.
-use Rattle.ground.proofs.Rows.{row}
+use Rattle.std.proofs.Common.{arith}
+use Rattle.std.proofs.lemmas.Bool.Decides.{nat_tests}
 use Rattle.quick_dates.specs.Shapes.{ends_time}
 use Rattle.quick_dates.proofs.ends_time.Goals as goal
 
-pub returns-then-not-is_hour : goal.returns-then-not-is_hour
+pub returns-then-is_sixtieth : goal.returns-then-is_sixtieth
 unfolding ends_time
-returns-then-not-is_hour c = search row
+returns-then-is_sixtieth c = grind (arith, nat_tests)
 
-pub returns-then-not-is_sixtieth : goal.returns-then-not-is_sixtieth
+pub returns-else-is_sixtieth : goal.returns-else-is_sixtieth
 unfolding ends_time
-returns-then-not-is_sixtieth c = search row
-
-pub returns : goal.returns
-unfolding ends_time
-returns c = search row
+returns-else-is_sixtieth c = grind (arith, nat_tests)

@@ -1,25 +1,46 @@
 -- `quick_dates::is_early_day` meets its contract. Assumes nothing.
-use Rattle.ground.proofs.Tests.{tests}
-use Rattle.ground.proofs.Rows.{row}
+use Rattle.std.proofs.Common.{arith}
+use Rattle.std.proofs.lemmas.Bool.Decides.{nat_tests}
 use Rattle.quick_dates.specs.Shapes.{is_early_day}
+use Rattle.ground.specs.Digits.{is_digit}
 use Rattle.quick_dates.proofs.is_early_day.Goals as goal
 
-pub returns-then-not-is_digit : goal.returns-then-not-is_digit
-unfolding is_early_day
-returns-then-not-is_digit c = search (row, tests)
+pub returns-in-48-49-to-57 : goal.returns-in-48-49-to-57
+unfolding is_early_day is_digit
+returns-in-48-49-to-57 c = grind (arith, nat_tests)
 
-pub returns-then-a-eq48 : goal.returns-then-a-eq48
-unfolding is_early_day
-returns-then-a-eq48 c = search (row, tests)
+pub returns-in-48-49-to-57-2 : goal.returns-in-48-49-to-57-2
+unfolding is_early_day is_digit
+returns-in-48-49-to-57-2 c = grind (arith, nat_tests)
 
-pub returns-then-a-eq49 : goal.returns-then-a-eq49
-unfolding is_early_day
-returns-then-a-eq49 c = search (row, tests)
+pub returns-in-48-49-to-57-3 : goal.returns-in-48-49-to-57-3
+unfolding is_early_day is_digit
+returns-in-48-49-to-57-3 c = grind (arith, nat_tests)
 
-pub returns-then-a-ne50 : goal.returns-then-a-ne50
-unfolding is_early_day
-returns-then-a-ne50 c = search (row, tests)
+pub returns-in_default : goal.returns-in_default
+unfolding is_early_day is_digit
+returns-in_default c = grind (arith, nat_tests)
 
-pub returns : goal.returns
-unfolding is_early_day
-returns c = search (row, tests)
+pub returns-in_default-2 : goal.returns-in_default-2
+unfolding is_early_day is_digit
+returns-in_default-2 c = grind (arith, nat_tests)
+
+pub returns-in_default-3 : goal.returns-in_default-3
+unfolding is_early_day is_digit
+returns-in_default-3 c = grind (arith, nat_tests)
+
+pub returns-in_default-4 : goal.returns-in_default-4
+unfolding is_early_day is_digit
+returns-in_default-4 c = grind (arith, nat_tests)
+
+pub returns-in_default-5 : goal.returns-in_default-5
+unfolding is_early_day is_digit
+returns-in_default-5 c = grind (arith, nat_tests)
+
+pub returns-in_default-6 : goal.returns-in_default-6
+unfolding is_early_day is_digit
+returns-in_default-6 c = grind (arith, nat_tests)
+
+pub returns-in_default-7 : goal.returns-in_default-7
+unfolding is_early_day is_digit
+returns-in_default-7 c = grind (arith, nat_tests)

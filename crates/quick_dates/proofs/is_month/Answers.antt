@@ -1,24 +1,33 @@
 -- `quick_dates::is_month` meets its contract. Assumes nothing.
-use Rattle.ground.proofs.Tests.{tests}
+use Rattle.std.proofs.Common.{arith}
+use Rattle.std.proofs.lemmas.Bool.Decides.{nat_tests}
 use Rattle.quick_dates.specs.Shapes.{is_month}
 use Rattle.quick_dates.proofs.is_month.Goals as goal
 
-pub returns-then-b-lt49 : goal.returns-then-b-lt49
+pub returns-in-48-49-to-57 : goal.returns-in-48-49-to-57
 unfolding is_month
-returns-then-b-lt49 c = search tests
+returns-in-48-49-to-57 c = grind (arith, nat_tests)
 
-pub returns-then-a-eq48 : goal.returns-then-a-eq48
+pub returns-in-48-49-to-57-2 : goal.returns-in-48-49-to-57-2
 unfolding is_month
-returns-then-a-eq48 c = search tests
+returns-in-48-49-to-57-2 c = grind (arith, nat_tests)
 
-pub returns-then-a-ne49 : goal.returns-then-a-ne49
+pub returns-in_default : goal.returns-in_default
 unfolding is_month
-returns-then-a-ne49 c = search tests
+returns-in_default c = grind (arith, nat_tests)
 
-pub returns-then-b-lt48 : goal.returns-then-b-lt48
+pub returns-in_default-2 : goal.returns-in_default-2
 unfolding is_month
-returns-then-b-lt48 c = search tests
+returns-in_default-2 c = grind (arith, nat_tests)
 
-pub returns : goal.returns
+pub returns-in_default-3 : goal.returns-in_default-3
 unfolding is_month
-returns c = search tests
+returns-in_default-3 c = grind (arith, nat_tests)
+
+pub returns-in_default-4 : goal.returns-in_default-4
+unfolding is_month
+returns-in_default-4 c = grind (arith, nat_tests)
+
+pub returns-in_default-5 : goal.returns-in_default-5
+unfolding is_month
+returns-in_default-5 c = grind (arith, nat_tests)

@@ -1,24 +1,15 @@
 -- `quick_kinds::common_kind` meets its contract. Assumes nothing.
-use Rattle.quick_kinds.proofs.Indicators.{kinds-known}
+use Rattle.quick_kinds.proofs.Indicators.{kind-hundreds, kind-250}
+use Prim.Native.Nat.{◌≤◌}
+use lib.ListN.{get_or}
+use native.Mathlib.Omega.{arith}
 use Rattle.quick_kinds.proofs.common_kind.Goals as goal
 
-pub returns-then-f-ne48 : goal.returns-then-f-ne48
-returns-then-f-ne48 c = search kinds-known
+pub returns-in-49-to-53-eq48-eq48 : goal.returns-in-49-to-53-eq48-eq48
+returns-in-49-to-53-eq48-eq48 c =
+    let low : 49 ≤ get_or c.args.f.now 0 0 = grind arith in
+    let high : get_or c.args.f.now 0 0 ≤ 53 = grind arith in
+    λ _. rw c.from.ensures (kind-hundreds _ c.requires (omega arith) (omega arith) low high)
 
-pub returns-then-b-lt49 : goal.returns-then-b-lt49
-returns-then-b-lt49 c = search kinds-known
-
-pub returns-then-b-gt53 : goal.returns-then-b-gt53
-returns-then-b-gt53 c = search kinds-known
-
-pub returns-then-f-eq48 : goal.returns-then-f-eq48
-returns-then-f-eq48 c = search kinds-known
-
-pub returns-then-f-ne53 : goal.returns-then-f-ne53
-returns-then-f-ne53 c = search kinds-known
-
-pub returns-then-b-ne50 : goal.returns-then-b-ne50
-returns-then-b-ne50 c = search kinds-known
-
-pub returns : goal.returns
-returns c = search kinds-known
+pub returns-in-50-eq53-eq48 : goal.returns-in-50-eq53-eq48
+returns-in-50-eq53-eq48 c = λ _. kind-250 _ c.requires (omega arith) (omega arith) (omega arith)

@@ -1,10 +1,6 @@
 -- `quick_values::digit_span` meets its contract. Assumes nothing.
-use Prim.Native.Nat.{◌-◌}
 use Rattle.quick_values.proofs.Spans.{Far}
 use Rattle.quick_values.proofs.digit_span.Given as goal
 
 abbrev pub invariant-loop-i : goal.invariant-loop-i
 invariant-loop-i l = Far l.f l.i
-
-abbrev pub decreases-loop-i : goal.decreases-loop-i
-decreases-loop-i l = l.n - l.i

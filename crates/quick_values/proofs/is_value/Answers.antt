@@ -1,24 +1,22 @@
 -- `quick_values::is_value` meets its contract. Assumes nothing.
-use Rattle.format.proofs.Shapes.{value-no-digit, value-digits, value-all, value-apart, value-point-last, value-long, value-fraction}
+use Rattle.format.proofs.Shapes.{value-no-digit, value-digits, value-all, value-apart}
+use Rattle.quick_values.proofs.Decimals.{value-decimals}
+use borrow.Author.Tests.{ne_eqb}
 use Rattle.quick_values.proofs.is_value.Goals as goal
 
+ruleset laws = (value-no-digit, value-digits, value-all, value-apart, value-decimals)
+
 pub returns-then-w-lt1 : goal.returns-then-w-lt1
-returns-then-w-lt1 c = search (value-no-digit, value-digits, value-all, value-apart, value-point-last, value-long, value-fraction)
+returns-then-w-lt1 c = search laws
 
 pub returns-then-w-gt7 : goal.returns-then-w-gt7
-returns-then-w-gt7 c = search (value-no-digit, value-digits, value-all, value-apart, value-point-last, value-long, value-fraction)
+returns-then-w-gt7 c = search laws
 
-pub returns-then-w-n : goal.returns-then-w-n
-returns-then-w-n c = search (value-no-digit, value-digits, value-all, value-apart, value-point-last, value-long, value-fraction)
+pub returns-then-w-f : goal.returns-then-w-f
+returns-then-w-f c = search laws
 
-pub returns-then-f-w-ne46 : goal.returns-then-f-w-ne46
-returns-then-f-w-ne46 c = search (value-no-digit, value-digits, value-all, value-apart, value-point-last, value-long, value-fraction)
+pub returns-then-f-w-eq46 : goal.returns-then-f-w-eq46
+returns-then-f-w-eq46 c = search laws
 
-pub returns-then-a-n : goal.returns-then-a-n
-returns-then-a-n c = search (value-no-digit, value-digits, value-all, value-apart, value-point-last, value-long, value-fraction)
-
-pub returns-then-d-n : goal.returns-then-d-n
-returns-then-d-n c = search (value-no-digit, value-digits, value-all, value-apart, value-point-last, value-long, value-fraction)
-
-pub returns : goal.returns
-returns c = search (value-no-digit, value-digits, value-all, value-apart, value-point-last, value-long, value-fraction)
+pub returns-else-f-w-eq46 : goal.returns-else-f-w-eq46
+returns-else-f-w-eq46 c = rw (ne_eqb _ _ c.if-f-w-eq46.false) (search laws)

@@ -5,5 +5,5 @@ use Rattle.record.proofs.noted.Goals as goal
 pub returns-then-i-w : goal.returns-then-i-w
 returns-then-i-w c = search tests
 
-pub returns : goal.returns
-returns c = search tests
+pub returns-else-i-w : goal.returns-else-i-w
+returns-else-i-w c = search tests

@@ -1,12 +1,13 @@
 -- `text_rules::data_stream` meets its contract. Assumes nothing.
+use Rattle.std.proofs.Common.{arith}
+use Rattle.std.proofs.lemmas.Bool.Decides.{nat_tests}
 use Rattle.format.specs.Texts.{is_stream}
-use Rattle.ground.proofs.Tests.{tests}
 use Rattle.text_rules.proofs.data_stream.Goals as goal
 
-pub returns-then-f-eq0 : goal.returns-then-f-eq0
+pub returns-then-is_empty : goal.returns-then-is_empty
 unfolding is_stream
-returns-then-f-eq0 c = search tests
+returns-then-is_empty c = grind (arith, nat_tests)
 
-pub returns : goal.returns
+pub returns-else-is_empty : goal.returns-else-is_empty
 unfolding is_stream
-returns c = search tests
+returns-else-is_empty c = grind (arith, nat_tests)

@@ -1,9 +1,13 @@
 -- `text_rules::party` meets its contract. Assumes nothing.
-use Rattle.text_rules.proofs.Cases.{party-is, party-not}
+use Rattle.std.proofs.Common.{arith}
+use Rattle.std.proofs.lemmas.Bool.Decides.{nat_tests}
+use Rattle.format.specs.Texts.{is_party}
 use Rattle.text_rules.proofs.party.Goals as goal
 
 pub returns-then-text : goal.returns-then-text
-returns-then-text c = search (party-is, party-not)
+unfolding is_party
+returns-then-text c = grind (arith, nat_tests)
 
-pub returns : goal.returns
-returns c = search (party-is, party-not)
+pub returns-else-text : goal.returns-else-text
+unfolding is_party
+returns-else-text c = grind (arith, nat_tests)

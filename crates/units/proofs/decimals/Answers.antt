@@ -9,5 +9,5 @@ cell-requires c = search (known, rules)
 pub returns-then-is_unit : goal.returns-then-is_unit
 returns-then-is_unit c = search (known, decimals-at, decimals-few)
 
-pub returns : goal.returns
-returns c = search (decimals-none, rules)
+pub returns-else-is_unit : goal.returns-else-is_unit
+returns-else-is_unit c = search (decimals-none, rules)

@@ -13,8 +13,8 @@ loop-i-init c = search laws
 pub loop-i-preserved : goal.loop-i-preserved
 loop-i-preserved c = search laws
 
-pub returns-else-same_letter : goal.returns-else-same_letter
-returns-else-same_letter c = search laws
+pub returns-then-not-same_letter : goal.returns-then-not-same_letter
+returns-then-not-same_letter c = search laws
 
 pub returns : goal.returns
 returns c = search laws

@@ -27,5 +27,5 @@ name_len-requires c = search laws
 pub returns-then-is_unit : goal.returns-then-is_unit
 returns-then-is_unit c = search name-is
 
-pub returns : goal.returns
-returns c = search name-none
+pub returns-else-is_unit : goal.returns-else-is_unit
+returns-else-is_unit c = search name-none

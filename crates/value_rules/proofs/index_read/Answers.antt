@@ -1,12 +1,13 @@
 -- `value_rules::index_read` meets its contract. Assumes nothing.
+use Rattle.std.proofs.Common.{arith}
+use Rattle.std.proofs.lemmas.Bool.Decides.{nat_tests}
 use Rattle.format.specs.Numbers.{is_index_read}
-use Rattle.ground.proofs.Tests.{tests}
 use Rattle.value_rules.proofs.index_read.Goals as goal
 
-pub returns-then-n-eq0 : goal.returns-then-n-eq0
+pub returns-then-is_empty : goal.returns-then-is_empty
 unfolding is_index_read
-returns-then-n-eq0 c = search tests
+returns-then-is_empty c = grind (arith, nat_tests)
 
-pub returns : goal.returns
+pub returns-else-is_empty : goal.returns-else-is_empty
 unfolding is_index_read
-returns c = search tests
+returns-else-is_empty c = grind (arith, nat_tests)

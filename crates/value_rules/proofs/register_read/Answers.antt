@@ -19,5 +19,5 @@ slice_bounds-are_digits-end c = simp length-take (omega arith)
 pub returns-then-are_digits : goal.returns-then-are_digits
 returns-then-are_digits c = search (read_whole, read-split, read-bad)
 
-pub returns : goal.returns
-returns c = search (read_whole, read-split, read-bad)
+pub returns-else-are_digits : goal.returns-else-are_digits
+returns-else-are_digits c = rw c.if-are_digits.false (search read-bad)

@@ -1,30 +1,13 @@
 -- `date_rules::calendar::is_date` meets its contract. Assumes nothing.
-use Rattle.format.proofs.Dates.{day-is, day-end}
-use Rattle.format.specs.Dates.{is_date}
-use Rattle.ground.proofs.Tests.{refuted}
-use native.Mathlib.Omega.{arith}
+use Rattle.std.proofs.Common.{arith}
+use Rattle.std.proofs.lemmas.Bool.Decides.{nat_tests}
+use Rattle.format.specs.Dates.{is_day, is_date}
 use Rattle.date_rules.proofs.calendar.is_date.Goals as goal
 
-pub returns-then-y-lt1900 : goal.returns-then-y-lt1900
-unfolding is_date
-returns-then-y-lt1900 c = refuted _ (λ t. let d = day-is _ _ _ t in omega arith)
+pub returns-then-d-ge1 : goal.returns-then-d-ge1
+unfolding is_date is_day
+returns-then-d-ge1 c = grind (arith, nat_tests)
 
-pub returns-then-y-gt2199 : goal.returns-then-y-gt2199
-unfolding is_date
-returns-then-y-gt2199 c = refuted _ (λ t. let d = day-is _ _ _ t in omega arith)
-
-pub returns-then-m-lt1 : goal.returns-then-m-lt1
-unfolding is_date
-returns-then-m-lt1 c = refuted _ (λ t. let d = day-is _ _ _ t in omega arith)
-
-pub returns-then-m-gt12 : goal.returns-then-m-gt12
-unfolding is_date
-returns-then-m-gt12 c = refuted _ (λ t. let d = day-is _ _ _ t in omega arith)
-
-pub returns-then-d-lt1 : goal.returns-then-d-lt1
-unfolding is_date
-returns-then-d-lt1 c = refuted _ (λ t. let d = day-is _ _ _ t in omega arith)
-
-pub returns : goal.returns
-unfolding is_date
-returns c = search day-end
+pub returns-else-d-ge1 : goal.returns-else-d-ge1
+unfolding is_date is_day
+returns-else-d-ge1 c = grind (arith, nat_tests)

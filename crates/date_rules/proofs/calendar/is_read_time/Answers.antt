@@ -1,9 +1,13 @@
 -- `date_rules::calendar::is_read_time` meets its contract. Assumes nothing.
-use Rattle.date_rules.proofs.Cases.{taken-time, taken-last}
+use Rattle.std.proofs.Common.{arith}
+use Rattle.std.proofs.lemmas.Bool.Decides.{nat_tests}
+use Rattle.format.specs.Dates.{is_read_time}
 use Rattle.date_rules.proofs.calendar.is_read_time.Goals as goal
 
 pub returns-then-is_time : goal.returns-then-is_time
-returns-then-is_time c = search taken-time
+unfolding is_read_time
+returns-then-is_time c = grind (arith, nat_tests)
 
-pub returns : goal.returns
-returns c = search taken-last
+pub returns-else-is_time : goal.returns-else-is_time
+unfolding is_read_time
+returns-else-is_time c = grind (arith, nat_tests)

@@ -1,17 +1,22 @@
 -- `leaf::bytes::end_space` meets its contract. Assumes nothing.
+use mathlib.Core.Path.{refl}
+use Prim.Native.Nat.{◌-◌}
+use lib.ListN.{length}
 use Rattle.format.specs.Bytes.{end_space}
-use Rattle.ground.proofs.Tests.{tests}
-use Rattle.leaf.proofs.Cases.{no_end}
+use Rattle.leaf.proofs.Cases.{space-at}
 use Rattle.leaf.proofs.bytes.end_space.Goals as goal
 
-pub returns-then-n-eq0 : goal.returns-then-n-eq0
+pub returns-then-eq : goal.returns-then-eq
 unfolding end_space
-returns-then-n-eq0 c = search no_end
+returns-then-eq c =
+    let s = c.args.f.now in
+    let e = space-at s 0 c.first.result _ c.eq.ensures refl c.first.ensures.value in
+    rw (← e, c.if-eq.true)
 
-pub returns-then-f-eq32 : goal.returns-then-f-eq32
+pub returns-else-eq : goal.returns-else-eq
 unfolding end_space
-returns-then-f-eq32 c = search tests
-
-pub returns : goal.returns
-unfolding end_space
-returns c = search tests
+returns-else-eq c =
+    let s = c.args.f.now in
+    let e = space-at s 0 c.first.result _ c.eq.ensures refl c.first.ensures.value in
+    let l = space-at s (length s - 1) c.last.result _ c.eq-else-eq.ensures refl c.last.ensures.value in
+    rw (← e, c.if-eq.false, ← l)

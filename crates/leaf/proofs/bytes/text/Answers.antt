@@ -1,16 +1,13 @@
 -- `leaf::bytes::text` meets its contract. Assumes nothing.
+use Rattle.std.proofs.Common.{arith}
+use Rattle.std.proofs.lemmas.Bool.Decides.{nat_tests}
 use Rattle.format.specs.Bytes.{is_text}
-use Rattle.ground.proofs.Tests.{tests}
-use Rattle.leaf.proofs.Cases.{text-ends}
 use Rattle.leaf.proofs.bytes.text.Goals as goal
 
-pub returns-then-n-least : goal.returns-then-n-least
+pub returns-then-f-most : goal.returns-then-f-most
 unfolding is_text
-returns-then-n-least c = search tests
+returns-then-f-most c = grind (arith, nat_tests)
 
-pub returns-then-most-n : goal.returns-then-most-n
+pub returns-else-f-most : goal.returns-else-f-most
 unfolding is_text
-returns-then-most-n c = search tests
-
-pub returns : goal.returns
-returns c = search text-ends
+returns-else-f-most c = grind (arith, nat_tests)

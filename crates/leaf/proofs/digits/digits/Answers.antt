@@ -15,8 +15,8 @@ returns-then-most-n c = search laws
 pub returns-then-n-gt14 : goal.returns-then-n-gt14
 returns-then-n-gt14 c = search laws
 
-pub loop-i-init : goal.loop-i-init
-loop-i-init c = search laws
+pub loop-b-init : goal.loop-b-init
+loop-b-init c = search laws
 
 pub returns-then-b-lt48 : goal.returns-then-b-lt48
 returns-then-b-lt48 c = search laws
@@ -27,14 +27,11 @@ returns-then-b-gt57 c = search laws
 pub overflow_mul-v : goal.overflow_mul-v
 overflow_mul-v c = search read_fits
 
-pub overflow_cast-v : goal.overflow_cast-v
-overflow_cast-v c = omega arith
-
 pub overflow_add-v : goal.overflow_add-v
-overflow_add-v c = search read-fits-digit
+overflow_add-v c = rw c.from.ensures (search read-fits-digit)
 
-pub loop-i-preserved : goal.loop-i-preserved
-loop-i-preserved c = search laws
+pub loop-b-preserved : goal.loop-b-preserved
+loop-b-preserved c = rw c.from.ensures (search laws)
 
 pub returns : goal.returns
 returns c = search laws

@@ -1,11 +1,6 @@
 -- `lines::pieces::end_singly` meets its contract. Assumes nothing.
-use Prim.Native.Nat.{◌-◌}
-use lib.ListN.{length}
 use Rattle.ground.proofs.Lists.{Sought}
 use Rattle.lines.proofs.pieces.end_singly.Given as goal
 
 abbrev pub invariant-loop-i : goal.invariant-loop-i
 invariant-loop-i l = Sought l.t 44 l.i
-
-abbrev pub decreases-loop-i : goal.decreases-loop-i
-decreases-loop-i l = length l.t - l.i

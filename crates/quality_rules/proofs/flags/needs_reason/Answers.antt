@@ -1,12 +1,13 @@
 -- `quality_rules::flags::needs_reason` meets its contract. Assumes nothing.
+use Rattle.std.proofs.Common.{arith}
+use Rattle.std.proofs.lemmas.Bool.Decides.{nat_tests}
 use Rattle.format.specs.Quality.{needs_reason}
-use Rattle.ground.proofs.Tests.{tests}
 use Rattle.quality_rules.proofs.flags.needs_reason.Goals as goal
 
-pub returns-then-q-eq83 : goal.returns-then-q-eq83
+pub returns-in-83 : goal.returns-in-83
 unfolding needs_reason
-returns-then-q-eq83 c = search tests
+returns-in-83 c = grind (arith, nat_tests)
 
-pub returns : goal.returns
+pub returns-in_default : goal.returns-in_default
 unfolding needs_reason
-returns c = search tests
+returns-in_default c = grind (arith, nat_tests)

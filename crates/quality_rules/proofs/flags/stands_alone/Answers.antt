@@ -1,20 +1,21 @@
 -- `quality_rules::flags::stands_alone` meets its contract. Assumes nothing.
+use Rattle.std.proofs.Common.{arith}
+use Rattle.std.proofs.lemmas.Bool.Decides.{nat_tests}
 use Rattle.format.specs.Quality.{stands_alone}
-use Rattle.ground.proofs.Tests.{tests}
-use Rattle.quality_rules.proofs.Cases.{alone-null}
 use Rattle.quality_rules.proofs.flags.stands_alone.Goals as goal
 
-pub returns-then-q-eq65 : goal.returns-then-q-eq65
+pub returns-in-65 : goal.returns-in-65
 unfolding stands_alone
-returns-then-q-eq65 c = search tests
+returns-in-65 c = grind (arith, nat_tests)
 
-pub returns-then-q-eq78 : goal.returns-then-q-eq78
-returns-then-q-eq78 c = search alone-null
-
-pub returns-then-q-eq86 : goal.returns-then-q-eq86
+pub returns-in-78 : goal.returns-in-78
 unfolding stands_alone
-returns-then-q-eq86 c = search tests
+returns-in-78 c = grind (arith, nat_tests)
 
-pub returns : goal.returns
+pub returns-in-86 : goal.returns-in-86
 unfolding stands_alone
-returns c = search tests
+returns-in-86 c = grind (arith, nat_tests)
+
+pub returns-in_default : goal.returns-in_default
+unfolding stands_alone
+returns-in_default c = grind (arith, nat_tests)

@@ -1,16 +1,21 @@
 -- `quality_rules::flags::takes_method` meets its contract. Assumes nothing.
+use Rattle.std.proofs.Common.{arith}
+use Rattle.std.proofs.lemmas.Bool.Decides.{nat_tests}
 use Rattle.format.specs.Quality.{takes_method}
-use Rattle.ground.proofs.Tests.{tests}
 use Rattle.quality_rules.proofs.flags.takes_method.Goals as goal
 
-pub returns-then-q-eq69 : goal.returns-then-q-eq69
+pub returns-in_default : goal.returns-in_default
 unfolding takes_method
-returns-then-q-eq69 c = search tests
+returns-in_default c = grind (arith, nat_tests)
 
-pub returns-then-q-eq70 : goal.returns-then-q-eq70
+pub returns-in_default-2 : goal.returns-in_default-2
 unfolding takes_method
-returns-then-q-eq70 c = search tests
+returns-in_default-2 c = grind (arith, nat_tests)
 
-pub returns : goal.returns
+pub returns-in-69 : goal.returns-in-69
 unfolding takes_method
-returns c = search tests
+returns-in-69 c = grind (arith, nat_tests)
+
+pub returns-in-69-2 : goal.returns-in-69-2
+unfolding takes_method
+returns-in-69-2 c = grind (arith, nat_tests)
