@@ -9,6 +9,7 @@ ghost use Rattle.lists.specs.Lists.{stored, Roomy};
 use format::Tag;
 
 // None of six lists of these lengths is shorter than n. It takes the lengths and not the lists, so that no list is lent before all are known to be long enough.
+#[tactic(auto, unfolding(format::specs::Day::enough_for))]
 pub fn enough(n: usize, v: usize, f: usize, m: usize, r: usize, s: usize, l: usize) -> bool
     ensures { result ≡ enough_for n v f m r s l }
 {
