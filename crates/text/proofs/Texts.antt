@@ -12,7 +12,7 @@ use Rattle.ground.specs.Digits.{padded, width, dec}
 use Rattle.ground.specs.Room.{Put}
 use Rattle.ground.proofs.Cases.{same_or}
 use Rattle.ground.proofs.Digits.{length-dec}
-use Rattle.ground.proofs.Room.{put-nothing, put_as}
+use Rattle.ground.proofs.Room.{put_as}
 use Rattle.text.specs.Inside.{inside}
 
 -- ---- bytes copied over a part of the room
@@ -45,12 +45,6 @@ module _ (text : List ℕ) (s n : ℕ) where
       (λ ne.
       let e : s + n - s ≡ n = omega arith in
       ap length (sym part-lent) ∙ mid_len s (s + n) text (inside-some ne h) ∙ e)
-
-  pub put-part-none : {l : List ℕ} {at : ℕ} → n ≡ 0 → Put l at (take n (drop s text)) at l
-  put-part-none {l} {at} e = put_as (put-nothing l at) (sym (part_none e))
-
-  pub put-part-some : {l m : List ℕ} {at i : ℕ} → Put l at (take (s + n - s) (drop s text)) i m → Put l at (take n (drop s text)) i m
-  put-part-some p = put_as p part-lent
 
 -- ---- a number without leading zeros
 
