@@ -46,6 +46,7 @@ fn move_up(room: &mut [u8], a: usize, b: usize, n: usize)
 }
 
 // The n bytes from place a on are stored from place b on. Bytes that stay where they are cost nothing.
+// The library's `copy_within` moves byte by byte.
 pub fn move_bytes(room: &mut [u8], a: usize, b: usize, n: usize)
     requires { Within room.old a b n }
     ensures { room.new ≡ moved room.old a b n }
