@@ -1,7 +1,7 @@
 -- The runs of a day's marks, found one after the other: how far one reaches, what the 400s add up to, and what is left of them to write.
 -- Assumes nothing.
 use Prim.Native.Nat.{ℕ, suc, ◌+◌, ◌-◌, ◌*◌, ◌≤◌, ◌<◌}
-use mathlib.Core.Path.{◌≡◌, sym, ap, ◌∙◌}
+use mathlib.Core.Path.{◌≡◌, sym, ap, subst, ◌∙◌}
 use mathlib.Core.Bool.{Bool, true, false, not}
 use mathlib.Core.List.{List, [], ◌++◌}
 use native.Mathlib.Nat.{zero-add}
@@ -59,9 +59,12 @@ module _ (l : Five) (text : List ℕ) (n i : ℕ) where
   running-start h = record { above = omega arith; within = omega arith; so_far = run-start same_mark mark-sound mark-itself (marks_from l text) n i h }
 
   module _ (j : ℕ) (r : Running (marks_from l text) n i j) where
-    pub running-last : n ≤ j → RunEnds (marks_from l text) n i j
+    pub running-last : n ≤ j → RunEnds (marks_from l text) n i n
     unfolding runs_in
-    running-last h = record { above = r.above; within = r.within; first = run-last same_mark mark-sound mark-itself (marks_from l text) n i j r.above h r.so_far }
+    running-last h =
+        let all : j ≡ n = omega (arith, r.within) in
+        subst (RunEnds (marks_from l text) n i) all
+        (record { above = r.above; within = r.within; first = run-last same_mark mark-sound mark-itself (marks_from l text) n i j r.above h r.so_far })
 
     module _ {a b : Tag} {s : Bool} (h : j < n) (e : a ≡ tag_from l i) (f : b ≡ tag_from l j) (g : s ≡ same_mark (mark_of text a) (mark_of text b)) where
       compared : s ≡ same_mark (marks_from l text i) (marks_from l text j)

@@ -36,15 +36,13 @@ fn run_end(
     ensures { RunEnds (marks_from (five flags.now methods.now reasons.now starts.now lengths.now) text.now) n i result }
 {
     let a = tag_at(flags, methods, reasons, starts, lengths, i);
-    let mut j = i + 1;
-    while j < n {
+    for j in i + 1..n {
         let b = tag_at(flags, methods, reasons, starts, lengths, j);
         if !same_mark(text, a, b) {
             return j;
         }
-        j += 1;
     }
-    j
+    n
 }
 
 // The record of the intervals behind the first a up to e.

@@ -1,11 +1,12 @@
 -- The values of a day, stored one after the other. Assumes nothing.
 use Prim.Native.Nat.{ℕ, zero, suc, ◌+◌, ◌-◌, ◌≤◌, ◌<◌}
-use mathlib.Core.Path.{◌≡◌, refl, sym, ap, subst, ◌∙◌}
-use mathlib.Core.List.{List, [], map}
+use mathlib.Core.Path.{◌≡◌, refl, sym, ap, ◌∙◌}
+use mathlib.Core.List.{List, [], ◌++◌, append-nil, map}
 use native.Mathlib.Numerals.{add-one}
 use native.Mathlib.Omega.{arith}
-use lib.ListN.{length, take, drop, set}
-use lib.Seq.{sets, drop-cons}
+use lib.ListN.{length, take, drop, set, drop_of_length-le}
+use lib.Seq.{sets, drop-cons, length-take-le}
+use Rattle.ground.proofs.Room.{sets-front}
 use Rattle.ground.specs.Lists.{part}
 use Rattle.format.specs.Cut.{fields, field}
 use Rattle.format.specs.Records.{millionths, values_in}
@@ -23,12 +24,27 @@ value_on file fs l whole p n i a e v h s ev inv =
     let t : sets l i (values_from (n - i) i fs) ≡ sets (set l i v) (i + 1) (values_from (n - (i + 1)) (i + 1) fs) = rw (m, w, add-one) in
     sym t ∙ inv
 
-pub value-end : (l whole : List ℕ) (n i : ℕ) (fs : List (List ℕ)) → n ≤ i → sets l i (values_from (n - i) i fs) ≡ whole → l ≡ whole
+length-values : (n i : ℕ) (fs : List (List ℕ)) → length (values_from n i fs) ≡ n
 unfolding values_from
-value-end l whole n i fs h inv =
+length-values zero i fs = refl
+length-values (suc n) i fs = ap suc (length-values n (suc i) fs)
+
+-- all are stored in the first n elements of l, which are lent as a list of their own
+pub values_all : (items l : List ℕ) (n i : ℕ) (fs : List (List ℕ)) → n ≤ i → n ≤ length l
+    → sets items i (values_from (n - i) i fs) ≡ sets (take n l) 0 (values_from n 0 fs) → items ++ drop n l ≡ sets l 0 (values_from n 0 fs)
+unfolding values_from
+values_all items l n i fs h g inv =
+    let vs = values_from n 0 fs in
+    let len : length vs ≡ n = length-values n 0 fs in
+    let long : length (take n l) ≡ n = length-take-le n l g in
     let m : n - i ≡ 0 = omega arith in
-    let t : sets l i (values_from (n - i) i fs) ≡ l = rw m in
-    sym t ∙ inv
+    let stored : sets items i (values_from (n - i) i fs) ≡ items = rw m in
+    let none : drop (length vs) (take n l) ≡ [] = drop_of_length-le (take n l) (omega arith) in
+    let front : sets (take n l) 0 vs ≡ vs ++ drop (length vs) (take n l) = sets-front (take n l) vs (omega arith) in
+    let are : items ≡ vs = sym stored ∙ inv ∙ front ∙ ap (λ (z : List ℕ). vs ++ z) none ∙ append-nil vs in
+    ap (λ (z : List ℕ). z ++ drop n l) are
+    ∙ ap (λ (k : ℕ). vs ++ drop k l) (sym len)
+    ∙ sym (sets-front l vs (omega arith))
 
 -- the values of what is left of a record are values of the record
 pub values-move : {file : List ℕ} {fs : List (List ℕ)} {p i a e : ℕ} → Rest file fs p i a e → (n j : ℕ)
@@ -52,7 +68,3 @@ from-take (suc n) i fs h =
 pub values-are : (n : ℕ) (fs : List (List ℕ)) → length fs ≡ n + 7 → values_from n 2 fs ≡ values_in n fs
 unfolding values_in
 values-are n fs h = from-take n 2 fs (omega arith)
-
--- n fields on
-pub rest_end : (file : List ℕ) (fs : List (List ℕ)) (p n i x e : ℕ) → n ≤ i → i ≤ n → Rest file fs p i x e → Rest file fs p n x e
-rest_end file fs p n i x e h g s = let q : i ≡ n = omega arith in subst (λ (z : ℕ). Rest file fs p z x e) q s

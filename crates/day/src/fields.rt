@@ -15,11 +15,8 @@ pub fn skip(file: &[u8], a: usize, e: usize, n: usize) -> usize
     ensures { Rest file.now (fields (part file.now a e)) a n result e }
 {
     let mut x = a;
-    let mut passed: usize = 0;
-    while passed < n {
-        let f = field_at(file, x, e);
-        x = f.next;
-        passed += 1;
+    for _ in 0..n {
+        x = field_at(file, x, e).next;
     }
     x
 }
@@ -31,12 +28,10 @@ pub fn fill_values(file: &[u8], a: usize, e: usize, n: usize, values: &mut [u64]
     ensures rest { Rest file.now (fields (part file.now a e)) a n result e }
 {
     let mut x = a;
-    let mut i: usize = 0;
-    while i < n {
+    for value in values[..n].iter_mut() {
         let f = value_at(file, x, e);
-        values[i] = f.v;
+        *value = f.v;
         x = f.next;
-        i += 1;
     }
     x
 }

@@ -57,11 +57,9 @@ fn put_cover(
     let mut k: usize = 0;
     while k < n {
         let e = line_end(file, at);
-        let r = marked_at(file, at, e);
-        let to = r.to;
-        let t = r.tag;
+        let Marked { to, tag } = marked_at(file, at, e);
         at = e + 2;
-        put_tag(t, k, to, flags, methods, reasons, starts, lengths);
+        put_tag(tag, k, to, flags, methods, reasons, starts, lengths);
         k = to;
     }
 }
@@ -81,9 +79,9 @@ pub fn put_marks(
     requires { (start ≤ length file.now) × (is_covered t n (runs_at file.now start) ≡ true) × Roomy n (five flags.old methods.old reasons.old starts.old lengths.old) }
     ensures { five flags.new methods.new reasons.new starts.new lengths.new ≡ stored (five flags.old methods.old reasons.old starts.old lengths.old) 0 (tags_for t n (runs_at file.now start)) }
 {
-    if t.flag == 86 {
+    if t.flag == b'V' {
         put_cover(file, start, n, flags, methods, reasons, starts, lengths);
-        return;
+    } else {
+        put_tag(t, 0, n, flags, methods, reasons, starts, lengths);
     }
-    put_tag(t, 0, n, flags, methods, reasons, starts, lengths);
 }

@@ -25,7 +25,7 @@ module _ (f : ℕ) where
       let s : untrail (padded p m) ≡ padded p m = rw (padded-step p m h) (untrail-other (padded (p - 1) (m / 10)) (48 + m % 10) (λ z. e (omega arith))) in
       record { left = sym s ∙ r.left; most = r.within }
 
-  pub cut_all : (p m : ℕ) → p ≤ 0 → Cut f p m → Trims f p m
+  pub cut_all : (p m : ℕ) → p < 1 → Cut f p m → Trims f 0 m
   unfolding padded untrail
   cut_all zero m h r = record { left = r.left; most = r.within }
   cut_all (suc p) m h r = absurd (omega arith)

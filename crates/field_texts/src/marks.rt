@@ -13,10 +13,7 @@ const NO_REASON: u16 = 65535;
 pub fn quality_len(flag: u8, method: u8) -> usize
     ensures { (result ≡ length (quality_text flag method)) × (result ≤ 3) }
 {
-    if method == NO_METHOD {
-        return 1;
-    }
-    3
+    if method == NO_METHOD { 1 } else { 3 }
 }
 
 pub fn put_quality(room: &mut [u8], at: usize, flag: u8, method: u8) -> usize
@@ -25,18 +22,20 @@ pub fn put_quality(room: &mut [u8], at: usize, flag: u8, method: u8) -> usize
 {
     let b = put_byte(room, at, flag);
     if method == NO_METHOD {
-        return b;
+        b
+    } else {
+        put_digits(room, b, 2, u64::from(method))
     }
-    put_digits(room, b, 2, method as u64)
 }
 
 pub fn reason_len(reason: u16) -> usize
     ensures { (result ≡ length (reason_text reason)) × (result ≤ 20) }
 {
     if reason == NO_REASON {
-        return 0;
+        0
+    } else {
+        digits_len(u64::from(reason))
     }
-    digits_len(reason as u64)
 }
 
 pub fn put_reason(room: &mut [u8], at: usize, reason: u16) -> usize
@@ -44,18 +43,16 @@ pub fn put_reason(room: &mut [u8], at: usize, reason: u16) -> usize
     ensures { Put room.old at (reason_text reason) result room.new }
 {
     if reason == NO_REASON {
-        return at;
+        at
+    } else {
+        put_dec(room, at, u64::from(reason))
     }
-    put_dec(room, at, reason as u64)
 }
 
 pub fn load_len(time: u64) -> usize
     ensures { (result ≡ length (load_text time)) × (result ≤ 14) }
 {
-    if time == 0 {
-        return 0;
-    }
-    14
+    if time == 0 { 0 } else { 14 }
 }
 
 pub fn put_load(room: &mut [u8], at: usize, time: u64) -> usize
@@ -63,7 +60,8 @@ pub fn put_load(room: &mut [u8], at: usize, time: u64) -> usize
     ensures { Put room.old at (load_text time) result room.new }
 {
     if time == 0 {
-        return at;
+        at
+    } else {
+        put_digits(room, at, 14, time)
     }
-    put_digits(room, at, 14, time)
 }

@@ -7,7 +7,7 @@ ghost use Rattle.field_texts.specs.Trims.{Trims};
 use text::bytes::put_byte;
 use text::digits::{digits_len, put_dec, put_digits};
 
-const MILLION: u64 = 1000000;
+const MILLION: u64 = 1_000_000;
 
 // Decimals without the zeros at their end: how many are left, and the number that they write.
 #[derive(Clone, Copy)]
@@ -19,22 +19,14 @@ struct Decimals {
 fn trim(f: u64) -> Decimals
     ensures { Trims f result.places result.number }
 {
-    let mut p: usize = 6;
-    let mut m = f;
-    while 0 < p {
-        if m % 10 != 0 {
-            return Decimals {
-                places: p,
-                number: m,
-            };
+    let mut number = f;
+    for places in (1..=6).rev() {
+        if number % 10 != 0 {
+            return Decimals { places, number };
         }
-        m /= 10;
-        p -= 1;
+        number /= 10;
     }
-    Decimals {
-        places: p,
-        number: m,
-    }
+    Decimals { places: 0, number }
 }
 
 pub fn value_len(v: u64) -> usize
@@ -42,11 +34,7 @@ pub fn value_len(v: u64) -> usize
 {
     let w = digits_len(v / MILLION);
     let f = v % MILLION;
-    if f == 0 {
-        return w;
-    }
-    let t = trim(f);
-    w + 1 + t.places
+    if f == 0 { w } else { w + 1 + trim(f).places }
 }
 
 pub fn put_value(room: &mut [u8], at: usize, v: u64) -> usize
@@ -56,11 +44,10 @@ pub fn put_value(room: &mut [u8], at: usize, v: u64) -> usize
     let e = put_dec(room, at, v / MILLION);
     let f = v % MILLION;
     if f == 0 {
-        return e;
+        e
+    } else {
+        let t = trim(f);
+        let d = put_byte(room, e, b'.');
+        put_digits(room, d, t.places, t.number)
     }
-    let t = trim(f);
-    let p = t.places;
-    let m = t.number;
-    let d = put_byte(room, e, b'.');
-    put_digits(room, d, p, m)
 }

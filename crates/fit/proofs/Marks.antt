@@ -1,8 +1,9 @@
 -- The cases of a fit mark, as the code meets them, and the turn of the loop over the intervals. Assumes nothing.
 use Prim.Native.Nat.{ℕ, suc, ◌+◌, ◌-◌, ◌≤◌, ◌<◌}
-use mathlib.Core.Path.{◌≡◌, refl, sym, ◌∙◌}
+use mathlib.Core.Path.{◌≡◌, refl, sym, ap, ◌∙◌}
 use mathlib.Core.Bool.{Bool, true, false, not, ◌&&◌, and_comm}
-use mathlib.Core.List.{List}
+use mathlib.Core.List.{List, [], ◌∷◌}
+use Rattle.std.specs.List.{list_all}
 use native.Mathlib.Nat.{sub-zero}
 use native.Mathlib.Omega.{arith}
 use lib.ListN.{length, take, drop}
@@ -23,30 +24,11 @@ use Rattle.text.specs.Inside.{inside}
 use Rattle.text.proofs.Texts.{inside-some, part_none, part-lent, part_length}
 use Rattle.fit.specs.Tags.{tag_from, mark_of, marks_from, fit_fields, tag_inside, inside_at, fit_tag, fit_marks, Long}
 
--- ---- a quality
+-- ---- the bytes of a description
 
-module _ (q m : ℕ) {b : Bool} (e : b ≡ stands_alone 400 q) where
-  pub alone-fits : b ≡ true → eqb m 255 ≡ fit_quality q m
-  unfolding fit_quality
-  alone-fits t = rw (← e, t)
-
-  module _ {d : Bool} (f : b ≡ false) (g : d ≡ takes_method q) where
-    pub graded-fits : d ≡ true → ltb m 100 ≡ fit_quality q m
-    unfolding fit_quality
-    graded-fits t = rw (← e, f, ← g, t)
-
-    pub other-flag : d ≡ false → false ≡ fit_quality q m
-    unfolding fit_quality
-    other-flag t = rw (← e, f, ← g, t)
-
--- ---- a description
-
-module _ (s : List ℕ) {b : Bool} (e : b ≡ is_description s) where
-  pub described : {d : Bool} → b ≡ true → d ≡ all field_byte s → d ≡ (is_description s && all field_byte s)
-  described t q = rw (← e, t) q
-
-  pub undescribed : b ≡ false → false ≡ (is_description s && all field_byte s)
-  undescribed t = rw (← e, t)
+pub all-is : (p : ℕ → Bool) (xs : List ℕ) → list_all p xs ≡ all p xs
+all-is p [] = refl
+all-is p (x ∷ xs) = ap (λ (b : Bool). p x && b) (all-is p xs)
 
 -- ---- inside the text
 
@@ -55,35 +37,10 @@ module _ (text : List ℕ) (s n : ℕ) where
   unfolding inside
   inside-empty e = rw (eq-eqb n 0 e)
 
-  pub inside-long : (n ≡ 0 → ⊥) → length text < n → false ≡ inside text s n
-  unfolding inside
-  inside-long ne h = rw (ne_eqb n 0 ne, lt-leb (s + n) (length text) (omega arith))
-
-  pub inside-test : (n ≡ 0 → ⊥) → n ≤ length text → leb s (length text - n) ≡ inside text s n
-  unfolding inside
-  inside-test ne h =
-      split (s + n) (length text)
-      (λ l. rw (ne_eqb n 0 ne, le-leb s (length text - n) (omega arith), le-leb (s + n) (length text) l))
-      (λ l. rw (ne_eqb n 0 ne, lt-leb s (length text - n) (omega arith), lt-leb (s + n) (length text) l))
-
-  pub inside-room : {x : Bool} → (n ≡ 0 → ⊥) → x ≡ inside text s n → not x ≡ false → s + n ≤ length text
-  inside-room {x} ne e h = inside-some text s n ne (sym e ∙ not-false x h)
+  pub inside-room : {x : Bool} → (n ≡ 0 → ⊥) → x ≡ inside text s n → x ≡ true → s + n ≤ length text
+  inside-room {x} ne e h = inside-some text s n ne (sym e ∙ h)
 
 -- ---- a tag
-
-module _ (t : Tag) {a : Bool} (e : a ≡ fit_quality t.flag t.method) where
-  pub unfit-quality : not a ≡ true → false ≡ fit_fields t
-  unfolding fit_fields
-  unfit-quality h = rw (← e, not-true a h)
-
-  module _ {b : Bool} (f : b ≡ fit_reason t.reason) (h : not a ≡ false) where
-    pub unfit-reason : not b ≡ true → false ≡ fit_fields t
-    unfolding fit_fields
-    unfit-reason g = rw (← e, not-false a h, ← f, not-true b g)
-
-    pub fields_fit : {d : Bool} → not b ≡ false → d ≡ across t.flag t.reason t.length → d ≡ fit_fields t
-    unfolding fit_fields
-    fields_fit g q = rw (← e, not-false a h, ← f, not-false b g) q
 
 regroup : (p d x a : Bool) → (p && d && x && a) ≡ (p && a && (d && x))
 regroup true d x a = and_comm (d && x) a
@@ -99,32 +56,32 @@ fit-inside text t h =
     (regroup (fit_quality t.flag t.method && fit_reason t.reason) (is_description d) (all field_byte d) (across t.flag t.reason t.length))
 
 module _ (text : List ℕ) (t : Tag) {b : Bool} (e : b ≡ fit_fields t) where
-  pub tag-unfit : not b ≡ true → false ≡ fit_tag text t
+  pub tag-unfit : b ≡ false → b ≡ fit_tag text t
   unfolding fit_tag
   tag-unfit h =
       by (tag_inside text t)
-      (λ i. rw (i, fit-inside text t i, ← e, not-true b h))
-      (λ i. rw i)
+      (λ i. rw (i, fit-inside text t i, ← e, h))
+      (λ i. rw (i, h))
 
-  module _ (h : not b ≡ false) where
-    pub tag-empty : t.length ≡ 0 → true ≡ fit_tag text t
+  module _ (h : b ≡ true) where
+    pub tag-empty : t.length ≡ 0 → eqb t.length 0 ≡ fit_tag text t
     unfolding fit_tag tag_inside is_description is_text end_space
     tag-empty z =
         let i : inside text t.start t.length ≡ true = sym (inside-empty text t.start t.length z) in
-        rw (i, fit-inside text t i, ← e, not-false b h, part_none text t.start t.length z)
+        rw (i, fit-inside text t i, ← e, h, part_none text t.start t.length z, eq-eqb t.length 0 z)
 
     module _ {x : Bool} (f : x ≡ inside text t.start t.length) where
-      pub tag-outside : not x ≡ true → false ≡ fit_tag text t
+      pub tag-outside : x ≡ false → x ≡ fit_tag text t
       unfolding fit_tag tag_inside
-      tag-outside g = rw (← f, not-true x g)
+      tag-outside g = rw (← f, g)
 
-      pub tag-fit : {d : Bool} → not x ≡ false
+      pub tag-fit : {d : Bool} → x ≡ true
           → d ≡ (is_description (take (t.start + t.length - t.start) (drop t.start text)) && all field_byte (take (t.start + t.length - t.start) (drop t.start text)))
           → d ≡ fit_tag text t
       unfolding fit_tag tag_inside
       tag-fit g q =
-          let i : inside text t.start t.length ≡ true = sym f ∙ not-false x g in
-          rw (i, fit-inside text t i, ← e, not-false b h, ← part-lent text t.start t.length) q
+          let i : inside text t.start t.length ≡ true = sym f ∙ g in
+          rw (i, fit-inside text t i, ← e, h, ← part-lent text t.start t.length) q
 
 -- ---- the loop over the intervals
 

@@ -16,107 +16,66 @@ use quality_rules::flags::{stands_alone, takes_method};
 use text_rules::description;
 
 // A quality that a 400 may carry.
+#[tactic(auto, unfolding(format::specs::Block::fit_quality))]
 fn fit_quality(flag: u8, method: u8) -> bool
     ensures { result ≡ fit_quality flag method }
 {
     if stands_alone(400, flag) {
-        return method == 255;
+        method == 255
+    } else {
+        takes_method(flag) && method < 100
     }
-    if takes_method(flag) {
-        return method < 100;
-    }
-    false
 }
 
+#[tactic(auto, unfolding(format::specs::Block::fit_reason))]
 fn fit_reason(reason: u16) -> bool
     ensures { result ≡ fit_reason reason }
 {
-    if reason == 65535 {
-        return true;
-    }
-    reason < 1000
+    reason == 65535 || reason < 1000
 }
 
+#[tactic(auto, unfolding(format::specs::Bytes::field_byte))]
 fn is_field_byte(b: u8) -> bool
     ensures { result ≡ field_byte b }
 {
-    if b < 32 {
-        return false;
-    }
-    if 126 < b {
-        return false;
-    }
-    b != 44
+    (b' '..=b'~').contains(&b) && b != b','
 }
 
 fn are_field_bytes(f: &[u8]) -> bool
     ensures { result ≡ all field_byte f.now }
 {
-    let n = f.len();
-    let mut i: usize = 0;
-    while i < n {
-        if is_field_byte(f[i]) {
-            i += 1;
-        } else {
-            return false;
-        }
-    }
-    true
+    f.iter().all(|b| is_field_byte(*b))
 }
 
 fn fit_description(f: &[u8]) -> bool
     ensures { result ≡ (is_description f.now && all field_byte f.now) }
 {
-    if description(f) {
-        return are_field_bytes(f);
-    }
-    false
+    description(f) && are_field_bytes(f)
 }
 
 // The sum of start and length may be too large for a word, so it is not taken before both are known to be small.
+#[tactic(auto, unfolding(text::specs::Inside::inside))]
 fn is_inside(text: &[u8], s: usize, n: usize) -> bool
     ensures { result ≡ inside text.now s n }
 {
-    if n == 0 {
-        return true;
-    }
-    let most = text.len();
-    if most < n {
-        return false;
-    }
-    s <= most - n
+    n == 0 || (n <= text.len() && s <= text.len() - n)
 }
 
 // The rules of single fields, without the description's own.
+#[tactic(auto, unfolding(crate::specs::Tags::fit_fields))]
 fn fit_fields(t: Tag) -> bool
     ensures { result ≡ fit_fields t }
 {
-    if !fit_quality(t.flag, t.method) {
-        return false;
-    }
-    if !fit_reason(t.reason) {
-        return false;
-    }
-    across(t.flag, t.reason, t.length)
+    fit_quality(t.flag, t.method) && fit_reason(t.reason) && across(t.flag, t.reason, t.length)
 }
 
 // A tag whose mark a 400 may carry.
 fn fit_tag(text: &[u8], t: Tag) -> bool
     ensures { result ≡ fit_tag text.now t }
 {
-    if !fit_fields(t) {
-        return false;
-    }
     let s = t.start;
     let n = t.length;
-    if n == 0 {
-        return true;
-    }
-    if !is_inside(text, s, n) {
-        return false;
-    }
-    let e = s + n;
-    fit_description(&text[s..e])
+    fit_fields(t) && (n == 0 || (is_inside(text, s, n) && fit_description(&text[s..s + n])))
 }
 
 // Interval i of the five lists.
@@ -152,13 +111,11 @@ pub fn fit_marks(
     requires { Long n (five flags.now methods.now reasons.now starts.now lengths.now) }
     ensures { result ≡ fit_marks (five flags.now methods.now reasons.now starts.now lengths.now) text.now n }
 {
-    let mut i: usize = 0;
-    while i < n {
+    for i in 0..n {
         let t = tag_at(flags, methods, reasons, starts, lengths, i);
         if !fit_tag(text, t) {
             return false;
         }
-        i += 1;
     }
     true
 }

@@ -4,9 +4,9 @@ use mathlib.Core.Path.{◌≡◌, refl, sym, ◌∙◌}
 use mathlib.Core.List.{List}
 use mathlib.Core.Bool.{Bool, true, false}
 use native.Mathlib.Omega.{arith}
-use lib.ListN.{take, drop}
-use lib.Dec.{eqb}
-use borrow.Author.Tests.{eq-eqb, ne_eqb}
+use lib.ListN.{length, take, drop}
+use lib.Dec.{eqb, ltb}
+use borrow.Author.Tests.{eq-eqb, ne_eqb, le-ltb}
 use Rattle.ground.specs.Lists.{same}
 use Rattle.ground.proofs.Cases.{same_or}
 use Rattle.ground.proofs.Tests.{and-false, and-all, or-false}
@@ -49,11 +49,11 @@ module _ (x k : ℕ) {b : Bool} where
   may-900 h e f q = rw h (q ∙ (rw (← e, f) at (is-900 x)))
 
 module _ (x k : ℕ) where
-  pub may-200-first : k ≡ 200 → x ≡ 1 → true ≡ may_come (expected_as x) k
-  may-200-first h g = rw h (rw (eq-eqb _ _ g) at (is-200 x))
+  pub may-200-first : k ≡ 200 → x ≡ 1 → eqb x 1 ≡ may_come (expected_as x) k
+  may-200-first h g = rw (h, eq-eqb x 1 g) (rw (eq-eqb x 1 g) at (is-200 x))
 
-  pub may-900-day : {b : Bool} → k ≡ 900 → b ≡ between 3 5 x → b ≡ true → true ≡ may_come (expected_as x) k
-  may-900-day h e t = rw h (rw (← e, t) at (is-900 x))
+  pub may-900-day : {b : Bool} → k ≡ 900 → b ≡ between 3 5 x → b ≡ true → b ≡ may_come (expected_as x) k
+  may-900-day h e t = rw (h, t) (rw (← e, t) at (is-900 x))
 
   pub may_none : (k ≡ 100 → ⊥) → (k ≡ 200 → ⊥) → (k ≡ 300 → ⊥) → (k ≡ 400 → ⊥) → (k ≡ 500 → ⊥) → (k ≡ 250 → ⊥) → (k ≡ 550 → ⊥) → (k ≡ 900 → ⊥)
       → false ≡ may_come (expected_as x) k
@@ -83,8 +83,8 @@ module _ (date time : ℕ) where
         (λ h. eq-eqb _ _ h ∙ sym (eq-eqb time (a * 1000000) (omega arith)))
         (λ n. ne_eqb _ _ n ∙ sym (ne_eqb time (a * 1000000) (λ h. n (omega arith)))))
 
-    pub not_after : time / 1000000 ≤ date → false ≡ on_day date time
-    not_after l = sym (ne_eqb (day_after date) (time / 1000000) (λ e. let h = after-later date in omega arith)) ∙ at-midnight refl
+    pub not_after : time / 1000000 ≤ date → ltb date (time / 1000000) ≡ on_day date time
+    not_after l = le-ltb date (time / 1000000) l ∙ sym (ne_eqb (day_after date) (time / 1000000) (λ e. let h = after-later date in omega arith)) ∙ at-midnight refl
 
 -- ---- two marks
 

@@ -14,10 +14,7 @@ use leaf::bytes::same_bytes;
 fn between(a: u64, b: u64, x: u64) -> bool
     ensures { result ≡ between a b x }
 {
-    if x < a {
-        return false;
-    }
-    x <= b
+    (a..=b).contains(&x)
 }
 
 // Under a day, which may end here.
@@ -33,23 +30,13 @@ pub fn may_come(x: u64, kind: u64) -> bool
 {
     match kind {
         100 => x == 0,
-        200 => {
-            if x == 1 {
-                return true;
-            }
-            in_day(x)
-        }
+        200 => x == 1 || in_day(x),
         300 => between(2, 5, x),
         400 => x == 4,
         500 => in_day(x),
         250 => between(6, 8, x),
         550 => x == 7,
-        900 => {
-            if in_day(x) {
-                return true;
-            }
-            between(7, 8, x)
-        }
+        900 => in_day(x) || between(7, 8, x),
         _ => false,
     }
 }
@@ -58,63 +45,39 @@ pub fn may_come(x: u64, kind: u64) -> bool
 pub fn is_open(expect: u64, next: usize, n: usize, kind: u64) -> bool
     ensures { result ≡ eqb expect 4 && (leb next n && not (eqb kind 400)) }
 {
-    if expect != 4 {
-        return false;
-    }
-    if n < next {
-        return false;
-    }
-    kind != 400
+    expect == 4 && next <= n && kind != 400
 }
 
 // Intervals a to b go on with the cover, in a day of n.
+#[tactic(auto, unfolding(crate::specs::Tests::goes_on))]
 pub fn goes_on(next: usize, n: usize, a: usize, b: usize) -> bool
     ensures { result ≡ goes_on next n a b }
 {
-    if a != next {
-        return false;
-    }
-    if b < a {
-        return false;
-    }
-    b <= n
+    a == next && a <= b && b <= n
 }
 
 // A read time, if given, has the date and is not its midnight, or is the midnight that ends it.
 pub fn on_day(date: u64, time: u64) -> bool
     ensures { result ≡ on_day date time }
 {
+    let day = time / 1_000_000;
     if time == 0 {
-        return true;
+        true
+    } else if time % 1_000_000 != 0 {
+        day == date
+    } else {
+        // The day after is later. And a date that is earlier than a time's is small enough for it to be asked.
+        date < day && day_after(date) == day
     }
-    let day = time / 1000000;
-    if time % 1000000 != 0 {
-        return day == date;
-    }
-    // The day after is later. And a date that is earlier than a time's is small enough for it to be asked.
-    if day <= date {
-        return false;
-    }
-    day_after(date) == day
 }
 
 // Two marks of the file are the same: flag, method, reason and the description's bytes.
+#[tactic(auto, using(crate::proofs::Cases::marks), unfolding(format::specs::Quality::same_mark))]
 pub fn same_mark(file: &[u8], s: Tag, t: Tag) -> bool
     requires { (s.start + s.length ≤ length file.now) × (t.start + t.length ≤ length file.now) }
     ensures { result ≡ same_mark (mark_of file.now s) (mark_of file.now t) }
 {
-    if s.flag != t.flag {
-        return false;
-    }
-    if s.method != t.method {
-        return false;
-    }
-    if s.reason != t.reason {
-        return false;
-    }
-    let a = s.start;
-    let b = a + s.length;
-    let x = t.start;
-    let y = x + t.length;
-    same_bytes(&file[a..b], &file[x..y])
+    let a = &file[s.start..s.start + s.length];
+    let b = &file[t.start..t.start + t.length];
+    s.flag == t.flag && s.method == t.method && s.reason == t.reason && same_bytes(a, b)
 }

@@ -18,22 +18,14 @@ use units::is_unit;
 use value_texts::put_values;
 
 // The unit is one, and the date and the times meet their rules; a load time of 0 is none.
+#[tactic(auto, unfolding(crate::specs::Heads::fit_head))]
 pub fn fit_head(day: DayHead) -> bool
     ensures { result ≡ fit_head day }
 {
-    if !is_unit(day.unit) {
-        return false;
-    }
-    if !is_date(day.date as u64) {
-        return false;
-    }
-    if !is_time(day.update) {
-        return false;
-    }
-    if day.load == 0 {
-        return true;
-    }
-    is_time(day.load)
+    is_unit(day.unit)
+        && is_date(u64::from(day.date))
+        && is_time(day.update)
+        && (day.load == 0 || is_time(day.load))
 }
 
 // The 300 up to its values.
@@ -42,7 +34,7 @@ pub fn put_front(room: &mut [u8], date: u32, values: &[u64]) -> usize
     ensures { Put room.old 0 (front_text date values.now) result room.new }
 {
     let p1 = put_bytes(room, 0, b"300,");
-    let p2 = put_digits(room, p1, 8, date as u64);
+    let p2 = put_digits(room, p1, 8, u64::from(date));
     let p3 = put_byte(room, p2, b',');
     put_values(room, p3, values)
 }

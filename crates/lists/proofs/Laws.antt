@@ -1,30 +1,25 @@
 -- Laws of filling, and of the five lists taken together. Assumes nothing.
-use Prim.Native.Nat.{ℕ, suc, ◌+◌, ◌-◌, ◌≤◌, ◌<◌}
-use mathlib.Core.Path.{◌≡◌, refl, sym, ap, ◌∙◌}
-use mathlib.Core.List.{List, ◌++◌, map, map-append}
-use native.Mathlib.Numerals.{add-one}
+use Prim.Native.Nat.{ℕ, ◌+◌, ◌-◌, ◌≤◌}
+use mathlib.Core.Path.{◌≡◌, refl, ap, ◌∙◌}
+use mathlib.Core.List.{List, ◌++◌, map, map-append, append_assoc}
 use native.Mathlib.Omega.{arith}
-use lib.ListN.{length, set, replicate, length-map}
-use lib.Seq.{sets, length-sets}
+use lib.ListN.{length, replicate, length-map, length-replicate}
+use lib.Seq.{sets, length-sets, sets-eq}
+use borrow.Rule.Slice.PartMut.{mid_of, put_mid, mid_len, Post-is}
 use Rattle.ground.proofs.Lists.{map-replicate}
 use Rattle.ground.proofs.Room.{sets-append}
 use Rattle.format.specs.declared.Tag.{Tag}
 use Rattle.format.specs.Day.{Five, five}
 use Rattle.lists.specs.Lists.{stored, Roomy}
 
--- a turn of a filling loop
-pub fill_on : (l : List ℕ) (i to x : ℕ) (whole : List ℕ) → i < to → sets l i (replicate (to - i) x) ≡ whole
-    → sets (set l i x) (i + 1) (replicate (to - (i + 1)) x) ≡ whole
-fill_on l i to x whole h e =
-    let m : to - i ≡ suc (to - (i + 1)) = omega arith in
-    let s : sets l i (replicate (to - i) x) ≡ sets (set l i x) (i + 1) (replicate (to - (i + 1)) x) = rw (m, add-one) in
-    sym s ∙ e
-
-pub fill_end : (l : List ℕ) (i to x : ℕ) (whole : List ℕ) → to ≤ i → sets l i (replicate (to - i) x) ≡ whole → l ≡ whole
-fill_end l i to x whole h e =
-    let m : to - i ≡ 0 = omega arith in
-    let s : sets l i (replicate (to - i) x) ≡ l = rw m in
-    sym s ∙ e
+-- a part of a list filled
+pub part_filled : (l : List ℕ) (i to x : ℕ) {now : List ℕ} → i ≤ to → to ≤ length l → now ≡ replicate (length (mid_of i (to - i) l)) x
+    → put_mid i (to - i) l now ≡ sets l i (replicate (to - i) x)
+part_filled l i to x h g e =
+    let n : length (replicate (to - i) x) ≡ to - i = length-replicate (to - i) x in
+    let m : i + length (replicate (to - i) x) ≡ to = omega arith in
+    let le : i + length (replicate (to - i) x) ≤ length l = omega arith in
+    rw (e, mid_len i to l g, Post-is i to l h, sets-eq (replicate (to - i) x) l i le, m, append_assoc)
 
 -- five fillings are one
 pub five-filled : (t : Tag) (i n : ℕ) (a b d e f a₁ b₁ d₁ e₁ f₁ : List ℕ)
@@ -94,5 +89,3 @@ even-room v r h =
       starts = omega (arith, v.starts, r.starts);
       lengths = omega (arith, v.lengths, r.lengths);
     }
-
-pub ruleset cases = (fill_on, fill_end, five-filled)

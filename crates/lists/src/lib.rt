@@ -9,58 +9,11 @@ ghost use Rattle.lists.specs.Lists.{stored, Roomy};
 use format::Tag;
 
 // None of six lists of these lengths is shorter than n. It takes the lengths and not the lists, so that no list is lent before all are known to be long enough.
+#[tactic(auto, unfolding(format::specs::Day::enough_for))]
 pub fn enough(n: usize, v: usize, f: usize, m: usize, r: usize, s: usize, l: usize) -> bool
     ensures { result ≡ enough_for n v f m r s l }
 {
-    if v < n {
-        return false;
-    }
-    if f < n {
-        return false;
-    }
-    if m < n {
-        return false;
-    }
-    if r < n {
-        return false;
-    }
-    if s < n {
-        return false;
-    }
-    n <= l
-}
-
-fn fill_u8(list: &mut [u8], from: usize, to: usize, x: u8)
-    requires { (from ≤ to) × (to ≤ length list.old) }
-    ensures { list.new ≡ sets list.old from (replicate (to - from) x) }
-{
-    let mut i = from;
-    while i < to {
-        list[i] = x;
-        i += 1;
-    }
-}
-
-fn fill_u16(list: &mut [u16], from: usize, to: usize, x: u16)
-    requires { (from ≤ to) × (to ≤ length list.old) }
-    ensures { list.new ≡ sets list.old from (replicate (to - from) x) }
-{
-    let mut i = from;
-    while i < to {
-        list[i] = x;
-        i += 1;
-    }
-}
-
-fn fill_usize(list: &mut [usize], from: usize, to: usize, x: usize)
-    requires { (from ≤ to) × (to ≤ length list.old) }
-    ensures { list.new ≡ sets list.old from (replicate (to - from) x) }
-{
-    let mut i = from;
-    while i < to {
-        list[i] = x;
-        i += 1;
-    }
+    n <= v && n <= f && n <= m && n <= r && n <= s && n <= l
 }
 
 // Puts the tag at the places from..to of each list.
@@ -77,9 +30,9 @@ pub fn put_tag(
     requires { (from ≤ to) × Roomy to (five flags.old methods.old reasons.old starts.old lengths.old) }
     ensures { five flags.new methods.new reasons.new starts.new lengths.new ≡ stored (five flags.old methods.old reasons.old starts.old lengths.old) from (replicate (to - from) t) }
 {
-    fill_u8(flags, from, to, t.flag);
-    fill_u8(methods, from, to, t.method);
-    fill_u16(reasons, from, to, t.reason);
-    fill_usize(starts, from, to, t.start);
-    fill_usize(lengths, from, to, t.length);
+    flags[from..to].fill(t.flag);
+    methods[from..to].fill(t.method);
+    reasons[from..to].fill(t.reason);
+    starts[from..to].fill(t.start);
+    lengths[from..to].fill(t.length);
 }

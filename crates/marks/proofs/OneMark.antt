@@ -5,7 +5,7 @@ use mathlib.Core.Bool.{Bool, true, false, not, ◌&&◌}
 use mathlib.Core.List.{List, [], ◌∷◌}
 use native.Mathlib.Omega.{arith}
 use lib.ListN.{length, take, drop}
-use lib.Dec.{leb}
+use lib.Dec.{leb, eqb}
 use borrow.Author.Tests.{eq-eqb, ne_eqb, leb-true}
 use Rattle.ground.specs.Lists.{all, same}
 use Rattle.ground.proofs.Tests.{and-true}
@@ -26,12 +26,12 @@ use Rattle.fit.specs.Tags.{mark_of, tag_inside, fit_tag}
 -- ---- two descriptions
 
 module _ (text : List ℕ) (s n t m : ℕ) where
-  pub parts-differ : inside text s n ≡ true → inside text t m ≡ true → (n ≡ m → ⊥) → false ≡ same (take n (drop s text)) (take m (drop t text))
-  parts-differ a b h = unlike (take n (drop s text)) (take m (drop t text)) (λ e. h (sym (part_length text s n a) ∙ e ∙ part_length text t m b))
+  pub parts-differ : inside text s n ≡ true → inside text t m ≡ true → (n ≡ m → ⊥) → eqb n m ≡ same (take n (drop s text)) (take m (drop t text))
+  parts-differ a b h = ne_eqb n m h ∙ unlike (take n (drop s text)) (take m (drop t text)) (λ e. h (sym (part_length text s n a) ∙ e ∙ part_length text t m b))
 
-  pub parts-empty : n ≡ m → n ≡ 0 → true ≡ same (take n (drop s text)) (take m (drop t text))
+  pub parts-empty : n ≡ m → n ≡ 0 → eqb n 0 ≡ same (take n (drop s text)) (take m (drop t text))
   unfolding same
-  parts-empty e z = rw (part_none text s n z, part_none text t m (sym e ∙ z))
+  parts-empty e z = rw (eq-eqb n 0 z, part_none text s n z, part_none text t m (sym e ∙ z))
 
   pub parts_same : {b : Bool} → b ≡ same (take (s + n - s) (drop s text)) (take (t + m - t) (drop t text)) → b ≡ same (take n (drop s text)) (take m (drop t text))
   parts_same q = rw (part-lent text s n, part-lent text t m) at q
@@ -120,3 +120,5 @@ module _ (text : List ℕ) (t : Tag) (h : fit_tag text t ≡ true) where
           module _ {x : List ℕ} {d : ℕ} (u : Put o k (44 ∷ []) d x) where
             pub description-room : d + t.length ≤ length x
             description-room = omega (arith, length-fit, p.behind, put-kept p, q.behind, put-kept q, r.behind, put-kept r, u.behind, put-kept u)
+
+pub ruleset marks = (flag-apart, method-apart, reason-apart, marks-same)

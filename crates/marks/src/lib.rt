@@ -19,32 +19,19 @@ fn same_part(text: &[u8], s: usize, n: usize, t: usize, m: usize) -> bool
     requires { (inside text.now s n ≡ true) × (inside text.now t m ≡ true) }
     ensures { result ≡ same (take n (drop s text.now)) (take m (drop t text.now)) }
 {
-    if n != m {
-        return false;
-    }
-    if n == 0 {
-        return true;
-    }
-    let e = s + n;
-    let f = t + m;
-    same_bytes(&text[s..e], &text[t..f])
+    n == m && (n == 0 || same_bytes(&text[s..s + n], &text[t..t + m]))
 }
 
 // Two tags say the same mark.
+#[tactic(auto, using(crate::proofs::OneMark::marks), unfolding(fit::specs::Tags::tag_inside, format::specs::Quality::same_mark))]
 pub fn same_mark(text: &[u8], a: Tag, b: Tag) -> bool
     requires { (tag_inside text.now a ≡ true) × (tag_inside text.now b ≡ true) }
     ensures { result ≡ same_mark (mark_of text.now a) (mark_of text.now b) }
 {
-    if a.flag != b.flag {
-        return false;
-    }
-    if a.method != b.method {
-        return false;
-    }
-    if a.reason != b.reason {
-        return false;
-    }
-    same_part(text, a.start, a.length, b.start, b.length)
+    a.flag == b.flag
+        && a.method == b.method
+        && a.reason == b.reason
+        && same_part(text, a.start, a.length, b.start, b.length)
 }
 
 pub fn mark_len(text: &[u8], t: Tag) -> usize
@@ -53,8 +40,7 @@ pub fn mark_len(text: &[u8], t: Tag) -> usize
 {
     let q = quality_len(t.flag, t.method);
     let r = reason_len(t.reason);
-    let d = t.length;
-    q + r + d + 2
+    q + r + t.length + 2
 }
 
 pub fn put_mark(room: &mut [u8], at: usize, text: &[u8], t: Tag) -> usize

@@ -45,13 +45,7 @@ moved_same l a b n h g =
     let e : b ≡ a = omega arith in
     rw e (sym (ap (λ (s : List ℕ). s ++ drop (a + n) l) (sym (take-add a n l)) ∙ take-append-drop (a + n) l))
 
--- through a list of their own: its part that holds them, and the whole move
-pub piece-long : (zs piece xs : List ℕ) (at n r : ℕ) → n ≤ length zs → Put zs at xs r piece → n ≡ length (take n piece)
-piece-long zs piece xs at n r h p = part-long n piece (omega (arith, put-kept p))
-
-pub piece-fits : (zs piece xs l : List ℕ) (at a b n r : ℕ) → n ≤ length zs → Put zs at xs r piece → Within l a b n → b + length (take n piece) ≤ length l
-piece-fits zs piece xs l at a b n r h p w = omega (arith, piece-long zs piece xs at n r h p)
-
+-- through a list of their own
 pub moved-through : (l m zs piece : List ℕ) (a b n r s : ℕ) → Within l a b n → n ≤ length zs → Put zs 0 (take (a + n - a) (drop a l)) r piece
     → Put l b (take n piece) s m
     → m ≡ moved l a b n
@@ -106,9 +100,6 @@ pub record Down (l₀ : List ℕ) (a b n : ℕ) (l : List ℕ) (i : ℕ) : Type 
   pub left : moved l (a + i) (b + i) (n - i) ≡ moved l₀ a b n
 
 module _ (l₀ : List ℕ) (a b n : ℕ) where
-  pub down-none : Down l₀ a b n l₀ 0
-  down-none = record { within = omega arith; kept = refl; left = rw (add-zero b, add-zero a, sub-zero n) }
-
   pub down-more : (l m : List ℕ) (i k : ℕ) → Within l₀ a b n → b ≤ a → k ≤ n - i → Down l₀ a b n l i → m ≡ moved l (a + i) (b + i) k → Down l₀ a b n m (i + k)
   down-more l m i k w o h r q =
       let e : a + (i + k) ≡ a + i + k = omega arith in
@@ -127,9 +118,6 @@ module _ (l₀ : List ℕ) (a b n : ℕ) where
             ∙ r.left;
       }
 
-  pub down-all : (l m : List ℕ) (i : ℕ) → Down l₀ a b n l i → m ≡ moved l (a + i) (b + i) (n - i) → m ≡ moved l₀ a b n
-  down-all l m i r q = q ∙ r.left
-
 -- ---- from the last byte on: i bytes are still to be moved
 
 pub record Up (l₀ : List ℕ) (a b n : ℕ) (l : List ℕ) (i : ℕ) : Type 0 where
@@ -138,9 +126,6 @@ pub record Up (l₀ : List ℕ) (a b n : ℕ) (l : List ℕ) (i : ℕ) : Type 0 
   pub left : moved l a b i ≡ moved l₀ a b n
 
 module _ (l₀ : List ℕ) (a b n : ℕ) where
-  pub up_none : Up l₀ a b n l₀ n
-  up_none = record { within = omega arith; kept = refl; left = refl }
-
   pub up_more : (l m : List ℕ) (i k : ℕ) → Within l₀ a b n → a ≤ b → k ≤ i → Up l₀ a b n l i → m ≡ moved l (a + (i - k)) (b + (i - k)) k → Up l₀ a b n m (i - k)
   up_more l m i k w o h r q =
       let e : i - k + k ≡ i = omega arith in
@@ -151,6 +136,3 @@ module _ (l₀ : List ℕ) (a b n : ℕ) where
         kept = ap length q ∙ length_moved l (a + (i - k)) (b + (i - k)) k u ∙ r.kept;
         left = ap (λ (z : List ℕ). moved z a b (i - k)) q ∙ moved_up l a b (i - k) k v o ∙ ap (moved l a b) e ∙ r.left;
       }
-
-  pub up-all : (l m : List ℕ) (i : ℕ) → Up l₀ a b n l i → m ≡ moved l a b i → m ≡ moved l₀ a b n
-  up-all l m i r q = q ∙ r.left

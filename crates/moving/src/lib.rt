@@ -15,8 +15,7 @@ fn move_piece(room: &mut [u8], a: usize, b: usize, n: usize)
     ensures { room.new ≡ moved room.old a b n }
 {
     let mut piece = [0u8; PIECE];
-    let e = a + n;
-    put_bytes(&mut piece, 0, &room[a..e]);
+    put_bytes(&mut piece, 0, &room[a..a + n]);
     put_bytes(room, b, &piece[..n]);
 }
 
@@ -25,11 +24,11 @@ fn move_down(room: &mut [u8], a: usize, b: usize, n: usize)
     requires { Within room.old a b n × (b ≤ a) }
     ensures { room.new ≡ moved room.old a b n }
 {
-    let mut i: usize = 0;
-    while PIECE <= n - i {
-        move_piece(room, a + i, b + i, PIECE);
-        i += PIECE;
+    let pieces = n / PIECE;
+    for k in 0..pieces {
+        move_piece(room, a + k * PIECE, b + k * PIECE, PIECE);
     }
+    let i = pieces * PIECE;
     move_piece(room, a + i, b + i, n - i);
 }
 
@@ -38,15 +37,16 @@ fn move_up(room: &mut [u8], a: usize, b: usize, n: usize)
     requires { Within room.old a b n × (a ≤ b) }
     ensures { room.new ≡ moved room.old a b n }
 {
-    let mut i = n;
-    while PIECE <= i {
-        i -= PIECE;
+    let rest = n % PIECE;
+    for k in (0..n / PIECE).rev() {
+        let i = rest + k * PIECE;
         move_piece(room, a + i, b + i, PIECE);
     }
-    move_piece(room, a, b, i);
+    move_piece(room, a, b, rest);
 }
 
 // The n bytes from place a on are stored from place b on. Bytes that stay where they are cost nothing.
+// The library's `copy_within` moves byte by byte.
 pub fn move_bytes(room: &mut [u8], a: usize, b: usize, n: usize)
     requires { Within room.old a b n }
     ensures { room.new ≡ moved room.old a b n }

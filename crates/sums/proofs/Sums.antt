@@ -3,11 +3,11 @@ use Prim.Native.Nat.{ℕ, zero, suc, ◌+◌, ◌-◌, ◌*◌, ◌^◌, ◌≤�
 use mathlib.Core.Path.{◌≡◌, refl, sym, ap, ◌∙◌}
 use mathlib.Core.List.{List, [], map}
 use mathlib.Core.Bool.{true}
-use native.Mathlib.Nat.{sub-zero, add-zero, zero-add}
+use native.Mathlib.Nat.{add-zero, zero-add}
 use native.Mathlib.Numerals.{add-one}
 use native.Mathlib.Omega.{arith}
 use native.Mathlib.Decide.{dec_lt}
-use lib.ListN.{length, get_or, take, drop, length-take, length-drop, length-map, drop_of_length-le, get_or-eq_default}
+use lib.ListN.{length, take, drop, length-take, length-drop, length-map, drop_of_length-le, get_or-eq_default}
 use lib.Seq.{drop-cons}
 use mir.Val.{Fits}
 use mir.Syntax.{w64}
@@ -21,11 +21,10 @@ use Rattle.format.specs.Total.{sum_from}
 use Rattle.format.specs.File.{most}
 use Rattle.format.proofs.Numbers.{intervals-most}
 use Rattle.format.proofs.Total.{values-fit, sum-most, record-most}
-use Rattle.quick_values.specs.Shapes.{is_thousandths}
 use Rattle.quick_values.proofs.Shapes.{thousandths-plain}
 use Rattle.lines.specs.Places.{LineEnd, Cut, Rest}
 use Rattle.lines.proofs.Ends.{line-none, line-more}
-use Rattle.lines.proofs.Cuts.{rest-whole, rest-next, rest-on, rest-first}
+use Rattle.lines.proofs.Cuts.{rest-next, rest-on, rest-first}
 use Rattle.lumps.specs.Lumps.{Alike}
 use Rattle.lines.proofs.Commas.{comma-field, comma-cut}
 use Rattle.day.specs.Places.{values_from, located}
@@ -43,9 +42,6 @@ pub record Adding (file : List ℕ) (x e m i acc y : ℕ) : Type 0 where
   pub small : acc ≤ i * 10 ^ 13
   pub rest : Rest file (fields (part file x e)) x i y e
   pub left : acc + sum (values_from (m - i) i (fields (part file x e))) ≡ sum (values_from m 0 (fields (part file x e)))
-
-pub adding-none : (file : List ℕ) (x e m : ℕ) → x ≤ e → e ≤ length file → Adding file x e m 0 0 x
-adding-none file x e m h g = record { few = omega arith; small = omega arith; rest = rest-whole file x e h g; left = rw (sub-zero, zero-add) }
 
 -- the value of the next field, which was cut off
 pub adding-on : (file : List ℕ) (x e m i acc y b z v : ℕ) → i < m → Adding file x e m i acc y → Cut file y e b z
@@ -66,25 +62,17 @@ adding-end file x e m i acc y h r =
     let t : sum (values_from (m - i) i (fields (part file x e))) ≡ 0 = rw n in
     record { is = omega (arith, r.left); rest = rw q at r.rest }
 
-pub adding-fits : (file : List ℕ) (x e m i acc y v : ℕ) → m ≤ 16 → Adding file x e m i acc y → i < m → v < 10 ^ 13 → Fits w64 (acc + v)
-adding-fits file x e m i acc y v h r l sv = omega (arith, r.small)
-
 -- one of the commonest shape among sixteen
-module _ (file : List ℕ) (x e i acc y : ℕ) (l : Alike file x 16) (g : x + 96 ≤ e) (w : e ≤ length file) (h : i < 16) (p : y ≡ x + 6 * i)
-    (r : Adding file x e 16 i acc y) where
-  pub lump-shape : is_thousandths (take (y + 5 - y) (drop y file)) ≡ true
-  lump-shape = rw p (l i h).0
-
-  pub lump-fits : (v : ℕ) → v < 10 ^ 13 → Fits w64 (acc + v)
-  lump-fits v sv = adding-fits file x e 16 i acc y v (omega arith) r h sv
-
-  pub lump-on : (v : ℕ) → v ≡ millionths (take (y + 5 - y) (drop y file)) → v < 10 ^ 13 → Adding file x e 16 (i + 1) (acc + v) (y + 5 + 1)
-  lump-on v ev sv =
-      let le : y ≤ e = omega arith in
-      let rm : 5 < e - y = omega arith in
-      let c : get_or file (y + 5) 0 ≡ 44 = rw p (l i h).1 in
-      let pl : all (other 44) (part file y (y + 5)) ≡ true = thousandths-plain _ lump-shape in
-      adding-on file x e 16 i acc y (y + 5) (y + 5 + 1) v h r (comma-cut file y e 5 le w rm c pl) (ev ∙ ap millionths (comma-field file y e 5 le w rm c pl)) sv
+pub lump-on : (file : List ℕ) (x e i acc v : ℕ) → Alike file x 16 → x + 96 ≤ e → e ≤ length file → i < 16 → Adding file x e 16 i acc (x + 6 * i)
+    → v ≡ millionths (take (x + 6 * i + 5 - (x + 6 * i)) (drop (x + 6 * i) file)) → v < 10 ^ 13 → Adding file x e 16 (i + 1) (acc + v) (x + 6 * (i + 1))
+lump-on file x e i acc v l g w h r ev sv =
+    let y : ℕ = x + 6 * i in
+    let le : y ≤ e = omega arith in
+    let rm : 5 < e - y = omega arith in
+    let next : x + 6 * (i + 1) ≡ y + 5 + 1 = omega arith in
+    let pl : all (other 44) (part file y (y + 5)) ≡ true = thousandths-plain _ (l i h).0 in
+    let on = adding-on file x e 16 i acc y (y + 5) (y + 5 + 1) v h r (comma-cut file y e 5 le w rm (l i h).1 pl) (ev ∙ ap millionths (comma-field file y e 5 le w rm (l i h).1 pl)) sv in
+    rw next on
 
 -- ---- the values of one 300
 

@@ -34,12 +34,10 @@ fn singly(file: &[u8], x: usize, e: usize, m: usize) -> Sum
     let stop = short_stop(e);
     let mut acc: u64 = 0;
     let mut y = x;
-    let mut i: usize = 0;
-    while i < m {
+    for _ in 0..m {
         let f = value_in_pass(file, y, e, stop);
         acc += f.v;
         y = f.next;
-        i += 1;
     }
     Sum { v: acc, next: y }
 }
@@ -50,15 +48,14 @@ fn lumped(file: &[u8], x: usize, e: usize) -> Sum
     ensures { Adds file.now x e 16 result.v result.next }
 {
     let mut acc: u64 = 0;
-    let mut y = x;
-    let mut i: usize = 0;
-    while i < 16 {
-        let z = y + 5;
-        acc += thousand(&file[y..z]);
-        y = z + 1;
-        i += 1;
+    for i in 0..16 {
+        let y = x + 6 * i;
+        acc += thousand(&file[y..y + 5]);
     }
-    Sum { v: acc, next: y }
+    Sum {
+        v: acc,
+        next: x + 96,
+    }
 }
 
 // Sixteen: in a lump where they are of the commonest shape. Where they are not, all of them are read singly, so that a lump is not tried again at once.
@@ -66,12 +63,11 @@ fn many(file: &[u8], x: usize, e: usize) -> Sum
     requires { (x ≤ e) × (e ≤ length file.now) }
     ensures { Adds file.now x e 16 result.v result.next }
 {
-    if 96 <= e - x {
-        if sixteen(file, x) {
-            return lumped(file, x, e);
-        }
+    if 96 <= e - x && sixteen(file, x) {
+        lumped(file, x, e)
+    } else {
+        singly(file, x, e, 16)
     }
-    singly(file, x, e, 16)
 }
 
 // The values of the n fields from a on, added to a sum so far: sixteen by sixteen, then those that are left.
@@ -81,15 +77,12 @@ fn add_values(file: &[u8], a: usize, e: usize, n: usize, before: u64) -> u64
 {
     let mut acc = before;
     let mut x = a;
-    let mut i: usize = 0;
-    while 16 <= n - i {
+    for _ in 0..n / 16 {
         let s = many(file, x, e);
         acc += s.v;
         x = s.next;
-        i += 16;
     }
-    let t = singly(file, x, e, n - i);
-    acc + t.v
+    acc + singly(file, x, e, n % 16).v
 }
 
 // The n values of the day whose 300 stands at a..e.

@@ -1,17 +1,17 @@
 -- What a turn and the end of each loop go by: bytes copied, digits written from the last one on, digits counted. Each invariant says
 -- what is left to do. Assumes nothing.
-use Prim.Native.Nat.{ℕ, ◌+◌, ◌-◌, ◌/◌, ◌%◌, ◌^◌, ◌≤◌, ◌<◌}
+use Prim.Native.Nat.{ℕ, suc, ◌+◌, ◌-◌, ◌/◌, ◌%◌, ◌*◌, ◌^◌, ◌≤◌, ◌<◌}
 use mathlib.Core.Path.{◌≡◌, refl, sym, ap, ◌∙◌}
 use mathlib.Core.List.{List}
-use native.Mathlib.Nat.{add-zero}
+use native.Mathlib.Nat.{add-zero, pow-le-pow_right}
 use native.Mathlib.Omega.{arith}
 use lib.ListN.{length, set, drop, get_or, length-set, drop_of_length-le}
+use lib.Dec.{lit<}
 use lib.Seq.{sets}
-use mir.Val.{Fits}
-use mir.Syntax.{w64}
-use Rattle.ground.specs.Digits.{padded, width}
+use Rattle.ground.specs.Digits.{padded, width_from, width}
 use Rattle.ground.specs.Room.{Put}
-use Rattle.ground.proofs.Digits.{length-padded, padded-step, width-step, width_small, width-most, width-pos}
+use Rattle.ground.proofs.Digits.{ten, length-padded, padded-step, width-least, width-enough}
+use Rattle.ground.proofs.Cases.{split}
 use Rattle.ground.proofs.Room.{sets-snoc, sets-next}
 
 -- ---- copying: i bytes of src are written
@@ -59,26 +59,17 @@ module _ (l₀ : List ℕ) (at k n : ℕ) where
       let z : 0 ≡ j = omega arith in
       record { behind = ap (λ (i : ℕ). at + i) (sym (length-padded k n)); room = ap (λ (i : ℕ). sets l at (padded i m)) z ∙ r.left }
 
--- ---- counting: w digits are counted, one too many, and m is what is left
+-- ---- how many digits a number has: r is the power of ten that it reaches
 
-pub record Counted (n w m : ℕ) : Type 0 where
-  pub below : m ≤ n
-  pub sum : w + width m ≡ width n + 1
+tens-grow : (i j : ℕ) → i ≤ j → 10 ^ i ≤ 10 ^ j
+tens-grow i j h = pow-le-pow_right (lit< tt) h
 
-module _ (n : ℕ) where
-  pub counted_none : Counted n 1 n
-  counted_none = record { below = omega arith; sum = omega arith }
-
-  pub counted-more : (w m : ℕ) → n < 2 ^ 64 → 10 ≤ m → Counted n w m → Counted n (w + 1) (m / 10)
-  counted-more w m b h r =
-      record { below = omega (arith, r.below); sum = omega (arith, r.sum, width-step m h (omega (arith, r.below))) }
-
-  pub counted-few : (w m : ℕ) → Counted n w m → w ≤ 20
-  unfolding width
-  counted-few w m r = omega (arith, r.sum, width-most n, width-pos 19 m)
-
-  pub counted-fits : (w m : ℕ) → Counted n w m → Fits w64 (w + 1)
-  counted-fits w m r = omega (arith, counted-few w m r)
-
-  pub counted-all : (w m : ℕ) → m < 10 → Counted n w m → w ≡ width n
-  counted-all w m h r = omega (arith, r.sum, width_small m h)
+pub width-of : (n r : ℕ) → 10 ^ r ≤ n → n < 10 * 10 ^ r → r < 20 → r + 1 ≡ width n
+unfolding width
+width-of n r a b f =
+    let top : n < 10 ^ suc r = rw (ten r) (omega arith) in
+    let most : width_from 19 n ≤ suc r = width-least 19 n (suc r) (omega arith) top in
+    let enough : n < 10 ^ width_from 19 n = width-enough 19 n (omega (arith, tens-grow (suc r) 20 (omega arith))) in
+    split (width_from 19 n) r
+    (λ h. absurd (omega (arith, tens-grow (width_from 19 n) r h)))
+    (λ h. omega arith)

@@ -1,18 +1,28 @@
 -- A part of a lent text, and a number without leading zeros, as the code meets them: what is written, and the room that it has. Assumes nothing.
 use Prim.Native.Nat.{ℕ, ◌+◌, ◌-◌, ◌≤◌}
-use mathlib.Core.Path.{◌≡◌, sym, ap, ◌∙◌}
+use mathlib.Core.Path.{◌≡◌, refl, sym, ap, ◌∙◌}
 use mathlib.Core.Bool.{true}
-use mathlib.Core.List.{List, []}
+use mathlib.Core.List.{List, [], append_assoc}
 use native.Mathlib.Omega.{arith}
 use lib.ListN.{length, take, drop}
 use borrow.Author.Tests.{ne_eqb, leb-true}
-use borrow.Rule.Slice.PartMut.{mid_len}
+use lib.Seq.{sets-eq}
+use borrow.Rule.Slice.PartMut.{put_mid, Post-is, mid_len}
 use Rattle.ground.specs.Digits.{padded, width, dec}
 use Rattle.ground.specs.Room.{Put}
 use Rattle.ground.proofs.Cases.{same_or}
 use Rattle.ground.proofs.Digits.{length-dec}
-use Rattle.ground.proofs.Room.{put-nothing, put_as}
+use Rattle.ground.proofs.Room.{put_as}
 use Rattle.text.specs.Inside.{inside}
+
+-- ---- bytes copied over a part of the room
+
+pub part_put : (l src : List ℕ) (at : ℕ) → at + length src ≤ length l → {now : List ℕ} → now ≡ src → Put l at src (at + length src) (put_mid at (at + length src - at) l now)
+part_put l src at h e =
+    record {
+      behind = refl;
+      room = rw (e, Post-is at (at + length src) l (omega arith), sets-eq src l at h, append_assoc);
+    }
 
 -- ---- a part of a lent text
 
@@ -35,12 +45,6 @@ module _ (text : List ℕ) (s n : ℕ) where
       (λ ne.
       let e : s + n - s ≡ n = omega arith in
       ap length (sym part-lent) ∙ mid_len s (s + n) text (inside-some ne h) ∙ e)
-
-  pub put-part-none : {l : List ℕ} {at : ℕ} → n ≡ 0 → Put l at (take n (drop s text)) at l
-  put-part-none {l} {at} e = put_as (put-nothing l at) (sym (part_none e))
-
-  pub put-part-some : {l m : List ℕ} {at i : ℕ} → Put l at (take (s + n - s) (drop s text)) i m → Put l at (take n (drop s text)) i m
-  put-part-some p = put_as p part-lent
 
 -- ---- a number without leading zeros
 

@@ -15,12 +15,9 @@ pub fn put_bytes(room: &mut [u8], at: usize, src: &[u8]) -> usize
     requires { at + length src.now ≤ length room.old }
     ensures { Put room.old at src.now result room.new }
 {
-    let mut i: usize = 0;
-    while i < src.len() {
-        room[at + i] = src[i];
-        i += 1;
-    }
-    at + i
+    let end = at + src.len();
+    room[at..end].copy_from_slice(src);
+    end
 }
 
 // The description that starts at s of the text and has n bytes. An empty one may start anywhere, so nothing is cut out for it.
@@ -29,8 +26,8 @@ pub fn put_part(room: &mut [u8], at: usize, text: &[u8], s: usize, n: usize) -> 
     ensures { Put room.old at (take n (drop s text.now)) result room.new }
 {
     if n == 0 {
-        return at;
+        at
+    } else {
+        put_bytes(room, at, &text[s..s + n])
     }
-    let e = s + n;
-    put_bytes(room, at, &text[s..e])
 }

@@ -7,13 +7,7 @@ ghost use Rattle.ground.specs.Room.{Put};
 pub fn digits_len(n: u64) -> usize
     ensures { (result ≡ width n) × (result ≤ 20) }
 {
-    let mut w: usize = 1;
-    let mut m = n;
-    while 10 <= m {
-        m /= 10;
-        w += 1;
-    }
-    w
+    if n == 0 { 1 } else { n.ilog10() as usize + 1 }
 }
 
 // The last k digits of n, written from the last one on.
@@ -21,11 +15,9 @@ pub fn put_digits(room: &mut [u8], at: usize, k: usize, n: u64) -> usize
     requires { at + k ≤ length room.old }
     ensures { Put room.old at (padded k n) result room.new }
 {
-    let mut j = k;
     let mut m = n;
-    while 0 < j {
-        j -= 1;
-        room[at + j] = 48 + (m % 10) as u8;
+    for j in (0..k).rev() {
+        room[at + j] = b'0' + (m % 10) as u8;
         m /= 10;
     }
     at + k

@@ -7,14 +7,12 @@ use mathlib.Core.List.{List, [], ◌∷◌, ◌++◌}
 use native.Mathlib.Nat.{one-le-pow}
 use native.Mathlib.Omega.{arith}
 use lib.ListN.{length, drop, get_or, length-append, drop_of_length-le}
-use mir.Val.{Fits}
-use mir.Syntax.{w64}
 use borrow.Author.Tests.{eq-eqb, ne_eqb, lt-ltb, le-ltb}
 use Rattle.ground.specs.Lists.{all}
 use Rattle.ground.specs.Room.{Put}
 use Rattle.ground.proofs.Tests.{and-false}
 use Rattle.ground.proofs.Lists.{rest}
-use Rattle.ground.proofs.Room.{put_then, put-kept, Left, left-start, left_step, left_end, left-kept}
+use Rattle.ground.proofs.Room.{put_then, put-kept, Left, left_step, left_end, left-kept}
 use Rattle.format.specs.Block.{small_value, fit_value, value_text, comma, values_text}
 use Rattle.format.proofs.ValueText.{value-most}
 use Rattle.value_texts.specs.Measure.{measure_of}
@@ -79,9 +77,6 @@ module _ (d : ℕ) (vs : List ℕ) where
             sum = omega (arith, r.sum, length_at vs i h);
           }
 
-    pub counted-fits : {w : ℕ} → length vs ≤ 288 → w ≤ 27 → Fits w64 (bytes + (w + 1))
-    counted-fits h g = omega (arith, r.few, r.within)
-
     pub counted-all : length vs ≤ i → Bytes bytes ≡ measure_of d vs
     unfolding measure_of
     counted-all h =
@@ -100,9 +95,6 @@ module _ (vs : List ℕ) (i : ℕ) {l₀ l : List ℕ} {at p : ℕ} (h : i < len
 
     pub values-step : {n : List ℕ} {q : ℕ} → Put m e (44 ∷ []) q n → Left l₀ at (values_text vs) n q (values_text (drop (i + 1) vs))
     values-step x = left_step (value_text (get_or vs i 0) ++ comma) (values_text (drop (i + 1) vs)) r (values-at vs i h) (put_then w x)
-
-pub values-start : (l : List ℕ) (at : ℕ) (vs : List ℕ) → Left l at (values_text vs) l at (values_text (drop 0 vs))
-values-start l at vs = left-start l at (values_text vs)
 
 pub values-done : (vs : List ℕ) (i : ℕ) {l₀ l : List ℕ} {at p : ℕ} → length vs ≤ i → Left l₀ at (values_text vs) l p (values_text (drop i vs)) → Put l₀ at (values_text vs) p l
 values-done vs i h r = left_end r (values-end vs i h)

@@ -18,7 +18,7 @@ pub enum Measured {
 }
 
 // A value is below this.
-const LIMIT: u64 = 10000000000000;
+const LIMIT: u64 = 10_000_000_000_000;
 
 // Where values have at most d decimals. More than six are as six: a value has no smaller part.
 pub fn measure_values(values: &[u64], d: usize) -> Measured
@@ -27,17 +27,11 @@ pub fn measure_values(values: &[u64], d: usize) -> Measured
 {
     let part = tens(d);
     let mut bytes: usize = 0;
-    let mut i: usize = 0;
-    while i < values.len() {
-        let v = values[i];
-        if LIMIT <= v {
+    for v in values {
+        if LIMIT <= *v || *v % part != 0 {
             return Measured::Unfit;
         }
-        if v % part != 0 {
-            return Measured::Unfit;
-        }
-        bytes += value_len(v) + 1;
-        i += 1;
+        bytes += value_len(*v) + 1;
     }
     Measured::Bytes(bytes)
 }
@@ -47,11 +41,9 @@ pub fn put_values(room: &mut [u8], at: usize, values: &[u64]) -> usize
     ensures { Put room.old at (values_text values.now) result room.new }
 {
     let mut p = at;
-    let mut i: usize = 0;
-    while i < values.len() {
-        let e = put_value(room, p, values[i]);
+    for v in values {
+        let e = put_value(room, p, *v);
         p = put_byte(room, e, b',');
-        i += 1;
     }
     p
 }

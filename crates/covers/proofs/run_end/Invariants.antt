@@ -1,5 +1,4 @@
 -- `covers::run_end` meets its contract. Assumes nothing.
-use Prim.Native.Nat.{◌-◌}
 use Rattle.covers.proofs.Covers.{Running}
 use Rattle.fit.specs.Tags.{marks_from}
 use Rattle.format.specs.Day.{five}
@@ -7,6 +6,3 @@ use Rattle.covers.proofs.run_end.Given as goal
 
 abbrev pub invariant-loop-j : goal.invariant-loop-j
 invariant-loop-j l = Running (marks_from (five l.flags l.methods l.reasons l.starts l.lengths) l.text) l.n l.i l.j
-
-abbrev pub decreases-loop-j : goal.decreases-loop-j
-decreases-loop-j l = l.n - l.j

@@ -8,5 +8,5 @@ put_cover-requires c = search covered-v
 pub returns-then-t-eq86 : goal.returns-then-t-eq86
 returns-then-t-eq86 c = search marks-cover
 
-pub returns : goal.returns
-returns c = search marks-own
+pub returns-else-t-eq86 : goal.returns-else-t-eq86
+returns-else-t-eq86 c = search marks-own

@@ -1,15 +1,14 @@
 -- `fit::are_field_bytes` meets its contract. Assumes nothing.
-use Rattle.ground.proofs.Lists.{passed_none, passed-more, passed-stops, passed-all}
+use mathlib.Core.Path.{◌∙◌}
+use borrow.Author.Rules.{rules}
+use Rattle.ground.proofs.Tests.{tests}
+use Rattle.std.proofs.lemmas.Iterator.{YieldsList-from_slice}
+use Rattle.std.proofs.lemmas.Iterator.Search.{all_from_yields_List}
+use Rattle.format.specs.Bytes.{field_byte}
+use Rattle.fit.proofs.Marks.{all-is}
 use Rattle.fit.proofs.are_field_bytes.Goals as goal
 
-pub loop-i-init : goal.loop-i-init
-loop-i-init c = search passed_none
-
-pub loop-i-preserved : goal.loop-i-preserved
-loop-i-preserved c = search passed-more
-
-pub returns-else-is_field_byte : goal.returns-else-is_field_byte
-returns-else-is_field_byte c = search passed-stops
-
 pub returns : goal.returns
-returns c = search passed-all
+returns c =
+    all_from_yields_List field_byte _ _ _ c.all.ensures.ran (YieldsList-from_slice c.args.f.now cc) (λ x b q k. search (rules, tests))
+    ∙ all-is field_byte c.args.f.now

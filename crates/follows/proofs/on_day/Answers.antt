@@ -9,8 +9,8 @@ returns-then-time-eq0 c = search not-given
 pub returns-then-time-ne0 : goal.returns-then-time-ne0
 returns-then-time-ne0 c = not-midnight _ _ (λ e. omega arith)
 
-pub returns-then-day-date : goal.returns-then-day-date
-returns-then-day-date c = not_after _ _ (omega arith) (λ e. omega arith) (omega arith)
+pub returns-then-date-day : goal.returns-then-date-day
+returns-then-date-day c = at-midnight _ _ (omega arith) (λ e. omega arith) c.day_after.ensures
 
-pub returns : goal.returns
-returns c = at-midnight _ _ (omega arith) (λ e. omega arith) c.day_after.ensures
+pub returns-else-date-day : goal.returns-else-date-day
+returns-else-date-day c = not_after _ _ (omega arith) (λ e. omega arith) (omega arith)

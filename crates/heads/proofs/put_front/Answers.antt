@@ -13,11 +13,11 @@ pub put_digits-p2-requires : goal.put_digits-p2-requires
 put_digits-p2-requires c = omega (arith, length_front c.args.date c.args.values.now)
 
 pub put_byte-p3-requires : goal.put_byte-p3-requires
-put_byte-p3-requires c = omega (arith, length_front c.args.date c.args.values.now, length-padded 8 c.args.date)
+put_byte-p3-requires c = omega (arith, length_front c.args.date c.args.values.now, length-padded 8 c.from.result)
 
 pub put_values-requires : goal.put_values-requires
-put_values-requires c = omega (arith, length_front c.args.date c.args.values.now, length-padded 8 c.args.date)
+put_values-requires c = omega (arith, length_front c.args.date c.args.values.now, length-padded 8 c.from.result)
 
 pub returns : goal.returns
 unfolding front_text
-returns c = put_then (put_then (put_then c.put_bytes-p1.ensures c.put_digits-p2.ensures) c.put_byte-p3.ensures) c.put_values.ensures
+returns c = put_then (put_then (put_then c.put_bytes-p1.ensures (rw c.from.ensures at c.put_digits-p2.ensures)) c.put_byte-p3.ensures) c.put_values.ensures

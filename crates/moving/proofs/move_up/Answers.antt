@@ -1,20 +1,13 @@
--- `moving::move_up` meets its contract: i bytes are still to be moved, and moving them gives what moving all gives (`Up`). Each sum is inside by the contract and
--- the loop's test. Assumes nothing.
-use Rattle.moving.proofs.Moves.{up_none, up_more, up-all}
+-- `moving::move_up` meets its contract: one piece less (`up_more`). Assumes nothing.
+use Prim.Native.Nat.{◌+◌, ◌-◌, ◌*◌, ◌%◌, ◌≤◌}
+use mathlib.Core.Path.{◌≡◌}
 use native.Mathlib.Omega.{arith}
+use Rattle.moving.proofs.Moves.{up_more}
 use Rattle.moving.proofs.move_up.Goals as goal
 
-pub loop-i-init : goal.loop-i-init
-loop-i-init c = search up_none
-
-pub loop-i-smaller : goal.loop-i-smaller
-loop-i-smaller c = omega arith
-
-pub loop-i-preserved : goal.loop-i-preserved
-loop-i-preserved c = search up_more
-
-pub shape_of-room : goal.shape_of-room
-shape_of-room c = omega arith
-
-pub returns : goal.returns
-returns c = search up-all
+pub loop-k-preserved : goal.loop-k-preserved
+loop-k-preserved c =
+    let e : c.args.n % 64 + (c.loop-k.k - 1) * 64 ≡ c.args.n % 64 + c.loop-k.k * 64 - 64 = omega arith in
+    let h : 64 ≤ c.args.n % 64 + c.loop-k.k * 64 = omega arith in
+    let q = c.move_piece.ensures in
+    rw e (up_more _ _ _ _ _ _ _ 64 c.requires.0 c.requires.1 h c.loop-k.invariant (rw e at q))

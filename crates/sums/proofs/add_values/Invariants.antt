@@ -1,5 +1,5 @@
 -- `sums::add_values` meets its contract. Assumes nothing.
-use Prim.Native.Nat.{◌+◌, ◌≤◌, ◌-◌}
+use Prim.Native.Nat.{◌+◌, ◌-◌, ◌*◌}
 use Rattle.day.specs.Places.{values_from}
 use Rattle.format.specs.Cut.{fields}
 use Rattle.ground.specs.Lists.{part, sum}
@@ -7,8 +7,7 @@ use Rattle.lines.specs.Places.{Rest}
 use mathlib.Core.Path.{◌≡◌}
 use Rattle.sums.proofs.add_values.Given as goal
 
-abbrev pub invariant-loop-i : goal.invariant-loop-i
-invariant-loop-i l = (l.i ≤ l.n) × Rest l.file (fields (part l.file l.a l.e)) l.a l.i l.x l.e × (l.acc + sum (values_from (l.n - l.i) l.i (fields (part l.file l.a l.e))) ≡ l.before + sum (values_from l.n 0 (fields (part l.file l.a l.e))))
-
-abbrev pub decreases-loop-i : goal.decreases-loop-i
-decreases-loop-i l = l.n - l.i
+abbrev pub invariant-loop : goal.invariant-loop
+invariant-loop l =
+    Rest l.file (fields (part l.file l.a l.e)) l.a (16 * l.counter) l.x l.e
+    × (l.acc + sum (values_from (l.n - 16 * l.counter) (16 * l.counter) (fields (part l.file l.a l.e))) ≡ l.before + sum (values_from l.n 0 (fields (part l.file l.a l.e))))

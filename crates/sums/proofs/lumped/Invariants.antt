@@ -1,11 +1,7 @@
 -- `sums::lumped` meets its contract. Assumes nothing.
-use Prim.Native.Nat.{◌-◌, ◌+◌, ◌*◌}
+use Prim.Native.Nat.{◌+◌, ◌*◌}
 use Rattle.sums.proofs.Sums.{Adding}
-use mathlib.Core.Path.{◌≡◌}
 use Rattle.sums.proofs.lumped.Given as goal
 
 abbrev pub invariant-loop-i : goal.invariant-loop-i
-invariant-loop-i l = Adding l.file l.x l.e 16 l.i l.acc l.y × (l.y ≡ l.x + 6 * l.i)
-
-abbrev pub decreases-loop-i : goal.decreases-loop-i
-decreases-loop-i l = 16 - l.i
+invariant-loop-i l = Adding l.file l.x l.e 16 l.i l.acc (l.x + 6 * l.i)

@@ -8,5 +8,5 @@ returns-then-time-eq0 c = search put-no-load
 pub put_digits-requires : goal.put_digits-requires
 put_digits-requires c = search load-room
 
-pub returns : goal.returns
-returns c = search put-some-load
+pub returns-else-time-eq0 : goal.returns-else-time-eq0
+returns-else-time-eq0 c = search put-some-load

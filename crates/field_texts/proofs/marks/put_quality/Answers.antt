@@ -11,5 +11,5 @@ returns-then-method-eq-NO_METHOD c = search put_alone
 pub put_digits-requires : goal.put_digits-requires
 put_digits-requires c = search method-room
 
-pub returns : goal.returns
-returns c = search put-graded
+pub returns-else-method-eq-NO_METHOD : goal.returns-else-method-eq-NO_METHOD
+returns-else-method-eq-NO_METHOD c = let p = rw c.from.ensures at c.put_digits.ensures in search put-graded

@@ -6,7 +6,7 @@ pub returns-then-reason-eq-NO_REASON : goal.returns-then-reason-eq-NO_REASON
 returns-then-reason-eq-NO_REASON c = search put-no-reason
 
 pub put_dec-requires : goal.put_dec-requires
-put_dec-requires c = search reason-room
+put_dec-requires c = rw c.from.ensures (search reason-room)
 
-pub returns : goal.returns
-returns c = search put-some-reason
+pub returns-else-reason-eq-NO_REASON : goal.returns-else-reason-eq-NO_REASON
+returns-else-reason-eq-NO_REASON c = let p = rw c.from.ensures at c.put_dec.ensures in search put-some-reason

@@ -6,5 +6,5 @@ use Rattle.field_texts.proofs.marks.quality_len.Goals as goal
 pub returns-then-method-eq-NO_METHOD : goal.returns-then-method-eq-NO_METHOD
 returns-then-method-eq-NO_METHOD c = (search quality-one, omega arith)
 
-pub returns : goal.returns
-returns c = (search quality-three, omega arith)
+pub returns-else-method-eq-NO_METHOD : goal.returns-else-method-eq-NO_METHOD
+returns-else-method-eq-NO_METHOD c = (search quality-three, omega arith)

@@ -7,5 +7,5 @@ use Rattle.field_texts.proofs.marks.reason_len.Goals as goal
 pub returns-then-reason-eq-NO_REASON : goal.returns-then-reason-eq-NO_REASON
 returns-then-reason-eq-NO_REASON c = (search reason-zero, omega arith)
 
-pub returns : goal.returns
-returns c = (search reason-width, search rules)
+pub returns-else-reason-eq-NO_REASON : goal.returns-else-reason-eq-NO_REASON
+returns-else-reason-eq-NO_REASON c = (let w = rw c.from.ensures at c.digits_len.ensures.0 in search reason-width, search rules)

@@ -14,5 +14,5 @@ put_byte-d-requires c = search point-room
 pub put_digits-requires : goal.put_digits-requires
 put_digits-requires c = search fraction-room
 
-pub returns : goal.returns
-returns c = search put-point
+pub returns-else-f-eq0 : goal.returns-else-f-eq0
+returns-else-f-eq0 c = search put-point

@@ -2,8 +2,5 @@
 use Rattle.field_texts.proofs.Trimming.{Cut}
 use Rattle.field_texts.proofs.values.trim.Given as goal
 
-abbrev pub invariant-loop-p : goal.invariant-loop-p
-invariant-loop-p l = Cut l.f l.p l.m
-
-abbrev pub decreases-loop-p : goal.decreases-loop-p
-decreases-loop-p l = l.p
+abbrev pub invariant-loop-places : goal.invariant-loop-places
+invariant-loop-places l = Cut l.f l.places l.number

@@ -1,19 +1,11 @@
 -- `text::digits::digits_len` meets its contract. Assumes nothing.
-use Rattle.text.proofs.Loops.{counted_none, counted-more, counted-few, counted-fits, counted-all}
+use Rattle.ground.proofs.Digits.{width_small}
+use Rattle.text.proofs.Loops.{width-of}
 use native.Mathlib.Omega.{arith}
 use Rattle.text.proofs.digits.digits_len.Goals as goal
 
-pub loop-m-init : goal.loop-m-init
-loop-m-init c = search counted_none
+pub returns-then-n-eq0 : goal.returns-then-n-eq0
+returns-then-n-eq0 c = (omega (arith, width_small c.args.n (omega arith)), omega arith)
 
-pub overflow_add-w : goal.overflow_add-w
-overflow_add-w c = search counted-fits
-
-pub loop-m-smaller : goal.loop-m-smaller
-loop-m-smaller c = omega arith
-
-pub loop-m-preserved : goal.loop-m-preserved
-loop-m-preserved c = search counted-more
-
-pub returns : goal.returns
-returns c = (search counted-all, search counted-few)
+pub returns-else-n-eq0 : goal.returns-else-n-eq0
+returns-else-n-eq0 c = (width-of c.args.n c.ilog10.result c.ilog10.ensures.power_le c.ilog10.ensures.next_power_gt c.ilog10.ensures.bound, omega (arith, c.ilog10.ensures.bound))

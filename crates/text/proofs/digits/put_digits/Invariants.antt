@@ -4,6 +4,3 @@ use Rattle.text.proofs.digits.put_digits.Given as goal
 
 abbrev pub invariant-loop-j : goal.invariant-loop-j
 invariant-loop-j l = Shown l.initial.room l.at l.k l.n l.room l.j l.m
-
-abbrev pub decreases-loop-j : goal.decreases-loop-j
-decreases-loop-j l = l.j
