@@ -71,10 +71,6 @@ module _ (m : List ℕ) (h : Header) (i : ℕ) where
   key-there at ed en es eb = rw (← at, ← ed, ← en, ← es) eb
 
   module _ {b : Bool} (eb : b ≡ kept_key (slot_key m h i)) where
-    pub no-day : not b ≡ true → false ≡ holds_day m h i
-    unfolding holds_day
-    no-day t = rw (sym eb ∙ not-true b t)
-
-    pub day-there : not b ≡ false → {a : ℕ} {e : Entry} {d : ℕ} {r : Bool} → a ≡ slot_place h i → e ≡ entry_at m a → d ≡ number_at m (a + 12) 4 → r ≡ is_dated (block_says m h e) d → r ≡ holds_day m h i
+    pub day-there : b ≡ true → {a : ℕ} {e : Entry} {d : ℕ} {r : Bool} → a ≡ slot_place h i → e ≡ entry_at m a → d ≡ number_at m (a + 12) 4 → r ≡ is_dated (block_says m h e) d → r ≡ holds_day m h i
     unfolding holds_day key_at
-    day-there t at ee ed er = rw (sym eb ∙ not-false b t, ← at, ← ee, ← ed) er
+    day-there t at ee ed er = rw (sym eb ∙ t, ← at, ← ee, ← ed) er

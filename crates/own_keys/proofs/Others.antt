@@ -29,15 +29,6 @@ module _ (m : List ℕ) (h : Header) (i j : ℕ) {a b : ℕ} (ea : a ≡ slot_pl
   unfolding other_key same_key key_at
   other-date g = rw (← ea, ← eb, ← ed, ← et, ne_eqb d t g, and-false (same (piece m a 10) (piece m b 10) && same (piece m (a + 10) 2) (piece m (b + 10) 2)))
 
-  module _ (g : d ≡ t) {n : Bool} (en : n ≡ same (piece m a 10) (piece m b 10)) where
-    pub other-nmi : not n ≡ true → true ≡ other_key m h i j
-    unfolding other_key same_key key_at
-    other-nmi q = rw (← ea, ← eb, ← en, not-true n q)
-
-    pub other-suffix : not n ≡ false → {s : Bool} → s ≡ same (piece m (a + 10) 2) (piece m (b + 10) 2) → not s ≡ other_key m h i j
-    unfolding other_key same_key key_at
-    other-suffix q {s} es = rw (← ea, ← eb, ← en, not-false n q, ← ed, ← et, eq-eqb d t g, and-all (same (piece m (a + 10) 2) (piece m (b + 10) 2)), ← es)
-
 -- ---- with the dates of the slots at hand
 
 module _ (m : List ℕ) (h : Header) {l : List ℕ} (w : Dated m h l) where
@@ -97,6 +88,3 @@ module _ (m : List ℕ) (h : Header) {l : List ℕ} (w : Dated m h l) (i : ℕ) 
 
   pub passed-next : (j k : ℕ) {b : Bool} → j < h.slots → b ≡ cond (used h.map j) (other_key m h i j) true → not b ≡ false → Passed l i (j + 1) h.slots k → Walks j → Walks k
   passed-next j k g e t p r = passed-walked (j + 1) k p (each_more (other_key m h i) h.map h.slots from j g e t r)
-
-pub used-so : (map i : ℕ) {b : Bool} → b ≡ used map i → not b ≡ false → used map i ≡ true
-used-so map i {b} e t = sym e ∙ not-false b t

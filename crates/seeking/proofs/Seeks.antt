@@ -16,17 +16,6 @@ use Rattle.store.specs.Store.{slot_key}
 use Rattle.store.specs.Calls.{seek_from, seek}
 use Rattle.store.specs.declared.Header.{Header}
 
--- ---- one slot
-
-module _ (m : List ℕ) (h : Header) (i : ℕ) (x : Key) {u : Bool} (eu : u ≡ used h.map i) where
-  pub not-used : not u ≡ true → false ≡ used h.map i && same_key (capital_key x) (slot_key m h i)
-  not-used t = rw (← eu, not-true u t)
-
-  pub key-held : not u ≡ false → {a d : ℕ} {n s : List ℕ} {b : Bool} → a ≡ slot_place h i → d ≡ number_at m (a + 12) 4 → n ≡ piece m a 10 → s ≡ piece m (a + 10) 2
-      → b ≡ same_key (capital_key x) (key n s d) → b ≡ used h.map i && same_key (capital_key x) (slot_key m h i)
-  unfolding key_at
-  key-held t ea ed en es eb = rw (← eu, not-false u t, ← ea, ← ed, ← en, ← es) eb
-
 -- ---- the walk
 
 -- no slot before slot i has the key

@@ -57,12 +57,3 @@ module _ (m : List ℕ) (date : ℕ) where
   pub above-all : (v : ℕ) → v ≤ 0 → Above m date v → 0 ≡ highest (versions_in m) date (length (versions_in m))
   unfolding highest
   above-all v h r = let z : v ≡ 0 = omega arith in rw z at r.same
-
-module _ (m : List ℕ) (date : ℕ) {a : Bool} (e : a ≡ is_date date) where
-  pub on-no-date : not a ≡ true → 0 ≡ version_on (versions_in m) date
-  unfolding version_on
-  on-no-date n = rw (← e, not-true a n)
-
-  pub on-date : not a ≡ false → {r : ℕ} → r ≡ highest (versions_in m) date (length (versions_in m)) → r ≡ version_on (versions_in m) date
-  unfolding version_on
-  on-date n f = rw (← e, not-false a n) f

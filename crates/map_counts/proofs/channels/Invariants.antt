@@ -6,6 +6,3 @@ use Rattle.map_counts.proofs.channels.Given as goal
 
 abbrev pub invariant-loop-i : goal.invariant-loop-i
 invariant-loop-i l = Summed (one_first l.entries) 128 1 l.n l.i
-
-abbrev pub decreases-loop-i : goal.decreases-loop-i
-decreases-loop-i l = 128 - l.i

@@ -6,6 +6,3 @@ use Rattle.seeking.proofs.find_slot.Given as goal
 
 abbrev pub invariant-loop-i : goal.invariant-loop-i
 invariant-loop-i l = Sought l.memory l.h (key l.nmi l.suffix l.date) l.i
-
-abbrev pub decreases-loop-i : goal.decreases-loop-i
-decreases-loop-i l = l.n - l.i

@@ -7,5 +7,3 @@ use Rattle.slots.proofs.put_offsets.Given as goal
 abbrev pub invariant-loop-i : goal.invariant-loop-i
 invariant-loop-i l = Writing l.h l.map l.values l.initial.m l.m l.i
 
-abbrev pub decreases-loop-i : goal.decreases-loop-i
-decreases-loop-i l = length l.values - l.i

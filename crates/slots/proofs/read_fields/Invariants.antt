@@ -7,5 +7,3 @@ use Rattle.slots.proofs.read_fields.Given as goal
 abbrev pub invariant-loop-i : goal.invariant-loop-i
 invariant-loop-i l = Filled (field_of l.m l.h l.map l.k) 64 l.out l.i
 
-abbrev pub decreases-loop-i : goal.decreases-loop-i
-decreases-loop-i l = 64 - l.i
