@@ -1,12 +1,11 @@
 -- A slot that holds a day, one law for a return of the code. Assumes nothing.
 use Prim.Native.Nat.{ℕ, ◌+◌}
 use mathlib.Core.Path.{◌≡◌, refl, sym, ◌∙◌}
-use mathlib.Core.Bool.{Bool, true, false, not}
+use mathlib.Core.Bool.{Bool, true, false}
 use mathlib.Core.List.{List}
 use native.Mathlib.Omega.{arith}
 use lib.ListN.{drop, get_or}
 use lib.Dec.{eqb}
-use borrow.Author.Tests.{not-true, not-false}
 use Rattle.format.specs.Answers.{Answer, accepted, refused, block_checked_as}
 use Rattle.format.specs.File.{block_check_of}
 use Rattle.format.specs.declared.Refusal.{Refusal}

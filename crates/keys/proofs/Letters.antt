@@ -1,16 +1,15 @@
 -- Bytes that are handed in held to kept ones, and written as kept ones, letters as capitals, one after the other. Assumes nothing.
 use Prim.Native.Nat.{ℕ, ◌+◌, ◌≤◌, ◌<◌}
-use mathlib.Core.Path.{◌≡◌, refl, ap, sym, ◌∙◌}
+use mathlib.Core.Path.{◌≡◌, refl, ap}
 use mathlib.Core.List.{List, [], ◌∷◌}
-use mathlib.Core.Bool.{Bool, ◌&&◌, true, false, not}
+use mathlib.Core.Bool.{Bool, ◌&&◌, false}
 use native.Mathlib.Omega.{arith}
-use borrow.Author.Tests.{eqb-true, eqb-false, not-true, not-false}
 use Rattle.std.specs.List.{list_all, zip}
 use lib.ListN.{length, set, get_or, length-map, get_or-map}
 use lib.Seq.{sets}
 use lib.Dec.{eqb}
 use Rattle.ground.specs.Lists.{same}
-use Rattle.ground.proofs.Lists.{Agreed, unlike, agreed-none, agreed-more, agreed-stops, agreed-all}
+use Rattle.ground.proofs.Lists.{unlike}
 use Rattle.format.specs.Bytes.{capital}
 use Rattle.text.proofs.Loops.{Copied, copied_more, copied_all}
 use Rattle.entries.specs.Keys.{capitals}

@@ -11,7 +11,7 @@ use Rattle.std.specs.List.{list_all}
 use Rattle.std.specs.Char.{is_ascii_digit, is_ascii_uppercase}
 use Rattle.ground.specs.Lists.{all, same}
 use Rattle.ground.specs.Digits.{is_digit}
-use Rattle.ground.proofs.Tests.{and-true, and-false, and-all, refuted}
+use Rattle.ground.proofs.Tests.{and-true, refuted}
 use Rattle.ground.proofs.Cases.{split, both}
 use Rattle.ground.proofs.Same.{same-sound}
 use Rattle.format.specs.Bytes.{capital, is_capital, is_letter, is_alnum, are_all}

@@ -5,9 +5,9 @@ use mathlib.Core.Bool.{Bool, true, false, cond, not, ◌&&◌}
 use mathlib.Core.List.{List}
 use native.Mathlib.Omega.{arith}
 use lib.ListN.{length, get_or}
-use borrow.Author.Tests.{eq-eqb, ne_eqb, not-true, not-false}
+use borrow.Author.Tests.{ne_eqb}
 use Rattle.ground.specs.Lists.{all, same}
-use Rattle.ground.proofs.Tests.{and-false, and-all}
+use Rattle.ground.proofs.Tests.{and-false}
 use Rattle.ground.proofs.Cases.{by, same_or}
 use Rattle.ground.proofs.From.{length_from, from-here}
 use Rattle.entries.specs.Little.{piece, number_at}

@@ -1,17 +1,13 @@
 -- The slot of a key as it is looked for, slot by slot. Assumes nothing.
 use Prim.Native.Nat.{ℕ, suc, ◌+◌, ◌-◌, ◌≤◌, ◌<◌}
 use mathlib.Core.Path.{◌≡◌, sym, ◌∙◌}
-use mathlib.Core.Bool.{Bool, true, false, not, ◌&&◌}
+use mathlib.Core.Bool.{Bool, true, false, ◌&&◌}
 use mathlib.Core.List.{List}
 use native.Mathlib.Nat.{sub-zero}
 use native.Mathlib.Numerals.{add-one}
 use native.Mathlib.Omega.{arith}
-use borrow.Author.Tests.{not-true, not-false}
-use Rattle.entries.specs.Little.{piece, number_at}
-use Rattle.entries.specs.Keys.{Key, key, capital_key, same_key}
-use Rattle.entries.specs.Entries.{key_at}
+use Rattle.entries.specs.Keys.{Key, capital_key, same_key}
 use Rattle.store.specs.Used.{used}
-use Rattle.store.specs.Ranges.{slot_place}
 use Rattle.store.specs.Store.{slot_key}
 use Rattle.store.specs.Calls.{seek_from, seek}
 use Rattle.store.specs.declared.Header.{Header}

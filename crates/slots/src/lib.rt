@@ -105,7 +105,11 @@ fn field(m: &[u8], h: Header, map: u64, k: usize, i: u32) -> u32
     requires { k < 26 }
     ensures { result ≡ field_of m.now h map k i }
 {
-    if is_used(map, i) { u32_at(m, place(h, i) + k) } else { 0 }
+    if is_used(map, i) {
+        u32_at(m, place(h, i) + k)
+    } else {
+        0
+    }
 }
 
 // And of each of the 64 slots.

@@ -1,5 +1,4 @@
 -- `kept_days::all_hold_days` meets its contract. Assumes nothing.
-use Prim.Native.Nat.{◌-◌}
 use Rattle.ground.specs.Lists.{all}
 use Rattle.store.specs.Store.{holds_day}
 use Rattle.store.proofs.Walks.{Walked}

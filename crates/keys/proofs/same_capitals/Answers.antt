@@ -1,5 +1,4 @@
 -- `keys::same_capitals` meets its contract: lists of one length are the same if each pair is (`same-zip`). Assumes nothing.
-use Prim.Native.Nat.{ℕ}
 use mathlib.Core.Path.{◌∙◌}
 use borrow.Author.Rules.{rules}
 use borrow.Author.Tests.{ne_eqb, tests}

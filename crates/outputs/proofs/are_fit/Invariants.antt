@@ -1,5 +1,4 @@
 -- `outputs::are_fit` meets its contract. Assumes nothing.
-use Prim.Native.Nat.{◌-◌}
 use Rattle.outputs.proofs.Walks.{Asked, given_from}
 use Rattle.tenants.specs.Outputs.{fit_output}
 use Rattle.outputs.proofs.are_fit.Given as goal

@@ -1,5 +1,4 @@
 -- `outputs::are_kept` meets its contract. Assumes nothing.
-use Prim.Native.Nat.{◌-◌}
 use Rattle.outputs.proofs.Walks.{Asked, entries_from}
 use Rattle.tenants.specs.Outputs.{is_kept}
 use Rattle.outputs.proofs.are_kept.Given as goal

@@ -1,5 +1,4 @@
 -- `own_keys::are_all_own` meets its contract. Assumes nothing.
-use Prim.Native.Nat.{◌-◌}
 use Rattle.store.specs.Store.{other_key, pairwise}
 use Rattle.store.proofs.Walks.{Walked}
 use Rattle.own_keys.proofs.are_all_own.Given as goal

@@ -1,5 +1,4 @@
 -- `own_keys::next_of_date` meets its contract. Assumes nothing.
-use native.Mathlib.Omega.{arith}
 use Rattle.own_keys.proofs.Others.{passed_none, passed-more}
 use Rattle.own_keys.proofs.next_of_date.Goals as goal
 

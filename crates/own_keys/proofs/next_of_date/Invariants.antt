@@ -1,5 +1,4 @@
 -- `own_keys::next_of_date` meets its contract. Assumes nothing.
-use Prim.Native.Nat.{◌-◌}
 use Rattle.own_keys.specs.Dates.{Passed}
 use Rattle.own_keys.proofs.next_of_date.Given as goal
 

@@ -1,6 +1,5 @@
 -- `packing::next_block` meets its contract: of the first i ranges the one found is the one sought (`Seeking`). Assumes nothing.
 use Rattle.packing.proofs.Seeks.{seeking-none, seeking-found, seeking-on, seeking-all}
-use native.Mathlib.Omega.{arith}
 use Rattle.packing.proofs.next_block.Goals as goal
 use Rattle.packing.proofs.next_block.Goals.{then-nearer, else-nearer}
 

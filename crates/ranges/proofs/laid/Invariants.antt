@@ -1,7 +1,5 @@
 -- `ranges::laid` meets its contract: what is left of the lists at i decides what the lists decide (`Laying`). Assumes nothing.
 use Rattle.ranges.proofs.Checks.{Laying}
-use lib.ListN.{length}
-use Prim.Native.Nat.{◌-◌}
 use Rattle.ranges.proofs.laid.Given as goal
 
 abbrev pub invariant-loop-i : goal.invariant-loop-i

@@ -1,5 +1,4 @@
 -- `seeking::find_slot` meets its contract. Assumes nothing.
-use Prim.Native.Nat.{◌-◌}
 use Rattle.entries.specs.Keys.{key}
 use Rattle.seeking.proofs.Seeks.{Sought}
 use Rattle.seeking.proofs.find_slot.Given as goal
