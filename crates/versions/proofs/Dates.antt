@@ -1,15 +1,14 @@
 -- The version that answers a date, and the last one. Assumes nothing.
 use Prim.Native.Nat.{ℕ, zero, suc, ◌-◌, ◌≤◌, ◌<◌}
 use mathlib.Core.Path.{◌≡◌, sym, ap, ◌∙◌}
-use mathlib.Core.Bool.{Bool, true, false, cond, not}
+use mathlib.Core.Bool.{cond}
 use mathlib.Core.List.{List}
 use native.Mathlib.Omega.{arith}
-use borrow.Author.Tests.{lt-leb, le-leb, not-true, not-false}
+use borrow.Author.Tests.{lt-leb, le-leb}
 use lib.ListN.{length, get_or}
 use lib.Dec.{leb}
 use Rattle.ground.specs.Lists.{from}
-use Rattle.format.specs.Dates.{is_date}
-use Rattle.tenants.specs.Versions.{Version, none, version_at, count_in, versions_in, latest, highest, version_on}
+use Rattle.tenants.specs.Versions.{Version, none, version_at, count_in, versions_in, latest, highest}
 use Rattle.versions.proofs.Pieces.{count-versions, version-here}
 
 -- ---- the last one

@@ -4,13 +4,12 @@ use mathlib.Core.Path.{◌≡◌, ap}
 use mathlib.Core.Bool.{Bool, true, false, not, ◌&&◌}
 use mathlib.Core.List.{List}
 use native.Mathlib.Omega.{arith}
-use borrow.Author.Tests.{lt-leb, le-leb, leb-true, not-true, not-false}
+use borrow.Author.Tests.{leb-true, not-true, not-false}
 use lib.ListN.{length, drop}
 use lib.Dec.{leb}
 use Rattle.ground.specs.Lists.{all, from}
 use Rattle.ground.proofs.Tests.{and-true}
 use Rattle.ground.proofs.From.{from_step, from_end}
-use Rattle.format.specs.Dates.{is_date}
 use Rattle.entries.specs.Little.{piece}
 use Rattle.tenants.specs.Outputs.{is_kept, outputs_in}
 use Rattle.tenants.specs.Versions.{version_from, version_place, version_at, count_in, versions_in, may_follow, are_versions, is_map}

@@ -1,5 +1,4 @@
 -- `map_counts::channels` meets its contract. Assumes nothing.
-use Prim.Native.Nat.{◌-◌}
 use Rattle.map_counts.proofs.Sums.{Summed}
 use Rattle.map_counts.specs.Counts.{one_first}
 use Rattle.map_counts.proofs.channels.Given as goal

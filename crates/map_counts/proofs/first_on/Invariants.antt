@@ -1,5 +1,4 @@
 -- `map_counts::first_on` meets its contract. Assumes nothing.
-use Prim.Native.Nat.{◌-◌}
 use Rattle.map_counts.proofs.Sums.{Summed}
 use Rattle.map_counts.specs.Counts.{one_on}
 use Rattle.map_counts.proofs.first_on.Given as goal

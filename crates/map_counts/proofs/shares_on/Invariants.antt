@@ -1,5 +1,4 @@
 -- `map_counts::shares_on` meets its contract. Assumes nothing.
-use Prim.Native.Nat.{◌-◌}
 use Rattle.map_counts.proofs.Sums.{Summed}
 use Rattle.map_counts.specs.Counts.{share_on}
 use Rattle.map_counts.proofs.shares_on.Given as goal

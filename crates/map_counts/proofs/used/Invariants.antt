@@ -1,5 +1,4 @@
 -- `map_counts::used` meets its contract. Assumes nothing.
-use Prim.Native.Nat.{◌-◌}
 use Rattle.map_counts.proofs.Sums.{Summed}
 use Rattle.map_counts.specs.Counts.{one_used}
 use Rattle.map_counts.proofs.used.Given as goal

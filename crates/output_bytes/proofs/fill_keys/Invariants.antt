@@ -1,5 +1,4 @@
 -- `output_bytes::fill_keys` meets its contract. Assumes nothing.
-use Prim.Native.Nat.{◌-◌}
 use Rattle.output_bytes.proofs.Entries.{Keys}
 use Rattle.output_bytes.proofs.fill_keys.Given as goal
 

@@ -1,5 +1,4 @@
 -- `output_bytes::fill_shares` meets its contract. Assumes nothing.
-use Prim.Native.Nat.{◌-◌}
 use Rattle.output_bytes.proofs.Entries.{Shares}
 use Rattle.output_bytes.proofs.fill_shares.Given as goal
 

@@ -1,5 +1,4 @@
 -- `output_bytes::put_outputs` meets its contract. Assumes nothing.
-use Prim.Native.Nat.{◌-◌}
 use Rattle.output_bytes.proofs.Entries.{Given}
 use Rattle.output_bytes.proofs.put_outputs.Given as goal
 

@@ -1,5 +1,4 @@
 -- `shares::put_parts` meets its contract. Assumes nothing.
-use Prim.Native.Nat.{◌-◌}
 use Rattle.shares.proofs.Loops.{Parting}
 use Rattle.shares.proofs.put_parts.Given as goal
 

@@ -1,5 +1,4 @@
 -- `shares::put_remainders` meets its contract. Assumes nothing.
-use Prim.Native.Nat.{◌-◌}
 use Rattle.shares.proofs.Loops.{Resting}
 use Rattle.shares.proofs.put_remainders.Given as goal
 

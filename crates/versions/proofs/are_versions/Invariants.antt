@@ -1,5 +1,4 @@
 -- `versions::are_versions` meets its contract. Assumes nothing.
-use Prim.Native.Nat.{◌-◌}
 use Rattle.versions.proofs.Maps.{Walked}
 use Rattle.versions.proofs.are_versions.Given as goal
 
