@@ -71,16 +71,16 @@ module _ (channel keys shares : List ℕ) {weights : List ℕ} where
     weighing-light h l = omega (arith, r.light)
 
     -- the next output
-    module _ (h : i < 128) {k w : ℕ} (ek : k ≡ one (has_key channel (output (take (12 * i + 12 - 12 * i) (drop (12 * i) keys)) (get_or shares i 0))))
-        (ew : w ≡ weight_of (has_key channel) (output (take (12 * i + 12 - 12 * i) (drop (12 * i) keys)) (get_or shares i 0))) (l : w ≤ 65535) where
+    module _ (h : i < 128) {x k w : ℕ} (ex : x ≡ get_or shares i 0) (ek : k ≡ one (has_key channel (output (take (12 * i + 12 - 12 * i) (drop (12 * i) keys)) x)))
+        (ew : w ≡ weight_of (has_key channel) (output (take (12 * i + 12 - 12 * i) (drop (12 * i) keys)) x)) (l : w ≤ 65535) where
       abbrev here : Output
       here = output (take 12 (drop (12 * i) keys)) (get_or shares i 0)
 
       counts-here : k ≡ one (has_key channel here)
-      counts-here = rw (part_cut (12 * i) 12 (drop (12 * i) keys)) at ek
+      counts-here = rw (part_cut (12 * i) 12 (drop (12 * i) keys), ex) at ek
 
       weighs-here : w ≡ weight_of (has_key channel) here
-      weighs-here = rw (part_cut (12 * i) 12 (drop (12 * i) keys)) at ew
+      weighs-here = rw (part_cut (12 * i) 12 (drop (12 * i) keys), ex) at ew
 
       pub weighing-more : Weighing channel keys shares (set weights i w) (outputs + k) (total + w) (i + 1)
       unfolding count
@@ -108,5 +108,3 @@ module _ (channel keys shares : List ℕ) {weights : List ℕ} where
 
       pub weighed-all : weights ≡ weights_of (has_key channel) (outputs_given 128 keys shares)
       weighed-all = rw (given-none keys shares i h) at r.left
-
-pub ruleset weighing = (weighing-none, weighing-more, weighed-outputs, weighed-shares, weighed-all)

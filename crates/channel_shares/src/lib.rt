@@ -27,14 +27,15 @@ fn weight_of(channel: &[u8], key: &[u8], share: u64) -> Weight
     ensures light { result.weight ≤ 65535 }
 {
     if same_capitals(key, channel) {
-        return Weight {
+        Weight {
             count: 1,
             weight: share,
-        };
-    }
-    Weight {
-        count: 0,
-        weight: 0,
+        }
+    } else {
+        Weight {
+            count: 0,
+            weight: 0,
+        }
     }
 }
 
@@ -54,17 +55,14 @@ pub fn put_weights(channel: &[u8], keys: &[u8], shares: &[u16], weights: &mut [u
 {
     let mut outputs: usize = 0;
     let mut sum: u64 = 0;
-    let mut i: usize = 0;
-    while i < OUTPUTS {
+    for i in 0..OUTPUTS {
         let a = 12 * i;
         let e = a + 12;
-        let share = shares[i] as u64;
+        let share = u64::from(shares[i]);
         let w = weight_of(channel, &keys[a..e], share);
-        let weight = w.weight;
-        weights[i] = weight;
+        weights[i] = w.weight;
         outputs += w.count;
-        sum += weight;
-        i += 1;
+        sum += w.weight;
     }
     OnChannel {
         outputs,

@@ -9,44 +9,30 @@ use store::Header;
 use used_map::{count, none_past};
 
 // A slot count that a store may have.
+#[tactic(auto, unfolding(store::specs::Store::slotted))]
 pub fn is_slotted(slots: u32) -> bool
     ensures { result ≡ slotted slots }
 {
-    if slots < 1 {
-        return false;
-    }
-    slots <= 64
+    (1..=64).contains(&slots)
 }
 
 // List and room lie in that order behind the header, inside n bytes.
+#[tactic(auto, unfolding(store::specs::Store::in_order))]
 fn is_in_order(h: Header, n: usize) -> bool
     ensures { result ≡ in_order h n }
 {
-    if h.list < 32 {
-        return false;
-    }
     let end = h.list as usize + 26 * h.slots as usize;
     let room = h.room as usize;
-    if room < end {
-        return false;
-    }
-    room + h.size as usize <= n
+    32 <= h.list && end <= room && room + h.size as usize <= n
 }
 
+#[tactic(auto, unfolding(crate::specs::Frames::framed, store::specs::Store::counted, store::specs::Store::used_fit))]
 pub fn is_framed(h: Header, n: usize) -> bool
     ensures { result ≡ framed h n }
 {
-    if !is_slotted(h.slots) {
-        return false;
-    }
-    if h.days != count(h.map) {
-        return false;
-    }
-    if !none_past(h.map, h.slots) {
-        return false;
-    }
-    if !is_in_order(h, n) {
-        return false;
-    }
-    h.used <= h.size
+    is_slotted(h.slots)
+        && h.days == count(h.map)
+        && none_past(h.map, h.slots)
+        && is_in_order(h, n)
+        && h.used <= h.size
 }

@@ -2,12 +2,11 @@
 use Rattle.std.proofs.Common.{Option, Some, None}
 use Prim.Native.Nat.{ℕ, ◌+◌}
 use mathlib.Core.Path.{◌≡◌, refl, sym, ◌∙◌}
-use mathlib.Core.Bool.{Bool, true, false, not}
+use mathlib.Core.Bool.{Bool, true, false}
 use mathlib.Core.List.{List}
 use native.Mathlib.Omega.{arith}
 use lib.ListN.{drop, get_or}
 use lib.Dec.{eqb}
-use borrow.Author.Tests.{not-true, not-false}
 use Rattle.format.specs.Answers.{Answer, accepted, refused, block_checked_as}
 use Rattle.format.specs.File.{block_check_of}
 use Rattle.format.specs.declared.Refusal.{Refusal}
@@ -70,10 +69,6 @@ module _ (m : List ℕ) (h : Header) (i : ℕ) where
   key-there at ed en es eb = rw (← at, ← ed, ← en, ← es) eb
 
   module _ {b : Bool} (eb : b ≡ kept_key (slot_key m h i)) where
-    pub no-day : not b ≡ true → false ≡ holds_day m h i
-    unfolding holds_day
-    no-day t = rw (sym eb ∙ not-true b t)
-
-    pub day-there : not b ≡ false → {a : ℕ} {e : Entry} {d : ℕ} {r : Bool} → a ≡ slot_place h i → e ≡ entry_at m a → d ≡ number_at m (a + 12) 4 → r ≡ is_dated (block_says m h e) d → r ≡ holds_day m h i
+    pub day-there : b ≡ true → {a : ℕ} {e : Entry} {d : ℕ} {r : Bool} → a ≡ slot_place h i → e ≡ entry_at m a → d ≡ number_at m (a + 12) 4 → r ≡ is_dated (block_says m h e) d → r ≡ holds_day m h i
     unfolding holds_day key_at
-    day-there t at ee ed er = rw (sym eb ∙ not-false b t, ← at, ← ee, ← ed) er
+    day-there t at ee ed er = rw (sym eb ∙ t, ← at, ← ee, ← ed) er

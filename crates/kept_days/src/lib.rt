@@ -79,36 +79,28 @@ fn has_dated_block(memory: &[u8], h: Header, e: Entry, date: u32) -> bool
     }
 }
 
+#[tactic(auto, unfolding(store::specs::Store::holds_day))]
 fn holds_day(memory: &[u8], h: Header, i: u32) -> bool
     ensures { result ≡ holds_day memory.now h i }
 {
-    if !has_kept_key(memory, h, i) {
-        return false;
-    }
     let at = place(h, i);
-    let e = read_entry(memory, at);
-    has_dated_block(memory, h, e, u32_at(memory, at + 12))
+    has_kept_key(memory, h, i)
+        && has_dated_block(memory, h, read_entry(memory, at), u32_at(memory, at + 12))
 }
 
 fn is_free_or_holds_day(memory: &[u8], h: Header, i: u32) -> bool
     ensures { result ≡ cond (used h.map i) (holds_day memory.now h i) true }
 {
-    if !is_used(h.map, i) {
-        return true;
-    }
-    holds_day(memory, h, i)
+    !is_used(h.map, i) || holds_day(memory, h, i)
 }
 
 pub fn all_hold_days(memory: &[u8], h: Header) -> bool
     ensures { result ≡ all (holds_day memory.now h) (used_slots h) }
 {
-    let n = h.slots;
-    let mut i: u32 = 0;
-    while i < n {
+    for i in 0..h.slots {
         if !is_free_or_holds_day(memory, h, i) {
             return false;
         }
-        i += 1;
     }
     true
 }

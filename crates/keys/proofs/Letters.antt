@@ -1,47 +1,29 @@
 -- Bytes that are handed in held to kept ones, and written as kept ones, letters as capitals, one after the other. Assumes nothing.
 use Prim.Native.Nat.{ℕ, ◌+◌, ◌≤◌, ◌<◌}
-use mathlib.Core.Path.{◌≡◌, sym, ◌∙◌}
-use mathlib.Core.List.{List}
-use mathlib.Core.Bool.{Bool, true, false, not}
+use mathlib.Core.Path.{◌≡◌, refl, ap}
+use mathlib.Core.List.{List, [], ◌∷◌}
+use mathlib.Core.Bool.{Bool, ◌&&◌, false}
 use native.Mathlib.Omega.{arith}
-use borrow.Author.Tests.{eqb-true, eqb-false, not-true, not-false}
+use Rattle.std.specs.List.{list_all, zip}
 use lib.ListN.{length, set, get_or, length-map, get_or-map}
 use lib.Seq.{sets}
 use lib.Dec.{eqb}
 use Rattle.ground.specs.Lists.{same}
-use Rattle.ground.proofs.Lists.{Agreed, unlike, agreed-none, agreed-more, agreed-stops, agreed-all}
+use Rattle.ground.proofs.Lists.{unlike}
 use Rattle.format.specs.Bytes.{capital}
 use Rattle.text.proofs.Loops.{Copied, copied_more, copied_all}
 use Rattle.entries.specs.Keys.{capitals}
 
--- the first i bytes agree
-pub record Alike (s t : List ℕ) (i : ℕ) : Type 0 where
-  pub agreed : Agreed (capitals s) t i
+pub alike-not : (s t : List ℕ) → (length s ≡ length t → ⊥) → false ≡ same (capitals s) t
+alike-not s t h = unlike (capitals s) t (λ q. h (omega (arith, length-map s capital)))
 
-module _ (s t : List ℕ) where
-  pub alike-not : (length s ≡ length t → ⊥) → false ≡ same (capitals s) t
-  alike-not h = unlike (capitals s) t (λ q. h (omega (arith, length-map s capital)))
-
-  pub alike-none : length s ≡ length t → Alike s t 0
-  alike-none h = record { agreed = agreed-none (capitals s) t (omega (arith, length-map s capital)) }
-
-  -- q is what `same_capital` answers
-  module _ (i : ℕ) (r : Alike s t i) (l : i < length s) {b : Bool} (q : b ≡ eqb (capital (get_or s i 0)) (get_or t i 0)) where
-    within : i < length (capitals s)
-    within = omega (arith, length-map s capital)
-
-    letters : b ≡ eqb (get_or (capitals s) i 0) (get_or t i 0)
-    unfolding capital
-    letters = rw (get_or-map capital s i 0) q
-
-    pub alike-more : not b ≡ false → Alike s t (i + 1)
-    alike-more h = record { agreed = agreed-more (capitals s) t i within (eqb-true _ _ (sym letters ∙ not-false b h)) r.agreed }
-
-    pub alike-stop : not b ≡ true → false ≡ same (capitals s) t
-    alike-stop h = agreed-stops (capitals s) t i within (eqb-false _ _ (sym letters ∙ not-true b h)) r.agreed
-
-  pub alike_all : (i : ℕ) → length s ≤ i → Alike s t i → true ≡ same (capitals s) t
-  alike_all i h r = agreed-all (capitals s) t i (omega (arith, length-map s capital)) r.agreed
+-- byte by byte
+pub same-zip : (s t : List ℕ) → length s ≡ length t → list_all (λ p. eqb (capital p.0) p.1) (zip s t) ≡ same (capitals s) t
+unfolding same
+same-zip [] [] e = refl
+same-zip [] (y ∷ t) e = absurd (let z : ⊥ = omega arith in z)
+same-zip (x ∷ s) [] e = absurd (let z : ⊥ = omega arith in z)
+same-zip (x ∷ s) (y ∷ t) e = ap (λ (b : Bool). eqb (capital x) y && b) (same-zip s t (omega arith))
 
 -- ---- capitals: i bytes of them are written
 

@@ -21,46 +21,26 @@ fn same_capital(given: u8, kept: u8) -> bool
 pub fn same_capitals(given: &[u8], kept: &[u8]) -> bool
     ensures { result ≡ same (capitals given.now) kept.now }
 {
-    let n = given.len();
-    if n != kept.len() {
-        return false;
-    }
-    let mut i: usize = 0;
-    while i < n {
-        if !same_capital(given[i], kept[i]) {
-            return false;
-        }
-        i += 1;
-    }
-    true
+    given.len() == kept.len() && given.iter().zip(kept).all(|(g, k)| same_capital(*g, *k))
 }
 
+#[tactic(auto, unfolding(entries::specs::Keys::good_key))]
 pub fn good_key(nmi: &[u8], suffix: &[u8], date: u32) -> bool
     ensures { result ≡ good_key (key nmi.now suffix.now date) }
 {
-    if !text_rules::nmi(nmi) {
-        return false;
-    }
-    if !text_rules::suffix(suffix) {
-        return false;
-    }
-    is_date(date as u64)
+    text_rules::nmi(nmi) && text_rules::suffix(suffix) && is_date(u64::from(date))
 }
 
 // A good key without a small letter.
+#[tactic(auto, unfolding(entries::specs::Keys::kept_key, entries::specs::Keys::in_capitals))]
 pub fn kept_key(nmi: &[u8], suffix: &[u8], date: u32) -> bool
     ensures { result ≡ kept_key (key nmi.now suffix.now date) }
 {
-    if !good_key(nmi, suffix, date) {
-        return false;
-    }
-    if !same_capitals(nmi, nmi) {
-        return false;
-    }
-    same_capitals(suffix, suffix)
+    good_key(nmi, suffix, date) && same_capitals(nmi, nmi) && same_capitals(suffix, suffix)
 }
 
 // The key that is handed in, with capital letters, is the kept one. The date is looked at first: in a store of one meter's days it is what differs.
+#[tactic(auto, unfolding(entries::specs::Keys::same_key, entries::specs::Keys::capital_key))]
 pub fn is_key(
     nmi: &[u8],
     suffix: &[u8],
@@ -71,13 +51,7 @@ pub fn is_key(
 ) -> bool
     ensures { result ≡ same_key (capital_key (key nmi.now suffix.now date)) (key kept_nmi.now kept_suffix.now kept_date) }
 {
-    if date != kept_date {
-        return false;
-    }
-    if !same_capitals(nmi, kept_nmi) {
-        return false;
-    }
-    same_capitals(suffix, kept_suffix)
+    date == kept_date && same_capitals(nmi, kept_nmi) && same_capitals(suffix, kept_suffix)
 }
 
 // Writes bytes from place `at` on, small letters as capitals.
@@ -85,9 +59,7 @@ pub fn put_capitals(m: &mut [u8], at: usize, s: &[u8])
     requires { at + length s.now ≤ length m.old }
     ensures { m.new ≡ sets m.old at (capitals s.now) }
 {
-    let mut i: usize = 0;
-    while i < s.len() {
-        m[at + i] = capital(s[i]);
-        i += 1;
+    for (i, b) in s.iter().enumerate() {
+        m[at + i] = capital(*b);
     }
 }

@@ -1,15 +1,18 @@
 -- Numbers in bytes: read from the last byte to the first, written from the first to the last, and read back. One law for every width. Assumes nothing.
 use Prim.Native.Nat.{ℕ, zero, suc, ◌+◌, ◌-◌, ◌*◌, ◌/◌, ◌%◌, ◌^◌, ◌≤◌, ◌<◌, min}
 use mathlib.Core.Path.{◌≡◌, refl, sym, ap, ◌∙◌, subst}
-use mathlib.Core.List.{List, [], ◌∷◌}
+use mathlib.Core.List.{List, [], ◌∷◌, ◌++◌, reverse}
 use native.Mathlib.Nat.{pow-suc, pow-le-pow_right, sub-zero, lt_of_lt_of_le}
 use native.Mathlib.Omega.{arith}
 use lib.Dec.{lit<}
 use lib.Arith.{lt-one}
 use lib.ListN.{length, take, drop, get_or, set, drop_of_length-le, length-take, length-set}
-use lib.Seq.{sets, set_out, take_all, drop-length}
+use lib.Seq.{sets, set_out, take_all, drop-length, length-take-le, set-append_left}
+use borrow.Rule.Slice.PartMut.{mid_of, post_of, put_mid, put_same}
 use mir.Val.{Fits}
-use mir.Syntax.{w64}
+use mir.Syntax.{w8, w64}
+use Rattle.std.proofs.lemmas.List.{get_or-reverse, length-reverse, set-append_right}
+use Rattle.std.proofs.lemmas.Grind.{get_or_default_zero}
 use Rattle.ground.specs.Room.{Put}
 use Rattle.ground.proofs.Cases.{split}
 use Rattle.ground.proofs.Lists.{rest}
@@ -35,9 +38,10 @@ pub record Gathered (s : List ℕ) (i v : ℕ) : Type 0 where
   pub is : v ≡ number (drop i s)
   pub below : v < 256 ^ (length s - i)
 
-pub gathered_none : (s : List ℕ) → length s ≤ 8 → Gathered s (length s) 0
+pub gathered_none : (s : List ℕ) → length s ≤ 8 → Gathered s (length s - 0) 0
 unfolding number
 gathered_none s h =
+    rw sub-zero
     record {
       within = omega arith;
       short = h;
@@ -60,17 +64,38 @@ module _ (s : List ℕ) (i v : ℕ) where
         below = byte_more g.below b (omega (arith, g.within));
       }
 
-  pub gathered-fits : 0 < i → get_or s (i - 1) 0 < 256 → Gathered s i v → Fits w64 (v * 256 + get_or s (i - 1) 0)
-  gathered-fits h b g = let m = gathered-more h b g in record { fits = below_all m.below (omega (arith, m.short)) }
-
   pub gathered-times : 0 < i → Gathered s i v → Fits w64 (v * 256)
   gathered-times h g =
       let b = byte_more {b = 0} {j = length s - (i - 1)} g.below (lit< tt) (omega (arith, g.within)) in
       record { fits = below_all {k = length s - (i - 1)} (omega arith) (omega (arith, g.short)) }
 
-pub gathered-all : (s : List ℕ) (i v : ℕ) → i ≤ 0 → Gathered s i v → (v ≡ number s) × (v < 256 ^ length s)
-gathered-all s zero v h g = (g.is, rw sub-zero at g.below)
-gathered-all s (suc i) v h g = absurd (let z : ⊥ = omega arith in z)
+-- as the loop meets it: k bytes from the last on were read, b is the next
+module _ (s : List ℕ) (k v b : ℕ) (h : k < length (reverse s)) (e : b ≡ get_or (reverse s) k b) (f : (i : ℕ) → Fits w8 (get_or s i 0))
+    (g : Gathered s (length s - k) v) where
+  next-byte : b ≡ get_or s (length s - k - 1) 0
+  next-byte =
+      let n = length-reverse s in
+      let i : length s - 1 - k ≡ length s - k - 1 = omega arith in
+      e ∙ get_or-reverse s k b (omega arith) ∙ ap (λ (j : ℕ). get_or s j b) i ∙ get_or_default_zero s (length s - k - 1) b (omega arith)
+
+  pub gathered_next : {j : ℕ} → j ≡ k + 1 → Gathered s (length s - j) (v * 256 + b)
+  gathered_next {j} q =
+      let n = length-reverse s in
+      let z : length s - k - 1 ≡ length s - j = omega arith in
+      let m = gathered-more s (length s - k) v (omega arith) (f (length s - k - 1)).fits g in
+      subst (λ (i : ℕ). Gathered s i (v * 256 + b)) z (rw (← next-byte) at m)
+
+  pub next-times : Fits w64 (v * 256)
+  next-times = let n = length-reverse s in gathered-times s (length s - k) v (omega arith) g
+
+  pub next-fits : Fits w64 (v * 256 + b)
+  next-fits = let m = gathered_next {j = k + 1} refl in record { fits = below_all m.below (omega (arith, m.short)) }
+
+pub gathered-all : (s : List ℕ) (k v : ℕ) → k ≡ length (reverse s) → Gathered s (length s - k) v → (v ≡ number s) × (v < 256 ^ length s)
+gathered-all s k v h g =
+    let z : length s - k ≡ 0 = omega (arith, length-reverse s) in
+    let f = rw z at g in
+    (f.is, rw sub-zero at f.below)
 
 -- a piece has at most the bytes that are asked for
 pub piece-short : (m s : List ℕ) (a k : ℕ) → s ≡ piece m a k → length s ≤ k
@@ -112,6 +137,21 @@ putting-more l₀ at k n l i v h p =
       kept = length-set l (at + i) (v % 256) ∙ p.kept;
       left = rw z (rw q at p.left);
     }
+
+-- the bytes written are a part of l₀, w of them from place `at` on
+module _ (l₀ : List ℕ) (at k n w : ℕ) where
+  pub part-none : Putting l₀ at k n (put_mid at w l₀ (mid_of at w l₀)) 0 n
+  part-none = rw (put_same at w l₀) (putting-none l₀ at k n)
+
+  pub part-more : (ys : List ℕ) (i v : ℕ) → at ≤ length l₀ → i < length ys → i < k → Putting l₀ at k n (put_mid at w l₀ ys) i v
+      → Putting l₀ at k n (put_mid at w l₀ (set ys i (v % 256))) (i + 1) (v / 256)
+  part-more ys i v g h f p =
+      let z : at + i - at ≡ i = omega arith in
+      let e : set (put_mid at w l₀ ys) (at + i) (v % 256) ≡ put_mid at w l₀ (set ys i (v % 256)) =
+      set-append_right (take at l₀) (ys ++ post_of at w l₀) at (at + i) (v % 256) (length-take-le at l₀ g) (omega arith)
+      ∙ ap (λ (m : List ℕ). take at l₀ ++ m) (rw z (set-append_left ys (post_of at w l₀) i (v % 256) h))
+      in
+      rw e at (putting-more l₀ at k n (put_mid at w l₀ ys) i v f p)
 
 -- stores past the end change nothing
 sets-out : (vs l : List ℕ) (i : ℕ) → length l ≤ i → sets l i vs ≡ l

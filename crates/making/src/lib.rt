@@ -18,7 +18,7 @@ const MOST: usize = 1048576;
 fn room_of(rest: usize) -> usize
     ensures { result ≡ min rest most }
 {
-    if rest < MOST { rest } else { MOST }
+    rest.min(MOST)
 }
 
 // A slot count that a store may have.

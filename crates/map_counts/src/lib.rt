@@ -32,36 +32,30 @@ pub fn is_used(entries: &[u8], i: u32) -> bool
 
 // ---- outputs in use
 
+#[tactic(auto, unfolding(crate::specs::Counts::one_used))]
 fn one_used(entries: &[u8], i: u32) -> u64
     ensures { (result ≡ one_used entries.now i) × (result ≤ 1) }
 {
-    if is_used(entries, i) {
-        return 1;
-    }
-    0
+    u64::from(is_used(entries, i))
 }
 
 pub fn used(entries: &[u8]) -> u64
     ensures { result ≡ used_in entries.now }
 {
     let mut n: u64 = 0;
-    let mut i: u32 = 0;
-    while i < OUTPUTS {
+    for i in 0..OUTPUTS {
         n += one_used(entries, i);
-        i += 1;
     }
     n
 }
 
 // ---- a channel
 
+#[tactic(auto, unfolding(crate::specs::Counts::one_on))]
 fn one_on(entries: &[u8], key: &[u8], i: u32) -> u64
     ensures { (result ≡ one_on entries.now key.now i) × (result ≤ 1) }
 {
-    if same_bytes(key_at(entries, i), key) {
-        return 1;
-    }
-    0
+    u64::from(same_bytes(key_at(entries, i), key))
 }
 
 // How many of the first outputs have the key.
@@ -69,10 +63,8 @@ fn first_on(entries: &[u8], key: &[u8], first: u32) -> u64
     ensures { result ≡ outputs_on entries.now key.now first }
 {
     let mut n: u64 = 0;
-    let mut i: u32 = 0;
-    while i < first {
+    for i in 0..first {
         n += one_on(entries, key, i);
-        i += 1;
     }
     n
 }
@@ -84,13 +76,15 @@ pub fn outputs_on(entries: &[u8], key: &[u8]) -> u64
     first_on(entries, key, OUTPUTS)
 }
 
+#[tactic(auto, unfolding(crate::specs::Counts::share_on))]
 fn share_on(entries: &[u8], key: &[u8], i: u32) -> u64
     ensures { (result ≡ share_on entries.now key.now i) × (result ≤ 65535) }
 {
     if same_bytes(key_at(entries, i), key) {
-        return share_at(entries, i);
+        share_at(entries, i)
+    } else {
+        0
     }
-    0
 }
 
 // What their shares add up to.
@@ -98,10 +92,8 @@ pub fn shares_on(entries: &[u8], key: &[u8]) -> u64
     ensures { result ≡ shares_on entries.now key.now }
 {
     let mut sum: u64 = 0;
-    let mut i: u32 = 0;
-    while i < OUTPUTS {
+    for i in 0..OUTPUTS {
         sum += share_on(entries, key, i);
-        i += 1;
     }
     sum
 }
@@ -109,32 +101,26 @@ pub fn shares_on(entries: &[u8], key: &[u8]) -> u64
 // ---- channels
 
 // The output is in use, and the first of its channel.
+#[tactic(auto, unfolding(crate::specs::Counts::is_first))]
 pub fn is_first(entries: &[u8], i: u32) -> bool
     ensures { result ≡ is_first entries.now i }
 {
-    if !is_used(entries, i) {
-        return false;
-    }
-    first_on(entries, key_at(entries, i), i) == 0
+    is_used(entries, i) && first_on(entries, key_at(entries, i), i) == 0
 }
 
+#[tactic(auto, unfolding(crate::specs::Counts::one_first))]
 fn one_first(entries: &[u8], i: u32) -> u64
     ensures { (result ≡ one_first entries.now i) × (result ≤ 1) }
 {
-    if is_first(entries, i) {
-        return 1;
-    }
-    0
+    u64::from(is_first(entries, i))
 }
 
 pub fn channels(entries: &[u8]) -> u64
     ensures { result ≡ channels_in entries.now }
 {
     let mut n: u64 = 0;
-    let mut i: u32 = 0;
-    while i < OUTPUTS {
+    for i in 0..OUTPUTS {
         n += one_first(entries, i);
-        i += 1;
     }
     n
 }

@@ -1,13 +1,13 @@
 -- The ways out of the tests of a store. Assumes nothing.
 use Prim.Native.Nat.{ℕ, ◌≤◌, ◌<◌}
-use mathlib.Core.Path.{◌≡◌, refl, sym, ◌∙◌}
-use mathlib.Core.Bool.{Bool, true, false, not, ◌&&◌}
+use mathlib.Core.Path.{◌≡◌, refl}
+use mathlib.Core.Bool.{Bool, true, false, ◌&&◌}
 use mathlib.Core.List.{List}
 use lib.ListN.{length}
 use lib.Dec.{leb}
-use borrow.Author.Tests.{lt-leb, le-leb, leb-true, not-true, not-false}
+use borrow.Author.Tests.{lt-leb, le-leb, leb-true}
 use Rattle.ground.specs.Lists.{all}
-use Rattle.ground.proofs.Tests.{and-true, and-false, and-all}
+use Rattle.ground.proofs.Tests.{and-true}
 use Rattle.store.specs.Used.{none_past}
 use Rattle.store.specs.Head.{header_of}
 use Rattle.store.specs.Ranges.{starts, sizes, laid}
@@ -22,34 +22,19 @@ unfolding ranges_laid
 ranges-are m h eo en eb = rw (← eo, ← en) eb
 
 -- the conditions, with the days last
-in_order_lem : (m : List ℕ) (h : Header)
+pub in_order_lem : (m : List ℕ) (h : Header)
     → is_store_of m h ≡ (framed h (length m) && ranges_laid m h && all (holds_day m h) (used_slots h) && pairwise (other_key m h) (used_slots h))
 unfolding is_store_of framed
 in_order_lem m h = refl
 
-module _ (m : List ℕ) (h : Header) {a : Bool} (ea : a ≡ framed h (length m)) where
-  pub not-framed : not a ≡ true → false ≡ is_store_of m h
-  not-framed t = rw (in_order_lem m h, ← ea, not-true a t)
-
-  pub few-slots : not a ≡ false → h.slots ≤ 64
-  unfolding framed slotted
-  few-slots t =
-      let y = and-true (slotted h.slots && counted h && none_past h.map h.slots && in_order h (length m)) (used_fit h) (sym ea ∙ not-false a t) in
-      let x = and-true (slotted h.slots && counted h && none_past h.map h.slots) (in_order h (length m)) y.0 in
-      let w = and-true (slotted h.slots && counted h) (none_past h.map h.slots) x.0 in
-      let v = and-true (slotted h.slots) (counted h) w.0 in
-      leb-true h.slots 64 (and-true (leb 1 h.slots) (leb h.slots 64) v.0).1
-
-  module _ (ta : not a ≡ false) {b : Bool} (eb : b ≡ ranges_laid m h) where
-    pub not-laid : not b ≡ true → false ≡ is_store_of m h
-    not-laid t = rw (in_order_lem m h, ← ea, not-false a ta, ← eb, not-true b t)
-
-    module _ (tb : not b ≡ false) {c : Bool} (ec : c ≡ pairwise (other_key m h) (used_slots h)) where
-      pub not_own : not c ≡ true → false ≡ is_store_of m h
-      not_own t = rw (in_order_lem m h, ← ea, not-false a ta, ← eb, not-false b tb, ← ec, not-true c t, and-false (all (holds_day m h) (used_slots h)))
-
-      pub all_hold : not c ≡ false → {d : Bool} → d ≡ all (holds_day m h) (used_slots h) → d ≡ is_store_of m h
-      all_hold t {d} ed = rw (in_order_lem m h, ← ea, not-false a ta, ← eb, not-false b tb, ← ec, not-false c t, and-all (all (holds_day m h) (used_slots h))) ed
+pub few_slots : (h : Header) (n : ℕ) → framed h n ≡ true → h.slots ≤ 64
+unfolding framed slotted
+few_slots h n t =
+    let y = and-true (slotted h.slots && counted h && none_past h.map h.slots && in_order h n) (used_fit h) t in
+    let x = and-true (slotted h.slots && counted h && none_past h.map h.slots) (in_order h n) y.0 in
+    let w = and-true (slotted h.slots && counted h) (none_past h.map h.slots) x.0 in
+    let v = and-true (slotted h.slots) (counted h) w.0 in
+    leb-true h.slots 64 (and-true (leb 1 h.slots) (leb h.slots 64) v.0).1
 
 module _ (m : List ℕ) where
   pub too_few : length m < 32 → Not ≡ opened_of m

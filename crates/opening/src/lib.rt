@@ -39,19 +39,14 @@ fn are_ranges_laid(memory: &[u8], h: Header) -> bool
 }
 
 // The blocks are checked last: it is what takes long.
+#[tactic(auto, using(crate::proofs::Tests::in_order_lem, crate::proofs::Tests::few_slots))]
 fn is_store(memory: &[u8], h: Header) -> bool
     ensures { result ≡ is_store_of memory.now h }
 {
-    if !is_framed(h, memory.len()) {
-        return false;
-    }
-    if !are_ranges_laid(memory, h) {
-        return false;
-    }
-    if !all_own_keys(memory, h) {
-        return false;
-    }
-    all_hold_days(memory, h)
+    is_framed(h, memory.len())
+        && are_ranges_laid(memory, h)
+        && all_own_keys(memory, h)
+        && all_hold_days(memory, h)
 }
 
 pub fn open_store(memory: &[u8]) -> Opened

@@ -30,12 +30,10 @@ pub fn put_outputs(memory: &mut [u8], at: usize, keys: &[u8], shares: &[u16])
     requires { (1536 ≤ length keys.now) × (128 ≤ length shares.now) × (at + 1792 ≤ length memory.old) }
     ensures { memory.new ≡ sets memory.old at (output_bytes (kept_given keys.now shares.now)) }
 {
-    let mut i: usize = 0;
-    while i < OUTPUTS {
+    for i in 0..OUTPUTS {
         let a = 12 * i;
         let e = a + 12;
         put_output(memory, at + 14 * i, &keys[a..e], shares[i]);
-        i += 1;
     }
 }
 
@@ -44,12 +42,10 @@ pub fn fill_keys(entries: &[u8], keys: &mut [u8])
     requires { (length entries.now ≡ 1792) × (1536 ≤ length keys.old) }
     ensures { keys.new ≡ sets keys.old 0 (keys_of (outputs_in 128 entries.now)) }
 {
-    let mut i: usize = 0;
-    while i < OUTPUTS {
+    for i in 0..OUTPUTS {
         let a = 14 * i;
         let e = a + 12;
         put_bytes(keys, 12 * i, &entries[a..e]);
-        i += 1;
     }
 }
 
@@ -58,11 +54,9 @@ pub fn fill_shares(entries: &[u8], shares: &mut [u16])
     requires { (length entries.now ≡ 1792) × (128 ≤ length shares.old) }
     ensures { shares.new ≡ sets shares.old 0 (shares_of (outputs_in 128 entries.now)) }
 {
-    let mut i: usize = 0;
-    while i < OUTPUTS {
+    for i in 0..OUTPUTS {
         let a = 14 * i;
         let e = a + 14;
         shares[i] = share_in(&entries[a..e]);
-        i += 1;
     }
 }

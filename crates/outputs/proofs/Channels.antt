@@ -7,9 +7,11 @@ use native.Mathlib.Omega.{arith}
 use borrow.Author.Tests.{le-leb, lt-leb, leb-true, eq-eqb, ne_eqb}
 use lib.ListN.{length, take, drop, replicate, length-take, length-drop}
 use lib.Dec.{leb, eqb}
+use Rattle.std.specs.List.{list_all}
+use Rattle.std.specs.Char.{is_ascii_digit, is_ascii_uppercase}
 use Rattle.ground.specs.Lists.{all, same}
 use Rattle.ground.specs.Digits.{is_digit}
-use Rattle.ground.proofs.Tests.{and-true, and-false, and-all, refuted}
+use Rattle.ground.proofs.Tests.{and-true, refuted}
 use Rattle.ground.proofs.Cases.{split, both}
 use Rattle.ground.proofs.Same.{same-sound}
 use Rattle.format.specs.Bytes.{capital, is_capital, is_letter, is_alnum, are_all}
@@ -107,6 +109,23 @@ module _ (b : ℕ) where
           (λ k. rw (le-leb 97 b g, lt-leb b 122 k)))
           (λ g. rw (lt-leb 97 b g))
 
+pub kept_is : (b : ℕ) → kept_byte b ≡ is_ascii_digit b || is_ascii_uppercase b
+kept_is b =
+    split 48 b
+    (λ l.
+    split b 57
+    (λ h. sym (kept-digit b l h) ∙ rw (le-leb 48 b l, le-leb b 57 h))
+    (λ h.
+    split 65 b
+    (λ g. sym (kept-capital b g refl) ∙ rw (le-leb 48 b l, lt-leb b 57 h, le-leb 65 b g))
+    (λ g. sym (kept-between b h g) ∙ rw (le-leb 48 b l, lt-leb b 57 h, lt-leb 65 b g))))
+    (λ l. sym (kept_low b l) ∙ rw (lt-leb 48 b l, lt-leb 65 b (omega arith)))
+
+-- std's test of all that a chain yields
+pub all-each : {X : Type 0} (p : X → Bool) (xs : List X) → list_all p xs ≡ all p xs
+all-each p [] = refl
+all-each p (x ∷ xs) = ap (λ (b : Bool). p x && b) (all-each p xs)
+
 same-each : (s : List ℕ) → same (capitals s) s ≡ all (λ (b : ℕ). eqb (capital b) b) s
 unfolding same
 same-each [] = refl
@@ -147,24 +166,6 @@ pub kept-channel : (k : List ℕ) {r : Bool} → length k ≡ 12 → r ≡ all k
 kept-channel k n e = e ∙ kept-as k n
 
 -- ---- an entry
-
-module _ (g : Bool) (k : List ℕ) (s : ℕ) where
-  pub taken-high : 1000 < s → false ≡ taken_by g k s
-  unfolding taken_by
-  taken-high h = rw (lt-leb s 1000 h)
-
-  module _ (l : s ≤ 1000) where
-    pub taken-good : g ≡ true → true ≡ taken_by g k s
-    unfolding taken_by
-    taken-good t = rw (le-leb s 1000 l, t)
-
-    pub taken-share : g ≡ false → (s ≡ 0 → ⊥) → false ≡ taken_by g k s
-    unfolding taken_by
-    taken-share t n = rw (le-leb s 1000 l, t, ne_eqb s 0 n, and-false (is_empty k))
-
-    pub taken-empty : g ≡ false → s ≡ 0 → {r : Bool} → r ≡ is_empty k → r ≡ taken_by g k s
-    unfolding taken_by
-    taken-empty t z e = rw (le-leb s 1000 l, t, eq-eqb s 0 z, and-all (is_empty k)) e
 
 -- an empty key has no small letter
 empty-kept : (k : List ℕ) → is_empty k ≡ true → in_capitals k ≡ true

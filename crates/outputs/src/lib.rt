@@ -31,19 +31,11 @@ fn is_empty(key: &[u8]) -> bool
 }
 
 // An entry of whose key it is known whether it is a good one.
+#[tactic(auto, unfolding(crate::specs::Taken::taken_by))]
 fn is_taken(good: bool, key: &[u8], share: u16) -> bool
     ensures { result ≡ taken_by good key.now share }
 {
-    if HIGHEST < share {
-        return false;
-    }
-    if good {
-        return true;
-    }
-    if share != 0 {
-        return false;
-    }
-    is_empty(key)
+    share <= HIGHEST && (good || share == 0 && is_empty(key))
 }
 
 fn is_fit(key: &[u8], share: u16) -> bool
@@ -57,63 +49,35 @@ pub fn are_fit(keys: &[u8], shares: &[u16]) -> bool
     requires { (1536 ≤ length keys.now) × (128 ≤ length shares.now) }
     ensures { result ≡ all fit_output (outputs_given 128 keys.now shares.now) }
 {
-    let mut i: usize = 0;
-    while i < OUTPUTS {
+    for i in 0..OUTPUTS {
         let a = 12 * i;
         let e = a + 12;
         if !is_fit(&keys[a..e], shares[i]) {
             return false;
         }
-        i += 1;
     }
     true
 }
 
 // A digit or a capital letter.
+#[tactic(auto, using(crate::proofs::Channels::kept_is))]
 fn is_kept_byte(b: u8) -> bool
     ensures { result ≡ kept_byte b }
 {
-    if b < 48 {
-        return false;
-    }
-    if b <= 57 {
-        return true;
-    }
-    if b < 65 {
-        return false;
-    }
-    b <= 90
+    b.is_ascii_digit() || b.is_ascii_uppercase()
 }
 
 fn are_kept_bytes(key: &[u8]) -> bool
     ensures { result ≡ all kept_byte key.now }
 {
-    let n = key.len();
-    let mut i: usize = 0;
-    while i < n {
-        if is_kept_byte(key[i]) {
-            i += 1;
-        } else {
-            return false;
-        }
-    }
-    true
+    key.iter().all(|b| is_kept_byte(*b))
 }
 
 // One look at each byte: a map is read whole at every call.
 fn is_kept_channel(key: &[u8]) -> bool
     ensures { result ≡ is_channel key.now && in_capitals key.now }
 {
-    if key.len() != 12 {
-        return false;
-    }
-    are_kept_bytes(key)
-}
-
-fn wide(b: u8) -> u16
-    ensures { (result ≡ b) × (result < 256) }
-{
-    b as u16
+    key.len() == 12 && are_kept_bytes(key)
 }
 
 // The share in an entry's bytes.
@@ -121,7 +85,7 @@ pub fn share_in(entry: &[u8]) -> u16
     requires { length entry.now ≡ 14 }
     ensures { result ≡ number_at entry.now 12 2 }
 {
-    wide(entry[12]) + 256 * wide(entry[13])
+    u16::from_le_bytes([entry[12], entry[13]])
 }
 
 fn is_kept(entry: &[u8]) -> bool
@@ -137,14 +101,12 @@ pub fn are_kept(entries: &[u8]) -> bool
     requires { length entries.now ≡ 1792 }
     ensures { result ≡ all is_kept (outputs_in 128 entries.now) }
 {
-    let mut i: usize = 0;
-    while i < OUTPUTS {
+    for i in 0..OUTPUTS {
         let a = 14 * i;
         let e = a + 14;
         if !is_kept(&entries[a..e]) {
             return false;
         }
-        i += 1;
     }
     true
 }

@@ -5,9 +5,9 @@ use mathlib.Core.Bool.{Bool, true, false, cond, not, ◌&&◌}
 use mathlib.Core.List.{List}
 use native.Mathlib.Omega.{arith}
 use lib.ListN.{length, get_or}
-use borrow.Author.Tests.{eq-eqb, ne_eqb, not-true, not-false}
+use borrow.Author.Tests.{ne_eqb}
 use Rattle.ground.specs.Lists.{all, same}
-use Rattle.ground.proofs.Tests.{and-false, and-all}
+use Rattle.ground.proofs.Tests.{and-false}
 use Rattle.ground.proofs.Cases.{by, same_or}
 use Rattle.ground.proofs.From.{length_from, from-here}
 use Rattle.entries.specs.Little.{piece, number_at}
@@ -28,15 +28,6 @@ module _ (m : List ℕ) (h : Header) (i j : ℕ) {a b : ℕ} (ea : a ≡ slot_pl
   pub other-date : (d ≡ t → ⊥) → true ≡ other_key m h i j
   unfolding other_key same_key key_at
   other-date g = rw (← ea, ← eb, ← ed, ← et, ne_eqb d t g, and-false (same (piece m a 10) (piece m b 10) && same (piece m (a + 10) 2) (piece m (b + 10) 2)))
-
-  module _ (g : d ≡ t) {n : Bool} (en : n ≡ same (piece m a 10) (piece m b 10)) where
-    pub other-nmi : not n ≡ true → true ≡ other_key m h i j
-    unfolding other_key same_key key_at
-    other-nmi q = rw (← ea, ← eb, ← en, not-true n q)
-
-    pub other-suffix : not n ≡ false → {s : Bool} → s ≡ same (piece m (a + 10) 2) (piece m (b + 10) 2) → not s ≡ other_key m h i j
-    unfolding other_key same_key key_at
-    other-suffix q {s} es = rw (← ea, ← eb, ← en, not-false n q, ← ed, ← et, eq-eqb d t g, and-all (same (piece m (a + 10) 2) (piece m (b + 10) 2)), ← es)
 
 -- ---- with the dates of the slots at hand
 
@@ -97,6 +88,3 @@ module _ (m : List ℕ) (h : Header) {l : List ℕ} (w : Dated m h l) (i : ℕ) 
 
   pub passed-next : (j k : ℕ) {b : Bool} → j < h.slots → b ≡ cond (used h.map j) (other_key m h i j) true → not b ≡ false → Passed l i (j + 1) h.slots k → Walks j → Walks k
   passed-next j k g e t p r = passed-walked (j + 1) k p (each_more (other_key m h i) h.map h.slots from j g e t r)
-
-pub used-so : (map i : ℕ) {b : Bool} → b ≡ used map i → not b ≡ false → used map i ≡ true
-used-so map i {b} e t = sym e ∙ not-false b t

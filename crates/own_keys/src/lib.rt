@@ -23,27 +23,21 @@ fn same_pieces(memory: &[u8], a: usize, b: usize, k: usize) -> bool
 }
 
 // Slots i and j have different keys.
+#[tactic(auto, unfolding(store::specs::Store::other_key, entries::specs::Keys::same_key, entries::specs::Entries::key_at))]
 fn have_other_keys(memory: &[u8], h: Header, i: u32, j: u32) -> bool
     ensures { result ≡ other_key memory.now h i j }
 {
     let a = place(h, i);
     let b = place(h, j);
-    if u32_at(memory, a + 12) != u32_at(memory, b + 12) {
-        return true;
-    }
-    if !same_pieces(memory, a, b, 10) {
-        return true;
-    }
-    !same_pieces(memory, a + 10, b + 10, 2)
+    u32_at(memory, a + 12) != u32_at(memory, b + 12)
+        || !same_pieces(memory, a, b, 10)
+        || !same_pieces(memory, a + 10, b + 10, 2)
 }
 
 fn is_free_or_other(memory: &[u8], h: Header, i: u32, j: u32) -> bool
     ensures { result ≡ cond (used h.map j) (other_key memory.now h i j) true }
 {
-    if !is_used(h.map, j) {
-        return true;
-    }
-    have_other_keys(memory, h, i, j)
+    !is_used(h.map, j) || have_other_keys(memory, h, i, j)
 }
 
 // The first slot from slot `from` on that has slot i's date, or the number of slots where none has. A loop of its own, since it is what each two slots cost.
@@ -52,14 +46,12 @@ fn next_of_date(dates: &[u32], n: u32, i: u32, from: u32) -> u32
     ensures { Passed dates.now i from n result }
 {
     let date = dates[i as usize];
-    let mut j = from;
-    while j < n {
+    for j in from..n {
         if dates[j as usize] == date {
             return j;
         }
-        j += 1;
     }
-    j
+    n
 }
 
 // The used slot i has another key than each used one from slot `from` on. Slots of other dates have other keys.
@@ -82,23 +74,17 @@ fn is_free_or_own(memory: &[u8], h: Header, dates: &[u32], i: u32) -> bool
     requires { Dated memory.now h dates.now × (i < h.slots) }
     ensures { result ≡ cond (used h.map i) (all (other_key memory.now h i) (used_behind h.map h.slots (i + 1))) true }
 {
-    if !is_used(h.map, i) {
-        return true;
-    }
-    is_other_behind(memory, h, dates, i, i + 1)
+    !is_used(h.map, i) || is_other_behind(memory, h, dates, i, i + 1)
 }
 
 fn are_all_own(memory: &[u8], h: Header, dates: &[u32]) -> bool
     requires { Dated memory.now h dates.now }
     ensures { result ≡ pairwise (other_key memory.now h) (used_slots h) }
 {
-    let n = h.slots;
-    let mut i: u32 = 0;
-    while i < n {
+    for i in 0..h.slots {
         if !is_free_or_own(memory, h, dates, i) {
             return false;
         }
-        i += 1;
     }
     true
 }

@@ -8,32 +8,13 @@ use lib.ListN.{length, get_or}
 use mir.Val.{Fits}
 use mir.Syntax.{w32}
 use lib.Dec.{leb, ltb, eqb}
-use borrow.Author.Tests.{leb-true, ltb-true, eqb-true, le-leb, lt-leb, lt-ltb, le-ltb}
+use borrow.Author.Tests.{leb-true, ltb-true, eqb-true, le-leb, lt-ltb}
 use borrow.Author.Count.{below_more}
 use Rattle.ground.proofs.Tests.{and-true}
 use Rattle.ground.proofs.Cases.{split}
 use Rattle.packing.specs.Steps.{Next}
 
 -- ---- one range
-
-pub near-empty : (n o p least : ℕ) → n ≡ 0 → false ≡ (ltb 0 n && leb p o && ltb o least)
-near-empty n o p least e = rw (le-ltb 0 n (omega arith))
-
-pub near_before : (n o p least : ℕ) → (n ≡ 0 → ⊥) → o < p → false ≡ (ltb 0 n && leb p o && ltb o least)
-near_before n o p least e h = let g : 0 < n = omega arith in rw (lt-ltb 0 n g, lt-leb p o h)
-
-pub near-is : (n o p least : ℕ) → (n ≡ 0 → ⊥) → p ≤ o → ltb o least ≡ (ltb 0 n && leb p o && ltb o least)
-near-is n o p least e h = let g : 0 < n = omega arith in rw (lt-ltb 0 n g, le-leb p o h)
-
-pub ruleset nears = (near-empty, near_before, near-is)
-
-pub at-empty : (n o p : ℕ) → n ≡ 0 → false ≡ (ltb 0 n && eqb o p)
-at-empty n o p e = rw (le-ltb 0 n (omega arith))
-
-pub at-is : (n o p : ℕ) → (n ≡ 0 → ⊥) → eqb o p ≡ (ltb 0 n && eqb o p)
-at-is n o p e = let g : 0 < n = omega arith in rw (lt-ltb 0 n g)
-
-pub ruleset ats = (at-empty, at-is)
 
 -- block i lies at p itself: none is nearer
 pub next-at : (os ns : List ℕ) (p i : ℕ) {b : Bool} → i < length os → b ≡ (ltb 0 (get_or ns i 0) && eqb (get_or os i 0) p) → b ≡ true → Next os ns p i

@@ -19,14 +19,8 @@ fn wide(x: u32) -> usize
 fn nearer(n: u32, o: u32, p: usize, least: usize) -> bool
     ensures { result ≡ (ltb 0 n && leb p o && ltb o least) }
 {
-    if n == 0 {
-        return false;
-    }
     let x = o as usize;
-    if x < p {
-        return false;
-    }
-    x < least
+    0 < n && p <= x && x < least
 }
 
 // The block at p or behind it whose place is least; the number of ranges if there is none.
@@ -36,13 +30,10 @@ fn next_block(places: &[u32], lengths: &[u32], p: usize) -> usize
 {
     let mut best = places.len();
     let mut least: usize = 4294967296;
-    let mut i: usize = 0;
-    while i < places.len() {
-        let k = i;
-        i += 1;
-        if nearer(lengths[k], places[k], p, least) {
-            best = k;
-            least = wide(places[k]);
+    for (i, o) in places.iter().enumerate() {
+        if nearer(lengths[i], *o, p, least) {
+            best = i;
+            least = wide(*o);
         }
     }
     best
@@ -52,10 +43,7 @@ fn next_block(places: &[u32], lengths: &[u32], p: usize) -> usize
 fn is_at(n: u32, o: u32, p: usize) -> bool
     ensures { result ≡ (ltb 0 n && eqb o p) }
 {
-    if n == 0 {
-        return false;
-    }
-    o as usize == p
+    0 < n && o as usize == p
 }
 
 // What `next_block` answers. Where range i is a block at p no other is looked at: behind the last block that moved it is the next range's, as long as blocks lie side by
@@ -64,12 +52,11 @@ fn next_from(places: &[u32], lengths: &[u32], p: usize, i: usize) -> usize
     requires { length places.now ≡ length lengths.now }
     ensures { Next places.now lengths.now p result }
 {
-    if i < places.len() {
-        if is_at(lengths[i], places[i], p) {
-            return i;
-        }
+    if i < places.len() && is_at(lengths[i], places[i], p) {
+        i
+    } else {
+        next_block(places, lengths, p)
     }
-    next_block(places, lengths, p)
 }
 
 // Moves the blocks down, in the order in which they lie, and writes their new places; how many bytes they have.

@@ -7,29 +7,22 @@ ghost use Rattle.ground.specs.Lists.{sum as Lists·sum};
 ghost use Rattle.store.specs.Ranges.{inside as Ranges·inside, apart as Ranges·apart, clear as Ranges·clear, laid as Ranges·laid};
 
 // The sum of two numbers of 32 bits fits 64.
+#[tactic(auto, unfolding(store::specs::Ranges::inside))]
 fn inside(m: usize, o: u32, n: u32) -> bool
     ensures { result ≡ Ranges·inside m o n }
 {
-    if n == 0 {
-        return true;
-    }
-    o as usize + n as usize <= m
+    n == 0 || o as usize + n as usize <= m
 }
 
 // Most often one lies before the other, so that is asked first.
+#[tactic(auto, unfolding(store::specs::Ranges::apart))]
 fn apart(o: u32, n: u32, p: u32, k: u32) -> bool
     ensures { result ≡ Ranges·apart o n p k }
 {
-    if o as u64 + n as u64 <= p as u64 {
-        return true;
-    }
-    if p as u64 + k as u64 <= o as u64 {
-        return true;
-    }
-    if n == 0 {
-        return true;
-    }
-    k == 0
+    u64::from(o) + u64::from(n) <= u64::from(p)
+        || u64::from(p) + u64::from(k) <= u64::from(o)
+        || n == 0
+        || k == 0
 }
 
 // Range i has no byte in common with those behind it.
@@ -39,14 +32,10 @@ fn clear(places: &[u32], lengths: &[u32], i: usize) -> bool
 {
     let o = places[i];
     let n = lengths[i];
-    let mut j = i + 1;
-    while j < places.len() {
-        if !apart(o, n, places[j], lengths[j]) {
-            return false;
-        }
-        j += 1;
-    }
-    true
+    places[i + 1..]
+        .iter()
+        .zip(&lengths[i + 1..])
+        .all(|(p, k)| apart(o, n, *p, *k))
 }
 
 // Each range lies in the first m bytes, and no two have a byte in common.
@@ -56,23 +45,12 @@ pub fn laid(m: usize, places: &[u32], lengths: &[u32]) -> bool
     if places.len() != lengths.len() {
         return false;
     }
-    let mut i: usize = 0;
-    while i < places.len() {
-        if !inside(m, places[i], lengths[i]) {
+    for (i, o) in places.iter().enumerate() {
+        if !inside(m, *o, lengths[i]) || !clear(places, lengths, i) {
             return false;
         }
-        if !clear(places, lengths, i) {
-            return false;
-        }
-        i += 1;
     }
     true
-}
-
-fn wide(x: u32) -> usize
-    ensures { result ≡ x }
-{
-    x as usize
 }
 
 // How many bytes the ranges have, which lie apart.
@@ -80,11 +58,5 @@ pub fn sum(lengths: &[u32]) -> usize
     requires { length lengths.now ≤ 64 }
     ensures { result ≡ Lists·sum lengths.now }
 {
-    let mut s: usize = 0;
-    let mut i: usize = 0;
-    while i < lengths.len() {
-        s += wide(lengths[i]);
-        i += 1;
-    }
-    s
+    lengths.iter().map(|n| *n as usize).sum()
 }

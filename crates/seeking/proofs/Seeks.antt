@@ -1,31 +1,16 @@
 -- The slot of a key as it is looked for, slot by slot. Assumes nothing.
 use Prim.Native.Nat.{ℕ, suc, ◌+◌, ◌-◌, ◌≤◌, ◌<◌}
 use mathlib.Core.Path.{◌≡◌, sym, ◌∙◌}
-use mathlib.Core.Bool.{Bool, true, false, not, ◌&&◌}
+use mathlib.Core.Bool.{Bool, true, false, ◌&&◌}
 use mathlib.Core.List.{List}
 use native.Mathlib.Nat.{sub-zero}
 use native.Mathlib.Numerals.{add-one}
 use native.Mathlib.Omega.{arith}
-use borrow.Author.Tests.{not-true, not-false}
-use Rattle.entries.specs.Little.{piece, number_at}
-use Rattle.entries.specs.Keys.{Key, key, capital_key, same_key}
-use Rattle.entries.specs.Entries.{key_at}
+use Rattle.entries.specs.Keys.{Key, capital_key, same_key}
 use Rattle.store.specs.Used.{used}
-use Rattle.store.specs.Ranges.{slot_place}
 use Rattle.store.specs.Store.{slot_key}
 use Rattle.store.specs.Calls.{seek_from, seek}
 use Rattle.store.specs.declared.Header.{Header}
-
--- ---- one slot
-
-module _ (m : List ℕ) (h : Header) (i : ℕ) (x : Key) {u : Bool} (eu : u ≡ used h.map i) where
-  pub not-used : not u ≡ true → false ≡ used h.map i && same_key (capital_key x) (slot_key m h i)
-  not-used t = rw (← eu, not-true u t)
-
-  pub key-held : not u ≡ false → {a d : ℕ} {n s : List ℕ} {b : Bool} → a ≡ slot_place h i → d ≡ number_at m (a + 12) 4 → n ≡ piece m a 10 → s ≡ piece m (a + 10) 2
-      → b ≡ same_key (capital_key x) (key n s d) → b ≡ used h.map i && same_key (capital_key x) (slot_key m h i)
-  unfolding key_at
-  key-held t ea ed en es eb = rw (← eu, not-false u t, ← ea, ← ed, ← en, ← es) eb
 
 -- ---- the walk
 

@@ -14,35 +14,30 @@ use store::Header;
 use used_map::is_used;
 
 // Slot i is used and has the key.
+#[tactic(auto, unfolding(entries::specs::Entries::key_at))]
 fn has_key(memory: &[u8], h: Header, i: u32, nmi: &[u8], suffix: &[u8], date: u32) -> bool
     ensures { result ≡ (used h.map i && same_key (capital_key (key nmi.now suffix.now date)) (slot_key memory.now h i)) }
 {
-    if !is_used(h.map, i) {
-        return false;
-    }
     let at = place(h, i);
-    let kept = u32_at(memory, at + 12);
-    is_key(
-        nmi,
-        suffix,
-        date,
-        piece_at(memory, at, 10),
-        piece_at(memory, at + 10, 2),
-        kept,
-    )
+    is_used(h.map, i)
+        && is_key(
+            nmi,
+            suffix,
+            date,
+            piece_at(memory, at, 10),
+            piece_at(memory, at + 10, 2),
+            u32_at(memory, at + 12),
+        )
 }
 
 // The used slot that has the key, or the number of slots where none has.
 pub fn find_slot(memory: &[u8], h: Header, nmi: &[u8], suffix: &[u8], date: u32) -> u32
     ensures { result ≡ seek memory.now h (key nmi.now suffix.now date) }
 {
-    let n = h.slots;
-    let mut i: u32 = 0;
-    while i < n {
+    for i in 0..h.slots {
         if has_key(memory, h, i, nmi, suffix, date) {
             return i;
         }
-        i += 1;
     }
-    n
+    h.slots
 }

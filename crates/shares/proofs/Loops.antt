@@ -2,14 +2,14 @@
 use Prim.Native.Nat.{ℕ, zero, suc, ◌+◌, ◌-◌, ◌*◌, ◌/◌, ◌%◌, ◌≤◌, ◌<◌}
 use mathlib.Core.Path.{◌≡◌, refl, sym, ap, ◌∙◌}
 use mathlib.Core.List.{List, [], ◌∷◌, map, append-nil}
-use mathlib.Core.Bool.{Bool, true, false}
+use mathlib.Core.Bool.{Bool, true}
 use native.Mathlib.Nat.{mul-le-mul, div-le_self, add-zero, sub-zero}
 use native.Mathlib.Numerals.{add-one}
 use native.Mathlib.Omega.{arith}
 use lib.ListN.{length, get_or, take, drop, set, length-set, length-map, drop_of_length-le}
 use lib.Seq.{sets}
 use lib.Dec.{eqb, ltb, leb}
-use borrow.Author.Tests.{leb-true, lt-ltb, le-ltb, le-leb, lt-leb}
+use borrow.Author.Tests.{leb-true, lt-ltb, le-ltb}
 use Rattle.ground.specs.Lists.{all, sum, from}
 use Rattle.ground.proofs.Tests.{and-true}
 use Rattle.ground.proofs.Lists.{rest, to_end}
@@ -32,31 +32,6 @@ product-fits {t} {s} {ws} i r = mul-le-mul r.total (light-at ws i r.weights.ligh
 
 pub part-fits : {t s : ℕ} {ws : List ℕ} (i : ℕ) → Ready t s ws → t * get_or ws i 0 / s ≤ 2880000000000000000
 part-fits {t} {s} {ws} i r = omega (arith, div-le_self (t * get_or ws i 0) s, product-fits i r)
-
--- ---- a count
-
-pub record Counted (p : ℕ → Bool) (rs : List ℕ) (k i : ℕ) : Type 0 where
-  pub within : i ≤ length rs
-  pub most : k ≤ i
-  pub left : k + count p (drop i rs) ≡ count p rs
-
-module _ (p : ℕ → Bool) (rs : List ℕ) where
-  pub counted_none : Counted p rs 0 0
-  counted_none = record { within = omega arith; most = omega arith; left = omega arith }
-
-  pub counted-yes : (k i : ℕ) {j : ℕ} → i < length rs → p (get_or rs i 0) ≡ true → j ≡ k + 1 → Counted p rs k i → Counted p rs j (i + 1)
-  unfolding count
-  counted-yes k i h e q r = record { within = omega arith; most = omega (arith, r.most); left = omega (arith, rw (rest rs i h, e) at r.left) }
-
-  pub counted-no : (k i : ℕ) {j : ℕ} → i < length rs → p (get_or rs i 0) ≡ false → j ≡ k → Counted p rs k i → Counted p rs j (i + 1)
-  unfolding count
-  counted-no k i h e q r = record { within = omega arith; most = omega (arith, r.most); left = omega (arith, rw (rest rs i h, e) at r.left) }
-
-  pub counted-all : (k i : ℕ) → length rs ≤ i → Counted p rs k i → k ≡ count p rs
-  unfolding count
-  counted-all k i h r = omega (arith, rw (drop_of_length-le rs h) at r.left)
-
-pub ruleset counting = (counted_none, counted-yes, counted-no, counted-all, lt-ltb, le-ltb, le-leb, lt-leb)
 
 -- ---- the remainders, and what remains
 

@@ -11,16 +11,7 @@ fn larger(rs: &[u64], x: u64) -> usize
     ensures is { result ≡ count (ltb x) rs.now }
     ensures most { result ≤ length rs.now }
 {
-    let n = rs.len();
-    let mut k: usize = 0;
-    let mut i: usize = 0;
-    while i < n {
-        if x < rs[i] {
-            k += 1;
-        }
-        i += 1;
-    }
-    k
+    rs.iter().filter(|r| x < **r).count()
 }
 
 // How many are x or larger.
@@ -28,16 +19,7 @@ fn as_large(rs: &[u64], x: u64) -> usize
     ensures is { result ≡ count (leb x) rs.now }
     ensures most { result ≤ length rs.now }
 {
-    let n = rs.len();
-    let mut k: usize = 0;
-    let mut i: usize = 0;
-    while i < n {
-        if x <= rs[i] {
-            k += 1;
-        }
-        i += 1;
-    }
-    k
+    rs.iter().filter(|r| x <= **r).count()
 }
 
 // How many come before place i: of the lower ones those that are equal too, so that each of the others is looked at once.
@@ -57,14 +39,11 @@ fn put_remainders(total: u64, divisor: u64, ws: &[u64], rs: &mut [u64]) -> u64
     ensures left { result ≡ leftover total ws.now }
     ensures rests { rs.new ≡ remainders total ws.now }
 {
-    let n = ws.len();
     let mut left = total;
-    let mut i: usize = 0;
-    while i < n {
-        let x = total * ws[i];
+    for (i, w) in ws.iter().enumerate() {
+        let x = total * *w;
         rs[i] = x % divisor;
         left -= x / divisor;
-        i += 1;
     }
     left
 }
@@ -90,11 +69,8 @@ fn put_parts(total: u64, divisor: u64, left: u64, ws: &[u64], rs: &[u64], parts:
     requires { Rounded total divisor left ws.now rs.now × (length ws.now ≤ length parts.old) }
     ensures { parts.new ≡ sets parts.old 0 (parts_of total ws.now) }
 {
-    let n = ws.len();
-    let mut i: usize = 0;
-    while i < n {
+    for i in 0..ws.len() {
         parts[i] = part_at(total, divisor, left, ws, rs, i);
-        i += 1;
     }
 }
 

@@ -17,9 +17,6 @@ use little::{put_number, u8_at, u32_at, u64_at};
 use store::Header;
 use used_map::is_used;
 
-// How many slots a used map has a bit for.
-const SLOTS: u32 = 64;
-
 // Where an entry has its date, the offset of its block, and its length.
 const DATE: usize = 12;
 
@@ -109,9 +106,10 @@ fn field(m: &[u8], h: Header, map: u64, k: usize, i: u32) -> u32
     ensures { result ≡ field_of m.now h map k i }
 {
     if is_used(map, i) {
-        return u32_at(m, place(h, i) + k);
+        u32_at(m, place(h, i) + k)
+    } else {
+        0
     }
-    0
 }
 
 // And of each of the 64 slots.
@@ -119,10 +117,8 @@ fn read_fields(m: &[u8], h: Header, map: u64, k: usize, out: &mut [u32])
     requires { (k < 26) × (length out.old ≡ 64) }
     ensures { out.new ≡ from (field_of m.now h map k) 0 64 }
 {
-    let mut i: u32 = 0;
-    while i < SLOTS {
-        out[i as usize] = field(m, h, map, k, i);
-        i += 1;
+    for (i, x) in out.iter_mut().enumerate() {
+        *x = field(m, h, map, k, i as u32);
     }
 }
 
@@ -164,9 +160,7 @@ pub fn put_offsets(m: &mut [u8], h: Header, map: u64, values: &[u32])
     requires { length values.now ≤ 64 }
     ensures { m.new ≡ offsets_put h map 0 values.now m.old }
 {
-    let mut i: usize = 0;
-    while i < values.len() {
-        put_offset(m, h, map, i as u32, values[i]);
-        i += 1;
+    for (i, v) in values.iter().enumerate() {
+        put_offset(m, h, map, i as u32, *v);
     }
 }

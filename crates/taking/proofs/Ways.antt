@@ -1,7 +1,7 @@
 -- The ways out of each test. Assumes nothing.
-use Prim.Native.Nat.{ℕ, ◌-◌, ◌≤◌, ◌<◌}
+use Prim.Native.Nat.{ℕ, ◌≤◌, ◌<◌}
 use mathlib.Core.Path.{◌≡◌}
-use mathlib.Core.Bool.{false, cond, ◌&&◌}
+use mathlib.Core.Bool.{cond, ◌&&◌}
 use mathlib.Core.List.{List}
 use lib.Dec.{leb, ltb}
 use borrow.Author.Tests.{le-ltb, lt-ltb}
@@ -12,9 +12,6 @@ use Rattle.store.specs.Ranges.{slot_place}
 use Rattle.store.specs.Store.{block_says}
 use Rattle.store.specs.Calls.{update_said, update_of}
 use Rattle.store.specs.declared.Header.{Header}
-
-pub not-kept : (m : List ℕ) (h : Header) (i update : ℕ) → h.slots ≤ i → false ≡ ltb i h.slots && leb update (update_of m h i)
-not-kept m h i update l = rw (le-ltb i h.slots l)
 
 pub kept-since : (m : List ℕ) (h : Header) (i update : ℕ) → i < h.slots → {a u : ℕ} {e : Entry} → a ≡ slot_place h i → e ≡ entry_at m a → u ≡ update_said (block_says m h e)
     → leb update u ≡ ltb i h.slots && leb update (update_of m h i)

@@ -14,11 +14,7 @@ use used_map::lowest_free;
 pub fn is_kept_since(memory: &[u8], h: Header, i: u32, update: u64) -> bool
     ensures { result ≡ (ltb i h.slots && leb update (update_of memory.now h i)) }
 {
-    if h.slots <= i {
-        return false;
-    }
-    let e = read_entry(memory, place(h, i));
-    update <= update_of(memory, h, e)
+    i < h.slots && update <= update_of(memory, h, read_entry(memory, place(h, i)))
 }
 
 // The key's slot i, or the lowest free one.
@@ -26,7 +22,8 @@ pub fn slot_for(h: Header, i: u32) -> u32
     ensures { result ≡ cond (ltb i h.slots) i (free_from h.map 0 h.slots) }
 {
     if i < h.slots {
-        return i;
+        i
+    } else {
+        lowest_free(h.map, h.slots)
     }
-    lowest_free(h.map, h.slots)
 }

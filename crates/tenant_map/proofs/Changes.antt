@@ -31,12 +31,6 @@ make-done m h e = rw (le-leb 57476 (length m) h, e)
 
 -- ---- lists that are handed in
 
-pub enough-not : (keys shares : ℕ) → keys < 1536 → false ≡ leb 1536 keys && leb 128 shares
-enough-not keys shares h = rw (lt-leb 1536 keys h)
-
-pub enough-is : (keys shares : ℕ) → 1536 ≤ keys → leb 128 shares ≡ leb 1536 keys && leb 128 shares
-enough-is keys shares h = rw (le-leb 1536 keys h)
-
 pub keys-enough : (keys shares : ℕ) {b : Bool} → b ≡ leb 1536 keys && leb 128 shares → not b ≡ false → 1536 ≤ keys
 keys-enough keys shares {b} e t = leb-true 1536 keys (and-true (leb 1536 keys) (leb 128 shares) (sym e ∙ not-false b t)).0
 

@@ -36,10 +36,7 @@ pub fn make_map(memory: &mut [u8]) -> Versioned
 fn are_enough(keys: usize, shares: usize) -> bool
     ensures { result ≡ leb 1536 keys && leb 128 shares }
 {
-    if keys < KEY_BYTES {
-        return false;
-    }
-    SHARES <= shares
+    KEY_BYTES <= keys && SHARES <= shares
 }
 
 // Adds a version of 128 entries that holds from a date on, and answers its number. 21 if the memory is no map; 15 for fewer than 1,536 key bytes or 128 shares; 25

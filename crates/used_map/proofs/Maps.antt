@@ -4,8 +4,8 @@ use mathlib.Core.Path.{◌≡◌, sym, ap, ◌∙◌}
 use mathlib.Core.Bool.{true}
 use native.Mathlib.Nat.{lt_of_lt_of_le}
 use native.Mathlib.Omega.{arith}
-use lib.Dec.{eqb, lit<}
-use lib.Pow.{pow_mono, shl_exact, pow-lt}
+use lib.Dec.{eqb}
+use lib.Pow.{pow_mono, pow-lt}
 use lib.Bits.{bit_and, bit_or, and_mask, or_add_and}
 use Rattle.ground.proofs.Cases.{by}
 use Rattle.store.specs.Used.{used, taken, freed, none_past}
@@ -15,9 +15,6 @@ use Rattle.used_map.proofs.Slots.{used-past, used-bit, free-bit, freed-free, bel
 -- a number of 64 bits has no bit past them
 pub past : (m s : ℕ) → m < 2 ^ 64 → 64 ≤ s → m < 2 ^ s
 past m s h g = lt_of_lt_of_le h (pow_mono g)
-
-pub bit_is : (s : ℕ) → s < 64 → (1 * 2 ^ s) % 2 ^ 64 ≡ 2 ^ s
-bit_is s h = shl_exact {a = 1} 1 s 64 (lit< tt) (omega arith) ∙ omega arith
 
 -- the bit under the mask 1
 pub tested : (m s : ℕ) → eqb (bit_and (m / 2 ^ s) 1) 1 ≡ used m s

@@ -11,10 +11,7 @@ const SLOTS: u32 = 64;
 pub fn is_used(map: u64, s: u32) -> bool
     ensures { result ≡ used map s }
 {
-    if SLOTS <= s {
-        return false;
-    }
-    ((map >> s) & 1) == 1
+    s < SLOTS && (map >> s) & 1 == 1
 }
 
 // The bit of slot s.
@@ -37,33 +34,26 @@ pub fn set_used(map: u64, s: u32) -> u64
 pub fn set_free(map: u64, s: u32) -> u64
     ensures { result ≡ freed map s }
 {
-    if SLOTS <= s {
-        return map;
-    }
-    map & !bit(s)
+    if s < SLOTS { map & !bit(s) } else { map }
 }
 
 // How many slots are in use.
 pub fn count(map: u64) -> u32
     ensures { result ≡ held map }
 {
-    u64::count_ones(map)
+    map.count_ones()
 }
 
 // The lowest free slot, `slots` where each below it is in use.
 pub fn lowest_free(map: u64, slots: u32) -> u32
     ensures { result ≡ free_from map 0 slots }
 {
-    let s = u64::trailing_zeros(!map);
-    if s < slots { s } else { slots }
+    (!map).trailing_zeros().min(slots)
 }
 
 // Whether no bit is set at `slots` or past it.
 pub fn none_past(map: u64, slots: u32) -> bool
     ensures { result ≡ none_past map slots }
 {
-    if SLOTS <= slots {
-        return true;
-    }
-    map >> slots == 0
+    SLOTS <= slots || map >> slots == 0
 }

@@ -1,15 +1,14 @@
 -- The version that answers a date, and the last one. Assumes nothing.
 use Prim.Native.Nat.{ℕ, zero, suc, ◌-◌, ◌≤◌, ◌<◌}
 use mathlib.Core.Path.{◌≡◌, sym, ap, ◌∙◌}
-use mathlib.Core.Bool.{Bool, true, false, cond, not}
+use mathlib.Core.Bool.{cond}
 use mathlib.Core.List.{List}
 use native.Mathlib.Omega.{arith}
-use borrow.Author.Tests.{lt-leb, le-leb, not-true, not-false}
+use borrow.Author.Tests.{lt-leb, le-leb}
 use lib.ListN.{length, get_or}
 use lib.Dec.{leb}
 use Rattle.ground.specs.Lists.{from}
-use Rattle.format.specs.Dates.{is_date}
-use Rattle.tenants.specs.Versions.{Version, none, version_at, count_in, versions_in, latest, highest, version_on}
+use Rattle.tenants.specs.Versions.{Version, none, version_at, count_in, versions_in, latest, highest}
 use Rattle.versions.proofs.Pieces.{count-versions, version-here}
 
 -- ---- the last one
@@ -57,12 +56,3 @@ module _ (m : List ℕ) (date : ℕ) where
   pub above-all : (v : ℕ) → v ≤ 0 → Above m date v → 0 ≡ highest (versions_in m) date (length (versions_in m))
   unfolding highest
   above-all v h r = let z : v ≡ 0 = omega arith in rw z at r.same
-
-module _ (m : List ℕ) (date : ℕ) {a : Bool} (e : a ≡ is_date date) where
-  pub on-no-date : not a ≡ true → 0 ≡ version_on (versions_in m) date
-  unfolding version_on
-  on-no-date n = rw (← e, not-true a n)
-
-  pub on-date : not a ≡ false → {r : ℕ} → r ≡ highest (versions_in m) date (length (versions_in m)) → r ≡ version_on (versions_in m) date
-  unfolding version_on
-  on-date n f = rw (← e, not-false a n) f

@@ -4,36 +4,23 @@ use mathlib.Core.Path.{◌≡◌, ap}
 use mathlib.Core.Bool.{Bool, true, false, not, ◌&&◌}
 use mathlib.Core.List.{List}
 use native.Mathlib.Omega.{arith}
-use borrow.Author.Tests.{lt-leb, le-leb, leb-true, not-true, not-false}
+use borrow.Author.Tests.{leb-true, not-true, not-false}
 use lib.ListN.{length, drop}
 use lib.Dec.{leb}
 use Rattle.ground.specs.Lists.{all, from}
 use Rattle.ground.proofs.Tests.{and-true}
 use Rattle.ground.proofs.From.{from_step, from_end}
-use Rattle.format.specs.Dates.{is_date}
 use Rattle.entries.specs.Little.{piece}
 use Rattle.tenants.specs.Outputs.{is_kept, outputs_in}
 use Rattle.tenants.specs.Versions.{version_from, version_place, version_at, count_in, versions_in, may_follow, are_versions, is_map}
 
-module _ (t first : ℕ) {a : Bool} (e : a ≡ is_date first) where
-  pub no-date : not a ≡ true → false ≡ may_follow t first
-  unfolding may_follow
-  no-date n = rw (← e, not-true a n)
-
-  pub date-after : not a ≡ false → {r : Bool} → r ≡ leb t first → r ≡ may_follow t first
-  unfolding may_follow
-  date-after n f = rw (← e, not-false a n) f
-
 -- ---- one version
 
 module _ (m : List ℕ) (i t : ℕ) {first : ℕ} (d : first ≡ (version_at m i).first) {a : Bool} (e : a ≡ may_follow t first) where
-  pub not-following : not a ≡ true → false ≡ may_follow t (version_at m i).first && all is_kept (version_at m i).outputs
-  not-following n = rw (← d, ← e, not-true a n)
-
-  pub following : not a ≡ false → {s : List ℕ} → s ≡ drop 4 (piece m (version_place i) 1796) → {r : Bool} → r ≡ all is_kept (outputs_in 128 s)
+  pub following : a ≡ true → {s : List ℕ} → s ≡ drop 4 (piece m (version_place i) 1796) → {r : Bool} → r ≡ all is_kept (outputs_in 128 s)
       → r ≡ may_follow t (version_at m i).first && all is_kept (version_at m i).outputs
   unfolding version_at version_from
-  following n g f = rw (← d, ← e, not-false a n, ← g) f
+  following n g f = rw (← d, ← e, n, ← g) f
 
 -- ---- one after the other
 
@@ -60,20 +47,6 @@ module _ (m : List ℕ) (n : ℕ) where
   walked_all t i h r = rw (from_end (version_at m) i n h) at r.same
 
 -- ---- a map
-
-module _ (m : List ℕ) where
-  pub too_short : length m < 57476 → false ≡ is_map m
-  unfolding is_map
-  too_short h = rw (lt-leb 57476 (length m) h)
-
-  module _ (l : 57476 ≤ length m) {n : ℕ} (e : n ≡ count_in m) where
-    pub too_many_lem : 32 < n → false ≡ is_map m
-    unfolding is_map
-    too_many_lem h = rw (le-leb 57476 (length m) l, ← e, lt-leb n 32 h)
-
-    pub map_is : n ≤ 32 → {r : Bool} → r ≡ are_versions 0 (from (version_at m) 0 n) → r ≡ is_map m
-    unfolding is_map versions_in
-    map_is h f = rw (le-leb 57476 (length m) l, ← e, le-leb n 32 h) f
 
 -- what a map is
 pub record Mapping (m : List ℕ) : Type 0 where

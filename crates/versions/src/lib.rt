@@ -45,13 +45,11 @@ pub fn entries_at(memory: &[u8], i: u32) -> &[u8]
 }
 
 // A first date that may come behind another one.
+#[tactic(auto, unfolding(tenants::specs::Versions::may_follow))]
 pub fn may_follow(last: u32, first: u32) -> bool
     ensures { result ≡ may_follow last first }
 {
-    if !is_date(first as u64) {
-        return false;
-    }
-    last <= first
+    is_date(u64::from(first)) && last <= first
 }
 
 // A version that may come behind one of that first date.
@@ -59,10 +57,7 @@ fn is_version(memory: &[u8], i: u32, last: u32) -> bool
     requires { (57476 ≤ length memory.now) × (i < 32) }
     ensures { result ≡ may_follow last (version_at memory.now i).first && all is_kept (version_at memory.now i).outputs }
 {
-    if !may_follow(last, first_date(memory, i)) {
-        return false;
-    }
-    are_kept(entries_at(memory, i))
+    may_follow(last, first_date(memory, i)) && are_kept(entries_at(memory, i))
 }
 
 fn are_versions(memory: &[u8], n: u32) -> bool
@@ -70,17 +65,16 @@ fn are_versions(memory: &[u8], n: u32) -> bool
     ensures { result ≡ are_versions 0 (from (version_at memory.now) 0 n) }
 {
     let mut last: u32 = 0;
-    let mut i: u32 = 0;
-    while i < n {
+    for i in 0..n {
         if !is_version(memory, i, last) {
             return false;
         }
         last = first_date(memory, i);
-        i += 1;
     }
     true
 }
 
+#[tactic(auto, unfolding(tenants::specs::Versions::is_map, tenants::specs::Versions::versions_in))]
 pub fn is_map(memory: &[u8]) -> bool
     ensures { result ≡ is_map memory.now }
 {
@@ -88,10 +82,7 @@ pub fn is_map(memory: &[u8]) -> bool
         return false;
     }
     let n = count(memory);
-    if MOST < n {
-        return false;
-    }
-    are_versions(memory, n)
+    n <= MOST && are_versions(memory, n)
 }
 
 // The first date of the last version; 0 where there is none.
@@ -99,32 +90,29 @@ pub fn latest_date(memory: &[u8]) -> u32
     ensures { result ≡ latest (versions_in memory.now) }
 {
     let n = count(memory);
-    if n == 0 {
-        return 0;
-    }
-    first_date(memory, n - 1)
+    if n == 0 { 0 } else { first_date(memory, n - 1) }
 }
 
 // From the last version down: dates do not fall, so what is asked for is near the end most often.
 fn highest_on(memory: &[u8], date: u32) -> u32
     ensures { result ≡ highest (versions_in memory.now) date (length (versions_in memory.now)) }
 {
-    let mut v = count(memory);
-    while 0 < v {
-        if first_date(memory, v - 1) <= date {
-            return v;
+    for i in (0..count(memory)).rev() {
+        if first_date(memory, i) <= date {
+            return i + 1;
         }
-        v -= 1;
     }
     0
 }
 
 // The version that answers a date; 0 where none does.
+#[tactic(auto, unfolding(tenants::specs::Versions::version_on))]
 pub fn version_on(memory: &[u8], date: u32) -> u32
     ensures { result ≡ version_on (versions_in memory.now) date }
 {
-    if !is_date(date as u64) {
-        return 0;
+    if is_date(u64::from(date)) {
+        highest_on(memory, date)
+    } else {
+        0
     }
-    highest_on(memory, date)
 }

@@ -8,9 +8,6 @@ use Rattle.channel_shares.proofs.put_weights.Goals as goal
 pub loop-i-init : goal.loop-i-init
 loop-i-init c = search weighing-none
 
-pub overflow_cast-share : goal.overflow_cast-share
-overflow_cast-share c = omega (arith, c.type_inv.shares c.loop-i.i)
-
 pub weight_of-w-requires : goal.weight_of-w-requires
 weight_of-w-requires c = omega (arith, c.type_inv.shares c.loop-i.i)
 

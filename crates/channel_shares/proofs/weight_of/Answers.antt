@@ -6,5 +6,5 @@ use Rattle.channel_shares.proofs.weight_of.Goals as goal
 pub returns-then-same_capitals : goal.returns-then-same_capitals
 returns-then-same_capitals c = record { counts = search counts-on; weighs = search weighs-on; light = search rules }
 
-pub returns : goal.returns
-returns c = record { counts = search counts-off; weighs = search weighs-off; light = search rules }
+pub returns-else-same_capitals : goal.returns-else-same_capitals
+returns-else-same_capitals c = record { counts = search counts-off; weighs = search weighs-off; light = search rules }

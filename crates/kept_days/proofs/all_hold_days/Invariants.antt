@@ -1,5 +1,4 @@
 -- `kept_days::all_hold_days` meets its contract. Assumes nothing.
-use Prim.Native.Nat.{◌-◌}
 use Rattle.ground.specs.Lists.{all}
 use Rattle.store.specs.Store.{holds_day}
 use Rattle.store.proofs.Walks.{Walked}
@@ -7,6 +6,3 @@ use Rattle.kept_days.proofs.all_hold_days.Given as goal
 
 abbrev pub invariant-loop-i : goal.invariant-loop-i
 invariant-loop-i l = Walked (all (holds_day l.memory l.h)) l.h.map l.h.slots 0 l.i
-
-abbrev pub decreases-loop-i : goal.decreases-loop-i
-decreases-loop-i l = l.n - l.i

@@ -1,14 +1,13 @@
 -- `keys::put_capitals` meets its contract: i bytes of the capitals are written (`Copied`). Each place is inside by the contract. Assumes nothing.
-use Rattle.keys.proofs.Letters.{capitals-more, capitals-all}
 use Rattle.text.proofs.Loops.{copied_none}
-use native.Mathlib.Omega.{arith}
+use Rattle.keys.proofs.Letters.{capitals-more, capitals-all}
 use Rattle.keys.proofs.put_capitals.Goals as goal
 
 pub loop-i-init : goal.loop-i-init
-loop-i-init c = (omega arith, copied_none _ _ _)
+loop-i-init c = copied_none _ _ _
 
 pub loop-i-preserved : goal.loop-i-preserved
-loop-i-preserved c = (omega arith, search capitals-more)
+loop-i-preserved c = search capitals-more
 
 pub returns : goal.returns
 returns c = search capitals-all

@@ -1,10 +1,8 @@
--- `little::number_in` meets its contract: v is the number of the bytes from i on (`Gathered`), and eight bytes fit. A byte is below 256 by its type.
--- Assumes nothing.
+-- `little::number_in`: see Answers.antt. Assumes nothing.
+use Prim.Native.Nat.{◌-◌}
+use lib.ListN.{length}
 use Rattle.little.proofs.Numbers.{Gathered}
 use Rattle.little.proofs.number_in.Given as goal
 
-abbrev pub invariant-loop-i : goal.invariant-loop-i
-invariant-loop-i l = Gathered l.s l.i l.v
-
-abbrev pub decreases-loop-i : goal.decreases-loop-i
-decreases-loop-i l = l.i
+abbrev pub invariant-loop-b : goal.invariant-loop-b
+invariant-loop-b l = (goal.iterator-loop-b).can_next l.b-iterator × (goal.iterator-loop-b).is_finite l.b-iterator × Gathered l.s (length l.s - length l.yielded) l.v

@@ -1,10 +1,6 @@
 -- `output_bytes::fill_keys` meets its contract. Assumes nothing.
-use Prim.Native.Nat.{◌-◌}
 use Rattle.output_bytes.proofs.Entries.{Keys}
 use Rattle.output_bytes.proofs.fill_keys.Given as goal
 
 abbrev pub invariant-loop-i : goal.invariant-loop-i
 invariant-loop-i l = Keys l.entries l.initial.keys l.keys l.i
-
-abbrev pub decreases-loop-i : goal.decreases-loop-i
-decreases-loop-i l = 128 - l.i

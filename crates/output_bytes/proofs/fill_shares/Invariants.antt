@@ -1,10 +1,6 @@
 -- `output_bytes::fill_shares` meets its contract. Assumes nothing.
-use Prim.Native.Nat.{◌-◌}
 use Rattle.output_bytes.proofs.Entries.{Shares}
 use Rattle.output_bytes.proofs.fill_shares.Given as goal
 
 abbrev pub invariant-loop-i : goal.invariant-loop-i
 invariant-loop-i l = Shares l.entries l.initial.shares l.shares l.i
-
-abbrev pub decreases-loop-i : goal.decreases-loop-i
-decreases-loop-i l = 128 - l.i

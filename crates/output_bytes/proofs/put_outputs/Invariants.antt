@@ -1,10 +1,6 @@
 -- `output_bytes::put_outputs` meets its contract. Assumes nothing.
-use Prim.Native.Nat.{◌-◌}
 use Rattle.output_bytes.proofs.Entries.{Given}
 use Rattle.output_bytes.proofs.put_outputs.Given as goal
 
 abbrev pub invariant-loop-i : goal.invariant-loop-i
 invariant-loop-i l = Given l.initial.memory l.at l.keys l.shares l.memory l.i
-
-abbrev pub decreases-loop-i : goal.decreases-loop-i
-decreases-loop-i l = 128 - l.i

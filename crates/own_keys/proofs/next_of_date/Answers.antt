@@ -1,16 +1,9 @@
 -- `own_keys::next_of_date` meets its contract. Assumes nothing.
-use native.Mathlib.Omega.{arith}
 use Rattle.own_keys.proofs.Others.{passed_none, passed-more}
 use Rattle.own_keys.proofs.next_of_date.Goals as goal
 
-pub bounds-dates-i : goal.bounds-dates-i
-bounds-dates-i c = omega arith
-
 pub loop-j-init : goal.loop-j-init
 loop-j-init c = search passed_none
-
-pub bounds-dates-j : goal.bounds-dates-j
-bounds-dates-j c = omega arith
 
 pub loop-j-preserved : goal.loop-j-preserved
 loop-j-preserved c = search passed-more

@@ -1,10 +1,6 @@
 -- `own_keys::next_of_date` meets its contract. Assumes nothing.
-use Prim.Native.Nat.{◌-◌}
 use Rattle.own_keys.specs.Dates.{Passed}
 use Rattle.own_keys.proofs.next_of_date.Given as goal
 
 abbrev pub invariant-loop-j : goal.invariant-loop-j
 invariant-loop-j l = Passed l.dates l.i l.from l.n l.j
-
-abbrev pub decreases-loop-j : goal.decreases-loop-j
-decreases-loop-j l = l.n - l.j

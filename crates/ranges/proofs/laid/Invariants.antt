@@ -1,11 +1,6 @@
 -- `ranges::laid` meets its contract: what is left of the lists at i decides what the lists decide (`Laying`). Assumes nothing.
 use Rattle.ranges.proofs.Checks.{Laying}
-use lib.ListN.{length}
-use Prim.Native.Nat.{◌-◌}
 use Rattle.ranges.proofs.laid.Given as goal
 
 abbrev pub invariant-loop-i : goal.invariant-loop-i
 invariant-loop-i l = Laying l.m l.places l.lengths l.i
-
-abbrev pub decreases-loop-i : goal.decreases-loop-i
-decreases-loop-i l = length l.places - l.i

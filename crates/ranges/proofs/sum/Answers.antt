@@ -1,28 +1,14 @@
--- `ranges::sum` meets its contract: s is the sum of the first i lengths (`Summing`), each of 32 bits, so that 64 of them fit. Assumes nothing.
-use Rattle.ranges.proofs.Sums.{summing-none, summing-more, summing-all}
-use Prim.Native.Nat.{◌≤◌}
-use native.Mathlib.Omega.{arith}
+-- `ranges::sum` meets its contract: it is std's sum of the lengths (`sum-is`). Assumes nothing.
+use mathlib.Core.Path.{◌∙◌}
+use borrow.Author.Rules.{rules}
+use borrow.Author.Tests.{tests}
+use Rattle.std.proofs.lemmas.Iterator.{YieldsList-from_slice, YieldsList-from_map}
+use Rattle.std.proofs.lemmas.Iterator.Consumers.{sum_by_from_yields_List}
+use Rattle.ranges.proofs.Sums.{sum-is}
 use Rattle.ranges.proofs.sum.Goals as goal
 
-pub loop-i-init : goal.loop-i-init
-loop-i-init c = search summing-none
-
-pub bounds-lengths-i : goal.bounds-lengths-i
-bounds-lengths-i c = omega arith
-
-pub overflow_add-s : goal.overflow_add-s
-overflow_add-s c = omega (arith, c.type_inv.lengths c.loop-i.i)
-
-pub overflow_add-i : goal.overflow_add-i
-overflow_add-i c = omega arith
-
-pub loop-i-smaller : goal.loop-i-smaller
-loop-i-smaller c = omega arith
-
-pub loop-i-preserved : goal.loop-i-preserved
-loop-i-preserved c =
-    let h : c.wide-s.result ≤ 4294967295 = omega (arith, c.type_inv.lengths c.loop-i.i) in
-    search summing-more
-
 pub returns : goal.returns
-returns c = search summing-all
+returns c =
+    sum_by_from_yields_List (λ n. n) _ c.map.result _ c.sum.ensures.ran
+    (YieldsList-from_map _ (λ x. x) (YieldsList-from_slice c.args.lengths.now cc) c.map.ensures.closure (λ x r q k. search (rules, tests)))
+    ∙ sum-is _

@@ -1,11 +1,7 @@
 -- `seeking::find_slot` meets its contract. Assumes nothing.
-use Prim.Native.Nat.{◌-◌}
 use Rattle.entries.specs.Keys.{key}
 use Rattle.seeking.proofs.Seeks.{Sought}
 use Rattle.seeking.proofs.find_slot.Given as goal
 
 abbrev pub invariant-loop-i : goal.invariant-loop-i
 invariant-loop-i l = Sought l.memory l.h (key l.nmi l.suffix l.date) l.i
-
-abbrev pub decreases-loop-i : goal.decreases-loop-i
-decreases-loop-i l = l.n - l.i

@@ -5,5 +5,5 @@ use Rattle.slots.proofs.field.Goals as goal
 pub returns-then-is_used : goal.returns-then-is_used
 returns-then-is_used c = search field-used
 
-pub returns : goal.returns
-returns c = search field-free
+pub returns-else-is_used : goal.returns-else-is_used
+returns-else-is_used c = search field-free

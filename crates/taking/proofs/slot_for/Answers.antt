@@ -5,5 +5,5 @@ use Rattle.taking.proofs.slot_for.Goals as goal
 pub returns-then-i-h : goal.returns-then-i-h
 returns-then-i-h c = search slot-known
 
-pub returns : goal.returns
-returns c = search slot-new
+pub returns-else-i-h : goal.returns-else-i-h
+returns-else-i-h c = search slot-new

@@ -2,11 +2,12 @@
 use Rattle.used_map.proofs.Maps.{past, tested}
 use Rattle.used_map.proofs.Slots.{used-past}
 use borrow.Author.Rules.{rules}
-use mathlib.Core.Path.{sym}
+use borrow.Author.Tests.{le-ltb}
+use mathlib.Core.Path.{sym, ◌∙◌}
 use Rattle.used_map.proofs.is_used.Goals as goal
 
-pub returns-then-s-ge-SLOTS : goal.returns-then-s-ge-SLOTS
-returns-then-s-ge-SLOTS c = sym (used-past _ _ (past _ _ c.ranges.map.fits (search rules)))
+pub returns-then-s-lt-SLOTS : goal.returns-then-s-lt-SLOTS
+returns-then-s-lt-SLOTS c = tested _ _
 
-pub returns : goal.returns
-returns c = tested _ _
+pub returns-else-s-lt-SLOTS : goal.returns-else-s-lt-SLOTS
+returns-else-s-lt-SLOTS c = le-ltb _ _ (search rules) ∙ sym (used-past _ _ (past _ _ c.ranges.map.fits (search rules)))

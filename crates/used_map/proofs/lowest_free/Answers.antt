@@ -3,8 +3,5 @@ use Rattle.used_map.proofs.Slots.{lowest}
 use native.Mathlib.Omega.{arith}
 use Rattle.used_map.proofs.lowest_free.Goals as goal
 
-pub returns-then-s-slots : goal.returns-then-s-slots
-returns-then-s-slots c = omega (arith, lowest c.args.map c.args.slots c.ranges.map.fits)
-
-pub returns-else-s-slots : goal.returns-else-s-slots
-returns-else-s-slots c = omega (arith, lowest c.args.map c.args.slots c.ranges.map.fits)
+pub returns : goal.returns
+returns c = omega (arith, lowest c.args.map c.args.slots c.ranges.map.fits)

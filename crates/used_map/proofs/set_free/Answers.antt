@@ -3,8 +3,8 @@ use Rattle.used_map.proofs.Maps.{past, freed-past, and-freed}
 use borrow.Author.Rules.{rules}
 use Rattle.used_map.proofs.set_free.Goals as goal
 
-pub returns-then-s-ge-SLOTS : goal.returns-then-s-ge-SLOTS
-returns-then-s-ge-SLOTS c = freed-past _ _ (past _ _ c.ranges.map.fits (search rules))
+pub returns-then-s-lt-SLOTS : goal.returns-then-s-lt-SLOTS
+returns-then-s-lt-SLOTS c = and-freed _ _ c.ranges.map.fits (search rules) c.bit.ensures
 
-pub returns : goal.returns
-returns c = and-freed _ _ c.ranges.map.fits (search rules) c.bit.ensures
+pub returns-else-s-lt-SLOTS : goal.returns-else-s-lt-SLOTS
+returns-else-s-lt-SLOTS c = freed-past _ _ (past _ _ c.ranges.map.fits (search rules))

@@ -2,8 +2,5 @@
 use Rattle.versions.proofs.Dates.{Above}
 use Rattle.versions.proofs.highest_on.Given as goal
 
-abbrev pub invariant-loop-v : goal.invariant-loop-v
-invariant-loop-v l = Above l.memory l.date l.v
-
-abbrev pub decreases-loop-v : goal.decreases-loop-v
-decreases-loop-v l = l.v
+abbrev pub invariant-loop-i : goal.invariant-loop-i
+invariant-loop-i l = Above l.memory l.date l.i

@@ -5,5 +5,5 @@ use Rattle.versions.proofs.latest_date.Goals as goal
 pub returns-then-n-eq0 : goal.returns-then-n-eq0
 returns-then-n-eq0 c = search latest-none
 
-pub returns : goal.returns
-returns c = search latest-is
+pub returns-else-n-eq0 : goal.returns-else-n-eq0
+returns-else-n-eq0 c = search latest-is
