@@ -72,9 +72,9 @@ pub ruleset finds = (find_none, find-days, find-on, find-quantity, find-over, fi
 
 -- c is a 200 or a 250 from a to e
 module _ (file : List ℕ) (c : Option Channel) (i : inside file c) (a e : ℕ) where
-  module _ (h : c ≡ Some (Days a e)) where
+  module _ (k : Channel) (o : c ≡ Some k) (h : k ≡ Days a e) where
     within-days : (a ≤ e) × (e + 2 ≤ length file)
-    within-days = rw h at i
+    within-days = rw (o, h) at i
 
     pub days-order : a ≤ e
     days-order = within-days.0
@@ -85,9 +85,9 @@ module _ (file : List ℕ) (c : Option Channel) (i : inside file c) (a e : ℕ) 
     pub days-end : e ≤ length file
     days-end = omega (arith, days-room)
 
-  module _ (h : c ≡ Some (Quantity a e)) where
+  module _ (k : Channel) (o : c ≡ Some k) (h : k ≡ Quantity a e) where
     within-quantity : (a ≤ e) × (e + 2 ≤ length file)
-    within-quantity = rw h at i
+    within-quantity = rw (o, h) at i
 
     pub quantity-order : a ≤ e
     quantity-order = within-quantity.0
@@ -98,11 +98,11 @@ module _ (file : List ℕ) (c : Option Channel) (i : inside file c) (a e : ℕ) 
     pub quantity-end : e ≤ length file
     quantity-end = omega (arith, quantity-room)
 
-  pub behind-days : c ≡ Some (Days a e) → (r : ChannelStart) → r.at ≡ e + 2 → r.left ≡ 0 → Behind file c r
-  behind-days h r ra rl = record { within = rw ra (days-room h); is = rw (h, ra, rl) }
+  pub behind-days : (k : Channel) → c ≡ Some k → k ≡ Days a e → (r : ChannelStart) → r.at ≡ e + 2 → r.left ≡ 0 → Behind file c r
+  behind-days k o h r ra rl = record { within = rw ra (days-room k o h); is = rw (o, h, ra, rl) }
 
-  pub behind-quantity : c ≡ Some (Quantity a e) → (r : ChannelStart) → r.at ≡ e + 2 → r.left ≡ 0 → Behind file c r
-  behind-quantity h r ra rl = record { within = rw ra (quantity-room h); is = rw (h, ra, rl) }
+  pub behind-quantity : (k : Channel) → c ≡ Some k → k ≡ Quantity a e → (r : ChannelStart) → r.at ≡ e + 2 → r.left ≡ 0 → Behind file c r
+  behind-quantity k o h r ra rl = record { within = rw ra (quantity-room k o h); is = rw (o, h, ra, rl) }
 
 pub behind-none : (file : List ℕ) (c : Option Channel) → c ≡ None → (r : ChannelStart) → r.at ≡ length file → r.left ≡ 0 → Behind file c r
 unfolding totals_from lines
@@ -111,12 +111,12 @@ behind-none file c h r ra rl = record { within = omega arith; is = rw (h, ra, rl
 -- ---- what is answered of it
 
 module _ (file : List ℕ) (c : Option Channel) where
-  pub channel-days : (a e n v : ℕ) → c ≡ Some (Days a e) → n ≡ intervals_in (fields (part file a e)) → v ≡ sum_at file (e + 2) n
+  pub channel-days : (k : Channel) (a e n v : ℕ) → c ≡ Some k → k ≡ Days a e → n ≡ intervals_in (fields (part file a e)) → v ≡ sum_at file (e + 2) n
       → accepted (v ∷ []) ≡ total_first (totalled file c)
-  channel-days a e n v h en ev = rw (h, ← en, ← ev)
+  channel-days k a e n v o h en ev = rw (o, h, ← en, ← ev)
 
-  pub channel-quantity : (a e v : ℕ) → c ≡ Some (Quantity a e) → v ≡ quantity_in (fields (part file a e)) → accepted (v ∷ []) ≡ total_first (totalled file c)
-  channel-quantity a e v h ev = rw (h, ← ev)
+  pub channel-quantity : (k : Channel) (a e v : ℕ) → c ≡ Some k → k ≡ Quantity a e → v ≡ quantity_in (fields (part file a e)) → accepted (v ∷ []) ≡ total_first (totalled file c)
+  channel-quantity k a e v o h ev = rw (o, h, ← ev)
 
   pub channel-missing : (r : Answer) → c ≡ None → r ≡ refusal 14 → r ≡ total_first (totalled file c)
   channel-missing r h er = rw (h, er)

@@ -12,11 +12,11 @@ returns-then-not-is_unit c = search unit-16
 pub returns-in_default : goal.returns-in_default
 returns-in_default c = search whole-none
 
-pub walk_block-end-requires : goal.walk_block-end-requires
-walk_block-end-requires c = (search stands, search few, search rules)
+pub walk_block-records-requires : goal.walk_block-records-requires
+walk_block-records-requires c = (search stands, search few, search rules)
 
-pub returns-in-Stopped : goal.returns-in-Stopped
-returns-in-Stopped c = search whole-stopped
+pub returns-in_err-records : goal.returns-in_err-records
+returns-in_err-records c = search whole-stopped
 
-pub returns-in-Whole : goal.returns-in-Whole
-returns-in-Whole c = search whole-block
+pub returns : goal.returns
+returns c = search whole-block

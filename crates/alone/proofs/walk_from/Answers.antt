@@ -14,8 +14,8 @@ end-requires c = (search rules, search handed-none)
 pub returns-in_default : goal.returns-in_default
 returns-in_default c = search ended
 
-pub over-turn-requires : goal.over-turn-requires
-over-turn-requires c = (search rules, search stands)
+pub over-requires : goal.over-requires
+over-requires c = (search rules, search stands)
 
 pub loop-found-smaller : goal.loop-found-smaller
 loop-found-smaller c = search turned-less
@@ -23,5 +23,5 @@ loop-found-smaller c = search turned-less
 pub loop-found-preserved : goal.loop-found-preserved
 loop-found-preserved c = (search turned-walking, search turned_left)
 
-pub returns-in-Stop : goal.returns-in-Stop
-returns-in-Stop c = search turned-refused
+pub returns-in_err-over : goal.returns-in_err-over
+returns-in_err-over c = search turned-refused
