@@ -1,5 +1,5 @@
 -- The walk over a block: a record's fault there, what each way out of a turn answers, and the turn itself. Assumes nothing.
-use Rattle.std.proofs.Common.{Some, Result, Ok, Err}
+use Rattle.std.proofs.Common.{Option, Some, None, Result, Ok, Err, ◌×◌}
 use Prim.Native.Nat.{ℕ, ◌+◌, ◌-◌, ◌≤◌, ◌<◌}
 use mathlib.Core.Path.{◌≡◌, refl, sym, ap, ◌∙◌}
 use mathlib.Core.List.{List, [], ◌∷◌, ◌++◌}
@@ -28,12 +28,9 @@ use Rattle.lines.specs.Places.{LineEnd, Looked}
 use Rattle.lines.specs.declared.Found.{Found}
 use Rattle.lines.proofs.Ends.{line-more, line-long, line-room}
 use Rattle.walker.specs.Handed.{record_at}
-use Rattle.walker.specs.declared.Record.{Record}
-use Rattle.walker.specs.declared.Record.TheVariants.{At, None}
 use Rattle.walker.proofs.Handed.{handed-none, handed-looked, handed-inside}
 use Rattle.order.specs.declared.State.{State}
-use Rattle.order.specs.declared.Step.{Step}
-use Rattle.order.specs.declared.Step.TheVariants as step
+use Rattle.order.specs.declared.Stop as stop
 use Rattle.follows.specs.Tests.{expected_as, between}
 use Rattle.order.specs.State.{seen, next_of, step_as, Holds}
 use Rattle.follows.proofs.Expected.{is-400, is-500}
@@ -136,7 +133,7 @@ module _ (memory : List ℕ) (start n d : ℕ) (t : BlockWalk) (q : t ≡ first_
   walked-first xs = rw q
 
 -- what a record that was handed out is
-pub stands : (memory : List ℕ) (at : ℕ) {r : Record} {p : ℕ} {f : Found} → r ≡ record_at memory at → r ≡ At p f → Stands memory at f
+pub stands : (memory : List ℕ) (at : ℕ) {r : Option (ℕ × Found)} {p : ℕ} {f : Found} → r ≡ record_at memory at → r ≡ Some (p, f) → Stands memory at f
 stands memory at {r} {p} {f} is h = record { looked = handed-looked memory at r is p f h; more = handed-inside memory at r is p f h }
 
 module _ (memory : List ℕ) (start : ℕ) (t : BlockWalk) (g : Walking memory start t) (f : Found) (k : Stands memory t.at f) where
@@ -169,12 +166,13 @@ module _ (memory : List ℕ) (start : ℕ) (t : BlockWalk) (g : Walking memory s
       let z : t.at - start + 0 ≡ t.at - start = omega arith in
       turned-fault 4 0 0 (foreign-fault st here (sym eb ∙ y)) xs ∙ rw z
 
-  module _ {b : Bool} (eb : b ≡ is_foreign_here st here) (no : b ≡ false) (w : Step) (ew : step_as memory w ≡ next_of st here) where
-    pub turned-stop : (x o i : ℕ) → w ≡ step.Stop x o i → (xs : List ℕ) → left_of memory start xs t ≡ refused x (t.at - start + o) t.records i
+  module _ {b : Bool} (eb : b ≡ is_foreign_here st here) (no : b ≡ false) (w : Result State stop.Stop) (ew : step_as memory w ≡ next_of st here) where
+    pub turned-stop : (x : stop.Stop) → w ≡ Err x → (xs : List ℕ) → left_of memory start xs t ≡ refused x.number (t.at - start + x.place) t.records x.field
     unfolding next_of
-    turned-stop x o i q = turned-fault x o i (own-fault st here (sym eb ∙ no) ∙ stopped (fault_of st here) (after st here) x o i (sym (rw q at ew)))
+    turned-stop x q =
+        turned-fault x.number x.place x.field (own-fault st here (sym eb ∙ no) ∙ stopped (fault_of st here) (after st here) x.number x.place x.field (sym (rw q at ew)))
 
-    pub turned_on : Holds memory t.at f.end w → (s : State) → w ≡ step.On s
+    pub turned_on : Holds memory t.at f.end w → (s : State) → w ≡ Ok s
         → Turned memory start t (Ok (record { at = f.end + 2; records = t.records + 1; state = s }))
     unfolding next_of
     turned_on hw s q =
@@ -278,7 +276,7 @@ module _ (memory : List ℕ) (start m n unit : ℕ) (en : n ≡ intervals_of m) 
     unfolding block_check_of block_walk_of
     none-there z = rw (← en, ne_eqb n 0 some, ← eb, not-false b h, z)
 
-    module _ {r : Record} (er : r ≡ record_at memory start) where
+    module _ {r : Option (ℕ × Found)} (er : r ≡ record_at memory start) where
       pub whole-none : {x : Refusal} → refused_as x ≡ refused 2 0 0 0 → r ≡ None → block_check_of m unit (drop start memory) ≡ refused_as x
       whole-none q z = none-there (handed-none memory start r er z) ∙ sym q
 
@@ -291,7 +289,7 @@ module _ (memory : List ℕ) (start m n unit : ℕ) (en : n ≡ intervals_of m) 
           pub whole-stopped : {x : Refusal} → w ≡ Err x → block_check_of m unit (drop start memory) ≡ refused_as x
           whole-stopped {x} q = whole-walk ∙ (rw q at k) (top_says (intervals_of m) (lines (drop start memory)))
 
-          pub whole-block : {p j : ℕ} {f : Found} → r ≡ At p f → w ≡ Ok j → IsBlock memory start m unit j f.end
+          pub whole-block : {p j : ℕ} {f : Found} → r ≡ Some (p, f) → w ≡ Ok j → IsBlock memory start m unit j f.end
           whole-block h q =
               let g = stands memory start er h in
               record { line = g.looked.ends; more = g.more; is = whole-walk ∙ (rw q at k) (top_says (intervals_of m) (lines (drop start memory))) }

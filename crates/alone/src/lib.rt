@@ -20,9 +20,9 @@ use follows::{in_day, is_open};
 use format::{BlockChecked, Refusal};
 use lines::Found;
 use number_rules::intervals;
-use order::{State, Step};
+use order::State;
 use says::kind_at;
-use walker::{Record, record_at};
+use walker::record_at;
 
 // The walk over a block before a record: where that starts in the memory, how many records are behind, and the state.
 #[derive(Clone, Copy)]
@@ -126,13 +126,13 @@ impl BlockWalk {
         }
         let step = st.step(memory, at, found);
         match step {
-            Step::Stop(number, o, field) => Err(Refusal {
-                number,
-                place: from + o,
+            Err(x) => Err(Refusal {
+                number: x.number,
+                place: from + x.place,
                 record: self.records,
-                field,
+                field: x.field,
             }),
-            Step::On(s) => Ok(BlockWalk {
+            Ok(s) => Ok(BlockWalk {
                 at: behind,
                 records: passed,
                 state: s,
@@ -180,7 +180,7 @@ fn walk_from(memory: &[u8], start: usize, first: BlockWalk) -> Result<usize, Ref
     let mut t = first;
     loop {
         let handed = record_at(memory, t.at);
-        let Record::At(_, found) = handed else {
+        let Some((_, found)) = handed else {
             return t.end(memory, start);
         };
         t = t.over(memory, start, found)?;
@@ -209,7 +209,7 @@ fn walk_bytes(memory: &[u8], start: usize, minutes: u32, unit: u8) -> Result<Wal
         return Err(refusal_at(16, 0, 0));
     }
     let handed = record_at(memory, start);
-    let Record::At(_, found) = handed else {
+    let Some((_, found)) = handed else {
         return Err(refusal_at(2, 0, 0));
     };
     let records = walk_block(memory, start, found, n, units::decimals(unit))?;
@@ -221,24 +221,19 @@ fn walk_bytes(memory: &[u8], start: usize, minutes: u32, unit: u8) -> Result<Wal
 
 // Whether the bytes from `start` to the memory's end are a day block behind a 200 of so many minutes and that unit: what it says and how many records it has,
 // or its first refusal. An interval length or a unit that is none is 16, before all else.
-pub fn check_block(memory: &[u8], start: usize, minutes: u32, unit: u8) -> BlockChecked
+pub fn check_block(memory: &[u8], start: usize, minutes: u32, unit: u8) -> Result<BlockChecked, Refusal>
     ensures { block_checked_as result ≡ block_check_of minutes unit (drop start memory.now) }
 {
-    let w = walk_bytes(memory, start, minutes, unit);
-    match w {
-        Err(x) => BlockChecked::Refused(x),
-        Ok(block) => {
-            let n = intervals(minutes as u64);
-            let s = said_at(memory, start, block.end, n);
-            BlockChecked::Accepted {
-                date: s.date,
-                n,
-                update: s.update,
-                load: s.load,
-                records: block.records,
-            }
-        }
-    }
+    let block = walk_bytes(memory, start, minutes, unit)?;
+    let n = intervals(minutes as u64);
+    let s = said_at(memory, start, block.end, n);
+    Ok(BlockChecked {
+        date: s.date,
+        n,
+        update: s.update,
+        load: s.load,
+        records: block.records,
+    })
 }
 
 // The date that the same check answers, if it accepts the block. The times stand behind all the values, and who needs none of them is spared a second pass.

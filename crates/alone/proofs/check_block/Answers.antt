@@ -5,8 +5,8 @@ use Rattle.alone.proofs.check_block.Goals as goal
 pub said_at-s-requires : goal.said_at-s-requires
 said_at-s-requires c = (search block-order, search block_within)
 
-pub returns-in-Err : goal.returns-in-Err
-returns-in-Err c = search (told-stopped, told-block)
+pub returns-in_err-block : goal.returns-in_err-block
+returns-in_err-block c = search (told-stopped, told-block)
 
-pub returns-in-Ok : goal.returns-in-Ok
-returns-in-Ok c = search (told-stopped, told-block)
+pub returns : goal.returns
+returns c = search (told-stopped, told-block)

@@ -7,5 +7,5 @@ use Rattle.whose.proofs.find_day.Goals as goal
 pub found_noted-requires : goal.found_noted-requires
 found_noted-requires c = (search is-accepted, search rules, search rules)
 
-pub returns-in-Refused : goal.returns-in-Refused
-returns-in-Refused c = search find-refused
+pub returns-in_err-_accepted : goal.returns-in_err-_accepted
+returns-in_err-_accepted c = search find-refused

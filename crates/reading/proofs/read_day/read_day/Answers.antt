@@ -7,5 +7,5 @@ use Rattle.reading.proofs.read_day.read_day.Goals as goal
 pub read_noted-r-requires : goal.read_noted-r-requires
 read_noted-r-requires c = (search is-accepted, search rules)
 
-pub returns-in-Refused : goal.returns-in-Refused
-returns-in-Refused c = search read-refused
+pub returns-in_err-_accepted : goal.returns-in_err-_accepted
+returns-in_err-_accepted c = search read-refused

@@ -7,5 +7,5 @@ use Rattle.reading.proofs.total.total.Goals as goal
 pub total_noted-r-requires : goal.total_noted-r-requires
 total_noted-r-requires c = (search is-accepted, search rules)
 
-pub returns-in-Refused : goal.returns-in-Refused
-returns-in-Refused c = search total-refused
+pub returns-in_err-_accepted : goal.returns-in_err-_accepted
+returns-in_err-_accepted c = search total-refused
