@@ -7,8 +7,8 @@ use Rattle.month.proofs.read_days.Goals as goal
 pub read_checked-requires : goal.read_checked-requires
 read_checked-requires c = (search is-accepted, search rules)
 
-pub returns-in-Refused : goal.returns-in-Refused
-returns-in-Refused c = search file-refused
+pub returns-in_err-_accepted : goal.returns-in_err-_accepted
+returns-in_err-_accepted c = search file-refused
 
-pub returns-in-Accepted : goal.returns-in-Accepted
-returns-in-Accepted c = file-read _ _ _ _ (search is-accepted) _ _ c.read_checked.ensures
+pub returns : goal.returns
+returns c = file-read _ _ _ _ (search is-accepted) _ _ c.read_checked.ensures
