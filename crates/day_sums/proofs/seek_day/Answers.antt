@@ -7,5 +7,5 @@ use Rattle.day_sums.proofs.seek_day.Goals as goal
 pub seek_noted-requires : goal.seek_noted-requires
 seek_noted-requires c = (search is-accepted, search rules)
 
-pub returns-in-Refused : goal.returns-in-Refused
-returns-in-Refused c = record { is = search seek-refused; within = search rules }
+pub returns-in_err-_accepted : goal.returns-in_err-_accepted
+returns-in_err-_accepted c = record { is = search seek-refused; within = search rules }

@@ -7,14 +7,14 @@ use Rattle.replacing.proofs.replace_day.Goals as goal
 pub returns-then-room-length : goal.returns-then-room-length
 returns-then-room-length c = search replaced-15
 
-pub slice_bounds-try_block-end-2 : goal.slice_bounds-try_block-end-2
-slice_bounds-try_block-end-2 c = search (length-take-le, rules)
+pub slice_bounds-try_block-old-end-2 : goal.slice_bounds-try_block-old-end-2
+slice_bounds-try_block-old-end-2 c = search (length-take-le, rules)
 
 pub put_block-requires : goal.put_block-requires
 put_block-requires c = (search fits-order, search fits-within, search fits-short, search rules)
 
-pub returns-in-Refused : goal.returns-in-Refused
-returns-in-Refused c = search (replaced-not, rules)
+pub returns-in_err-old : goal.returns-in_err-old
+returns-in_err-old c = search (replaced-not, rules)
 
-pub returns-in-At : goal.returns-in-At
-returns-in-At c = search (replaced-put, rules)
+pub returns : goal.returns
+returns c = search (replaced-put, rules)

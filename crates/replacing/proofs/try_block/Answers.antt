@@ -5,5 +5,5 @@ use Rattle.replacing.proofs.try_block.Goals as goal
 pub try_there-requires : goal.try_there-requires
 try_there-requires c = search found-there
 
-pub returns-in-Refused : goal.returns-in-Refused
-returns-in-Refused c = search try-none
+pub returns-in_err-found : goal.returns-in_err-found
+returns-in_err-found c = search try-none

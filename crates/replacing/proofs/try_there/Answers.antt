@@ -8,8 +8,8 @@ line_end-requires c = search start-within
 pub returns-then-date-top : goal.returns-then-date-top
 returns-then-date-top c = search try-another
 
-pub returns-in-Refused : goal.returns-in-Refused
-returns-in-Refused c = search try-refused
+pub returns-in_err-new : goal.returns-in_err-new
+returns-in_err-new c = search try-refused
 
-pub returns-else-date-top : goal.returns-else-date-top
-returns-else-date-top c = search try-fits
+pub returns : goal.returns
+returns c = search try-fits
