@@ -33,10 +33,12 @@ fn total_place(file: &[u8], c: Option<Channel>) -> Result<u64, Refusal>
     requires { inside file.now c × (length file.now ≤ most) }
     ensures { totalled_as result ≡ total_first (totalled file.now c) }
 {
-    match c {
-        None => Err(Refusal::bare(14)),
-        Some(Channel::Quantity(a, e)) => Ok(quantity_of(file, a, e)),
-        Some(Channel::Days(a, e)) => Ok(add_days(file, e + 2, intervals_of(file, a, e))),
+    let Some(found) = c else {
+        return Err(Refusal::bare(14));
+    };
+    match found {
+        Channel::Quantity(a, e) => Ok(quantity_of(file, a, e)),
+        Channel::Days(a, e) => Ok(add_days(file, e + 2, intervals_of(file, a, e))),
     }
 }
 

@@ -57,12 +57,14 @@ pub fn behind(file: &[u8], c: Option<Channel>) -> ChannelStart
     requires { inside file.now c }
     ensures { Behind file.now c result }
 {
-    match c {
-        Some(Channel::Days(_, e)) => ChannelStart { at: e + 2, left: 0 },
-        Some(Channel::Quantity(_, e)) => ChannelStart { at: e + 2, left: 0 },
-        None => ChannelStart {
+    let Some(found) = c else {
+        return ChannelStart {
             at: file.len(),
             left: 0,
-        },
+        };
+    };
+    match found {
+        Channel::Days(_, e) => ChannelStart { at: e + 2, left: 0 },
+        Channel::Quantity(_, e) => ChannelStart { at: e + 2, left: 0 },
     }
 }

@@ -56,7 +56,7 @@ pub fn seek_day(file: &[u8], day: usize) -> Result<DayAt, Refusal>
     ensures within { within_as file.now result }
 {
     let t = check_and_note(file, day, 0);
-    let _accepted = t.answer?;
+    t.answer?;
     seek_noted(file, day, t.day)
 }
 

@@ -94,7 +94,7 @@ pub fn read_days(
     ensures { days_left (days_read_as result) (lent values.new (five flags.new methods.new reasons.new starts.new lengths.new) (daily dates.new counts.new updates.new loads.new units.new)) ≡ month_of file.now first last (lent values.old (five flags.old methods.old reasons.old starts.old lengths.old) (daily dates.old counts.old updates.old loads.old units.old)) }
 {
     let t = check_and_note(file, first, 0);
-    let _accepted = t.answer?;
+    t.answer?;
     read_checked(
         file, first, last, t.day, values, flags, methods, reasons, starts, lengths, dates, counts,
         updates, loads, units,

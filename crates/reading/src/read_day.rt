@@ -23,7 +23,7 @@ pub fn read_day(
     ensures { outcome (day_read_as result) values.new (five flags.new methods.new reasons.new starts.new lengths.new) ≡ read_of file.now day values.old (five flags.old methods.old reasons.old starts.old lengths.old) }
 {
     let t = check_and_note(file, day, 0);
-    let _accepted = t.answer?;
+    t.answer?;
     let r = read_noted(
         file, day, t.day, values, flags, methods, reasons, starts, lengths,
     );

@@ -13,7 +13,7 @@ pub fn total(file: &[u8], channel: usize) -> Result<u64, Refusal>
     ensures { totalled_as result ≡ total_of file.now channel }
 {
     let t = check_and_note(file, 0, channel);
-    let _accepted = t.answer?;
+    t.answer?;
     let r = total_noted(file, channel, t.channel);
     r.answer
 }

@@ -113,6 +113,6 @@ pub fn find_day(file: &[u8], day: usize) -> Result<DayFound, Refusal>
     ensures { day_found_as result ≡ find_of file.now day }
 {
     let t = check_and_note(file, day, 0);
-    let _accepted = t.answer?;
+    t.answer?;
     found_noted(file, day, t.day, t.before)
 }

@@ -10,7 +10,7 @@ pub quantity_of-requires : goal.quantity_of-requires
 quantity_of-requires c = (search quantity-order, search quantity-end)
 
 pub overflow_add-e : goal.overflow_add-e
-overflow_add-e c = let r : c.in-Some-Days.e + 2 ≤ length c.args.file.now = search days-room in omega arith
+overflow_add-e c = let r : c.in-Days.e + 2 ≤ length c.args.file.now = search days-room in omega arith
 
 pub intervals_of-requires : goal.intervals_of-requires
 intervals_of-requires c = (search days-order, search days-end)
@@ -18,11 +18,11 @@ intervals_of-requires c = (search days-order, search days-end)
 pub add_days-requires : goal.add_days-requires
 add_days-requires c = (search days-room, search rules)
 
-pub returns-in-None : goal.returns-in-None
-returns-in-None c = search channel-missing
+pub returns-in_default : goal.returns-in_default
+returns-in_default c = search channel-missing
 
-pub returns-in-Some-Quantity : goal.returns-in-Some-Quantity
-returns-in-Some-Quantity c = search channel-quantity
+pub returns-in-Quantity : goal.returns-in-Quantity
+returns-in-Quantity c = search channel-quantity
 
-pub returns-in-Some-Days : goal.returns-in-Some-Days
-returns-in-Some-Days c = search channel-days
+pub returns-in-Days : goal.returns-in-Days
+returns-in-Days c = search channel-days
