@@ -81,8 +81,11 @@ pub fn placed(
     requires { inside file.now place }
     ensures { Filled page.old 0 (channel_text file.now k place total) result page.new }
 {
-    match place {
-        Some(Channel::Days(a, e)) => channel_row(
+    let Some(found) = place else {
+        return put(page, 0, b"");
+    };
+    match found {
+        Channel::Days(a, e) => channel_row(
             page,
             k,
             part(file, a, e),
@@ -90,9 +93,6 @@ pub fn placed(
             days_from(file, e + 2),
             total,
         ),
-        Some(Channel::Quantity(a, e)) => {
-            channel_row(page, k, part(file, a, e), UNIT_OF_250, 0, total)
-        }
-        None => put(page, 0, b""),
+        Channel::Quantity(a, e) => channel_row(page, k, part(file, a, e), UNIT_OF_250, 0, total),
     }
 }
