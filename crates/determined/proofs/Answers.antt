@@ -1,22 +1,15 @@
 -- An answer is known from the paper's number and values: no two cases of an enum stand for the same. Assumes nothing.
 use mathlib.Core.Path.{◌≡◌, refl, ap}
 use Prim.Native.Nat.{ℕ}
+use Rattle.std.proofs.Common.{Result, Ok, Err}
 use Rattle.format.specs.Answers.{refused_as, checked_as, day_read_as, totalled_as, written_as}
 use Rattle.format.specs.declared.Refusal.{Refusal}
 use Rattle.format.specs.declared.Checked.{Checked}
-use Rattle.format.specs.declared.Checked.TheVariants as checked
 use Rattle.format.specs.declared.DayRead.{DayRead}
-use Rattle.format.specs.declared.DayRead.TheVariants as dayRead
-use Rattle.format.specs.declared.Totalled.{Totalled}
-use Rattle.format.specs.declared.Totalled.TheVariants as totalled
 use Rattle.format.specs.declared.Written.{Written}
-use Rattle.format.specs.declared.Written.TheVariants as written
 use Rattle.whose.specs.Whose.{day_found_as}
 use Rattle.whose.specs.declared.DayFound.{DayFound}
-use Rattle.whose.specs.declared.DayFound.TheVariants as found
 use Rattle.replacing.specs.Replace.{replaced_as}
-use Rattle.replacing.specs.declared.Replaced.{Replaced}
-use Rattle.replacing.specs.declared.Replaced.TheVariants as replaced
 use Rattle.store.specs.Calls.{made_as, kept_as, slot_read_as}
 use Rattle.store.specs.declared.Made.{Made}
 use Rattle.store.specs.declared.Made.TheVariants as made
@@ -32,7 +25,6 @@ use Rattle.splits.specs.declared.Split.{Split}
 use Rattle.splits.specs.declared.Split.TheVariants as split
 use Rattle.months.specs.Month.{days_read_as}
 use Rattle.months.specs.declared.DaysRead.{DaysRead}
-use Rattle.months.specs.declared.DaysRead.TheVariants as daysRead
 
 refusal_is : (n p r f : ℕ) → Refusal
 refusal_is n p r f = record { number = n; place = p; «record» = r; field = f }
@@ -47,47 +39,96 @@ refusal-one x y e =
     let g : refusal_is x.number x.place x.«record» x.field ≡ refusal_is y.number y.place y.«record» y.field = rw (a, b, c, d) in
     g
 
-pub checked-one : (x y : Checked) → checked_as x ≡ checked_as y → x ≡ y
-checked-one (checked.Accepted v c d) (checked.Accepted w k l) e = cc
-checked-one (checked.Accepted v c d) (checked.Refused y) e = cc
-checked-one (checked.Refused x) (checked.Accepted w k l) e = cc
-checked-one (checked.Refused x) (checked.Refused y) e = ap checked.Refused (refusal-one x y e)
+checked_is : ℕ → ℕ → ℕ → Checked
+checked_is a b c = record { version = a; channels = b; days = c }
 
-pub day-read-one : (x y : DayRead) → day_read_as x ≡ day_read_as y → x ≡ y
-day-read-one (dayRead.Read a b c d u) (dayRead.Read w k l m v) e = cc
-day-read-one (dayRead.Read a b c d u) (dayRead.Refused y) e = cc
-day-read-one (dayRead.Refused x) (dayRead.Read w k l m v) e = cc
-day-read-one (dayRead.Refused x) (dayRead.Refused y) e = ap dayRead.Refused (refusal-one x y e)
+pub checked-one : (x y : Result Checked Refusal) → checked_as x ≡ checked_as y → x ≡ y
+unfolding checked_is
+checked-one (Ok x) (Ok y) e =
+    let a : x.version ≡ y.version = cc in
+    let b : x.channels ≡ y.channels = cc in
+    let c : x.days ≡ y.days = cc in
+    let z : checked_is x.version x.channels x.days ≡ checked_is y.version y.channels y.days = rw (a, b, c) in
+    ap (λ (w : Checked). Ok w) z
+checked-one (Ok x) (Err y) e = cc
+checked-one (Err x) (Ok y) e = cc
+checked-one (Err x) (Err y) e = ap (λ (w : Refusal). Err w) (refusal-one x y e)
 
-pub totalled-one : (x y : Totalled) → totalled_as x ≡ totalled_as y → x ≡ y
-totalled-one (totalled.Total v) (totalled.Total w) e = cc
-totalled-one (totalled.Total v) (totalled.Refused y) e = cc
-totalled-one (totalled.Refused x) (totalled.Total w) e = cc
-totalled-one (totalled.Refused x) (totalled.Refused y) e = ap totalled.Refused (refusal-one x y e)
+day_read_is : ℕ → ℕ → ℕ → ℕ → ℕ → DayRead
+day_read_is a b c d f = record { date = a; n = b; update = c; load = d; unit = f }
 
-pub written_one : (x y : Written) → written_as x ≡ written_as y → x ≡ y
-written_one (written.Block a b) (written.Block c d) e = cc
-written_one (written.Block a b) (written.Refused y) e = cc
-written_one (written.Refused x) (written.Block c d) e = cc
-written_one (written.Refused x) (written.Refused y) e = ap written.Refused (refusal-one x y e)
+pub day-read-one : (x y : Result DayRead Refusal) → day_read_as x ≡ day_read_as y → x ≡ y
+unfolding day_read_is
+day-read-one (Ok x) (Ok y) e =
+    let a : x.date ≡ y.date = cc in
+    let b : x.n ≡ y.n = cc in
+    let c : x.update ≡ y.update = cc in
+    let d : x.load ≡ y.load = cc in
+    let f : x.unit ≡ y.unit = cc in
+    let z : day_read_is x.date x.n x.update x.load x.unit ≡ day_read_is y.date y.n y.update y.load y.unit = rw (a, b, c, d, f) in
+    ap (λ (w : DayRead). Ok w) z
+day-read-one (Ok x) (Err y) e = cc
+day-read-one (Err x) (Ok y) e = cc
+day-read-one (Err x) (Err y) e = ap (λ (w : Refusal). Err w) (refusal-one x y e)
 
-pub found-one : (x y : DayFound) → day_found_as x ≡ day_found_as y → x ≡ y
-found-one (found.At a b c d g h i) (found.At j k l m n o p) e = cc
-found-one (found.At a b c d g h i) (found.Refused y) e = cc
-found-one (found.Refused x) (found.At j k l m n o p) e = cc
-found-one (found.Refused x) (found.Refused y) e = ap found.Refused (refusal-one x y e)
+pub totalled-one : (x y : Result ℕ Refusal) → totalled_as x ≡ totalled_as y → x ≡ y
+totalled-one (Ok v) (Ok w) e = cc
+totalled-one (Ok x) (Err y) e = cc
+totalled-one (Err x) (Ok y) e = cc
+totalled-one (Err x) (Err y) e = ap (λ (w : Refusal). Err w) (refusal-one x y e)
 
-pub days-read-one : (x y : DaysRead) → days_read_as x ≡ days_read_as y → x ≡ y
-days-read-one (daysRead.Read a b) (daysRead.Read c d) e = cc
-days-read-one (daysRead.Read a b) (daysRead.Refused y) e = cc
-days-read-one (daysRead.Refused x) (daysRead.Read c d) e = cc
-days-read-one (daysRead.Refused x) (daysRead.Refused y) e = ap daysRead.Refused (refusal-one x y e)
+written_is : ℕ → ℕ → Written
+written_is a b = record { bytes = a; records = b }
 
-pub replaced-one : (x y : Replaced) → replaced_as x ≡ replaced_as y → x ≡ y
-replaced-one (replaced.Length a) (replaced.Length b) e = cc
-replaced-one (replaced.Length a) (replaced.Refused y) e = cc
-replaced-one (replaced.Refused x) (replaced.Length b) e = cc
-replaced-one (replaced.Refused x) (replaced.Refused y) e = ap replaced.Refused (refusal-one x y e)
+pub written_one : (x y : Result Written Refusal) → written_as x ≡ written_as y → x ≡ y
+unfolding written_is
+written_one (Ok x) (Ok y) e =
+    let a : x.bytes ≡ y.bytes = cc in
+    let b : x.records ≡ y.records = cc in
+    let z : written_is x.bytes x.records ≡ written_is y.bytes y.records = rw (a, b) in
+    ap (λ (w : Written). Ok w) z
+written_one (Ok x) (Err y) e = cc
+written_one (Err x) (Ok y) e = cc
+written_one (Err x) (Err y) e = ap (λ (w : Refusal). Err w) (refusal-one x y e)
+
+found_is : ℕ → ℕ → ℕ → ℕ → ℕ → ℕ → ℕ → DayFound
+found_is a b c d f g h = record { channel = a; nmi = b; suffix = c; unit = d; length = f; start = g; end = h }
+
+pub found-one : (x y : Result DayFound Refusal) → day_found_as x ≡ day_found_as y → x ≡ y
+unfolding found_is
+found-one (Ok x) (Ok y) e =
+    let a : x.channel ≡ y.channel = cc in
+    let b : x.nmi ≡ y.nmi = cc in
+    let c : x.suffix ≡ y.suffix = cc in
+    let d : x.unit ≡ y.unit = cc in
+    let f : x.length ≡ y.length = cc in
+    let g : x.start ≡ y.start = cc in
+    let h : x.end ≡ y.end = cc in
+    let z : found_is x.channel x.nmi x.suffix x.unit x.length x.start x.end ≡ found_is y.channel y.nmi y.suffix y.unit y.length y.start y.end = rw (a, b, c, d, f, g, h) in
+    ap (λ (w : DayFound). Ok w) z
+found-one (Ok x) (Err y) e = cc
+found-one (Err x) (Ok y) e = cc
+found-one (Err x) (Err y) e = ap (λ (w : Refusal). Err w) (refusal-one x y e)
+
+days_read_is : ℕ → ℕ → DaysRead
+days_read_is a b = record { days = a; intervals = b }
+
+pub days-read-one : (x y : Result DaysRead Refusal) → days_read_as x ≡ days_read_as y → x ≡ y
+unfolding days_read_is
+days-read-one (Ok x) (Ok y) e =
+    let a : x.days ≡ y.days = cc in
+    let b : x.intervals ≡ y.intervals = cc in
+    let z : days_read_is x.days x.intervals ≡ days_read_is y.days y.intervals = rw (a, b) in
+    ap (λ (w : DaysRead). Ok w) z
+days-read-one (Ok x) (Err y) e = cc
+days-read-one (Err x) (Ok y) e = cc
+days-read-one (Err x) (Err y) e = ap (λ (w : Refusal). Err w) (refusal-one x y e)
+
+pub replaced-one : (x y : Result ℕ Refusal) → replaced_as x ≡ replaced_as y → x ≡ y
+replaced-one (Ok v) (Ok w) e = cc
+replaced-one (Ok x) (Err y) e = cc
+replaced-one (Err x) (Ok y) e = cc
+replaced-one (Err x) (Err y) e = ap (λ (w : Refusal). Err w) (refusal-one x y e)
 
 pub made_one : (x y : Made) → made_as x ≡ made_as y → x ≡ y
 made_one (made.Room a) (made.Room b) e = cc

@@ -4,7 +4,6 @@
 
 use checking::tour::check_and_note;
 use explain::refused::explained;
-use format::Checked;
 use leaf::digits::digits;
 use machine::{Machine, WORD};
 use named::{date_of, day_named};
@@ -115,17 +114,13 @@ fn in_file(
     let answer = noted.answer;
     let start = noted.day;
     match answer {
-        Checked::Refused(x) => {
+        Err(x) => {
             let p = explained(page, 0, file, x);
             warn(rt, page, p);
             Wanted::Nothing(REFUSED)
         }
-        Checked::Accepted {
-            version: _,
-            channels: _,
-            days,
-        } => match day_named(file, 0, days, start, nmi, suffix, day) {
-            Some(first) => single(rt, page, file, first, days, nmi, suffix, day),
+        Ok(c) => match day_named(file, 0, c.days, start, nmi, suffix, day) {
+            Some(first) => single(rt, page, file, first, c.days, nmi, suffix, day),
             None => {
                 not_there(rt, page, nmi, suffix, day);
                 Wanted::Nothing(REFUSED)
