@@ -1,4 +1,5 @@
 -- The ways out of a put. Assumes nothing.
+use Rattle.std.proofs.Common.{Option, Some, None}
 use Prim.Native.Nat.{ℕ, ◌+◌, ◌-◌, ◌≤◌, ◌<◌}
 use mathlib.Core.Path.{◌≡◌, refl, sym, ap, ◌∙◌}
 use mathlib.Core.Bool.{Bool, true, false, cond, not, ◌&&◌}
@@ -28,8 +29,6 @@ use Rattle.used_map.proofs.Slots.{freed-fewer}
 use Rattle.settling.specs.Settling.{Settles}
 use Rattle.settling.proofs.Blocks.{live-most}
 use Rattle.opening.specs.Opens.{opened_of}
-use Rattle.opening.specs.declared.Opened.{Opened}
-use Rattle.opening.specs.declared.Opened.TheVariants.{Is, Not}
 use Rattle.opening.proofs.Ways.{opened-store, opened-header, opened-not}
 use Rattle.stored.proofs.Keys.{good}
 use Rattle.stored.proofs.Whole.{Whole, whole, slot-within}
@@ -158,10 +157,10 @@ module _ {m : List ℕ} {h : Header} (o : Opens m h) (nmi suffix : List ℕ) (g 
 
 -- ---- any memory
 
-module _ (m nmi suffix : List ℕ) (g : Given) {o : Opened} (e : o ≡ opened_of m) where
-  pub put-21 : o ≡ Not → {a : Answer} → a ≡ refusal 21 → left a m ≡ put_of m nmi suffix g
+module _ (m nmi suffix : List ℕ) (g : Given) {o : Option Header} (e : o ≡ opened_of m) where
+  pub put-21 : o ≡ None → {a : Answer} → a ≡ refusal 21 → left a m ≡ put_of m nmi suffix g
   unfolding put_of
   put-21 q p = rw (opened-not m e q, p)
 
-pub opens : (m : List ℕ) {o : Opened} → o ≡ opened_of m → {h : Header} → o ≡ Is h → Opens m h
+pub opens : (m : List ℕ) {o : Option Header} → o ≡ opened_of m → {h : Header} → o ≡ Some h → Opens m h
 opens m e q = record { store = opened-store m e q; header = opened-header m e q }

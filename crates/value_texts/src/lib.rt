@@ -10,18 +10,11 @@ use field_texts::values::{put_value, value_len};
 use text::bytes::put_byte;
 use value_rules::tens;
 
-// The bytes of a day's values, if each value is fit.
-#[derive(Clone, Copy)]
-pub enum Measured {
-    Bytes(usize),
-    Unfit,
-}
-
 // A value is below this.
 const LIMIT: u64 = 10000000000000;
 
-// Where values have at most d decimals. More than six are as six: a value has no smaller part.
-pub fn measure_values(values: &[u64], d: usize) -> Measured
+// The bytes of a day's values, if each value is fit, where values have at most d decimals. More than six are as six: a value has no smaller part.
+pub fn measure_values(values: &[u64], d: usize) -> Option<usize>
     requires { length values.now ≤ 288 }
     ensures { result ≡ measure_of d values.now }
 {
@@ -31,15 +24,15 @@ pub fn measure_values(values: &[u64], d: usize) -> Measured
     while i < values.len() {
         let v = values[i];
         if LIMIT <= v {
-            return Measured::Unfit;
+            return None;
         }
         if v % part != 0 {
-            return Measured::Unfit;
+            return None;
         }
         bytes += value_len(v) + 1;
         i += 1;
     }
-    Measured::Bytes(bytes)
+    Some(bytes)
 }
 
 pub fn put_values(room: &mut [u8], at: usize, values: &[u64]) -> usize

@@ -8,8 +8,8 @@ returns-then-h-i c = search (get-21, get-14, get-read)
 pub read_block-requires : goal.read_block-requires
 read_block-requires c = search slot-readable
 
-pub returns-in-Not : goal.returns-in-Not
-returns-in-Not c = search (get-21, get-14, get-read)
+pub returns-in-None : goal.returns-in-None
+returns-in-None c = search (get-21, get-14, get-read)
 
 pub returns-else-h-i : goal.returns-else-h-i
 returns-else-h-i c = search (get-21, get-14, get-read)

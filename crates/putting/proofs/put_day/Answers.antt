@@ -6,8 +6,8 @@ use Rattle.putting.proofs.put_day.Goals as goal
 pub put_opened-requires : goal.put_opened-requires
 put_opened-requires c = search opens
 
-pub returns-in-Not : goal.returns-in-Not
-returns-in-Not c = search (put-21, rules)
+pub returns-in-None : goal.returns-in-None
+returns-in-None c = search (put-21, rules)
 
-pub returns-in-Is : goal.returns-in-Is
-returns-in-Is c = search (put-21, rules)
+pub returns-in-Some : goal.returns-in-Some
+returns-in-Some c = search (put-21, rules)

@@ -9,8 +9,8 @@ returns-then-h-i c = search sum-14
 pub sum_block-requires : goal.sum_block-requires
 sum_block-requires c = search slot-readable
 
-pub returns-in-Not : goal.returns-in-Not
-returns-in-Not c = search sum-21
+pub returns-in-None : goal.returns-in-None
+returns-in-None c = search sum-21
 
 pub returns-else-h-i : goal.returns-else-h-i
 returns-else-h-i c = search sum-there
