@@ -1,4 +1,5 @@
 -- An answer is known from the paper's number and values: no two cases of an enum stand for the same. Assumes nothing.
+use Rattle.std.proofs.Common.{Result, Ok, Err, Option}
 use mathlib.Core.Path.{◌≡◌, refl, ap}
 use Prim.Native.Nat.{ℕ}
 use Rattle.format.specs.Answers.{refused_as, checked_as, day_read_as, totalled_as, written_as}
@@ -7,8 +8,6 @@ use Rattle.format.specs.declared.Checked.{Checked}
 use Rattle.format.specs.declared.Checked.TheVariants as checked
 use Rattle.format.specs.declared.DayRead.{DayRead}
 use Rattle.format.specs.declared.DayRead.TheVariants as dayRead
-use Rattle.format.specs.declared.Totalled.{Totalled}
-use Rattle.format.specs.declared.Totalled.TheVariants as totalled
 use Rattle.format.specs.declared.Written.{Written}
 use Rattle.format.specs.declared.Written.TheVariants as written
 use Rattle.whose.specs.Whose.{day_found_as}
@@ -18,18 +17,8 @@ use Rattle.replacing.specs.Replace.{replaced_as}
 use Rattle.replacing.specs.declared.Replaced.{Replaced}
 use Rattle.replacing.specs.declared.Replaced.TheVariants as replaced
 use Rattle.store.specs.Calls.{made_as, kept_as, slot_read_as}
-use Rattle.store.specs.declared.Made.{Made}
-use Rattle.store.specs.declared.Made.TheVariants as made
-use Rattle.store.specs.declared.Kept.{Kept}
-use Rattle.store.specs.declared.Kept.TheVariants as kept
-use Rattle.store.specs.declared.SlotRead.{SlotRead}
-use Rattle.store.specs.declared.SlotRead.TheVariants as slotRead
 use Rattle.tenants.specs.Calls.{versioned_as}
-use Rattle.tenants.specs.declared.Versioned.{Versioned}
-use Rattle.tenants.specs.declared.Versioned.TheVariants as versioned
 use Rattle.splits.specs.Calls.{split_as}
-use Rattle.splits.specs.declared.Split.{Split}
-use Rattle.splits.specs.declared.Split.TheVariants as split
 use Rattle.months.specs.Month.{days_read_as}
 use Rattle.months.specs.declared.DaysRead.{DaysRead}
 use Rattle.months.specs.declared.DaysRead.TheVariants as daysRead
@@ -59,11 +48,11 @@ day-read-one (dayRead.Read a b c d u) (dayRead.Refused y) e = cc
 day-read-one (dayRead.Refused x) (dayRead.Read w k l m v) e = cc
 day-read-one (dayRead.Refused x) (dayRead.Refused y) e = ap dayRead.Refused (refusal-one x y e)
 
-pub totalled-one : (x y : Totalled) → totalled_as x ≡ totalled_as y → x ≡ y
-totalled-one (totalled.Total v) (totalled.Total w) e = cc
-totalled-one (totalled.Total v) (totalled.Refused y) e = cc
-totalled-one (totalled.Refused x) (totalled.Total w) e = cc
-totalled-one (totalled.Refused x) (totalled.Refused y) e = ap totalled.Refused (refusal-one x y e)
+pub totalled-one : (x y : Result ℕ Refusal) → totalled_as x ≡ totalled_as y → x ≡ y
+totalled-one (Ok v) (Ok w) e = cc
+totalled-one (Ok v) (Err y) e = cc
+totalled-one (Err x) (Ok w) e = cc
+totalled-one (Err x) (Err y) e = ap Err (refusal-one x y e)
 
 pub written_one : (x y : Written) → written_as x ≡ written_as y → x ≡ y
 written_one (written.Block a b) (written.Block c d) e = cc
@@ -89,37 +78,37 @@ replaced-one (replaced.Length a) (replaced.Refused y) e = cc
 replaced-one (replaced.Refused x) (replaced.Length b) e = cc
 replaced-one (replaced.Refused x) (replaced.Refused y) e = ap replaced.Refused (refusal-one x y e)
 
-pub made_one : (x y : Made) → made_as x ≡ made_as y → x ≡ y
-made_one (made.Room a) (made.Room b) e = cc
-made_one (made.Room a) (made.Refused y) e = cc
-made_one (made.Refused x) (made.Room b) e = cc
-made_one (made.Refused x) (made.Refused y) e = ap made.Refused (refusal-one x y e)
+pub made_one : (x y : Result ℕ Refusal) → made_as x ≡ made_as y → x ≡ y
+made_one (Ok a) (Ok b) e = cc
+made_one (Ok a) (Err y) e = cc
+made_one (Err x) (Ok b) e = cc
+made_one (Err x) (Err y) e = ap Err (refusal-one x y e)
 
-pub kept-one : (x y : Kept) → kept_as x ≡ kept_as y → x ≡ y
-kept-one (kept.Days a) (kept.Days b) e = cc
-kept-one (kept.Days a) (kept.Refused y) e = cc
-kept-one (kept.Refused x) (kept.Days b) e = cc
-kept-one (kept.Refused x) (kept.Refused y) e = ap kept.Refused (refusal-one x y e)
+pub kept-one : (x y : Result ℕ Refusal) → kept_as x ≡ kept_as y → x ≡ y
+kept-one (Ok a) (Ok b) e = cc
+kept-one (Ok a) (Err y) e = cc
+kept-one (Err x) (Ok b) e = cc
+kept-one (Err x) (Err y) e = ap Err (refusal-one x y e)
 
-pub slot-read-one : (x y : SlotRead) → slot_read_as x ≡ slot_read_as y → x ≡ y
+pub slot-read-one : (x y : Result (Option Slot) Refusal) → slot_read_as x ≡ slot_read_as y → x ≡ y
 slot-read-one slotRead.Free slotRead.Free e = refl
 slot-read-one slotRead.Free (slotRead.Used i j k l m n o p) e = cc
-slot-read-one slotRead.Free (slotRead.Refused y) e = cc
+slot-read-one slotRead.Free (Err y) e = cc
 slot-read-one (slotRead.Used a b c d g h q r) slotRead.Free e = cc
 slot-read-one (slotRead.Used a b c d g h q r) (slotRead.Used i j k l m n o p) e = cc
-slot-read-one (slotRead.Used a b c d g h q r) (slotRead.Refused y) e = cc
-slot-read-one (slotRead.Refused x) slotRead.Free e = cc
-slot-read-one (slotRead.Refused x) (slotRead.Used i j k l m n o p) e = cc
-slot-read-one (slotRead.Refused x) (slotRead.Refused y) e = ap slotRead.Refused (refusal-one x y e)
+slot-read-one (slotRead.Used a b c d g h q r) (Err y) e = cc
+slot-read-one (Err x) slotRead.Free e = cc
+slot-read-one (Err x) (slotRead.Used i j k l m n o p) e = cc
+slot-read-one (Err x) (Err y) e = ap Err (refusal-one x y e)
 
-pub versioned-one : (x y : Versioned) → versioned_as x ≡ versioned_as y → x ≡ y
-versioned-one (versioned.Version a) (versioned.Version b) e = cc
-versioned-one (versioned.Version a) (versioned.Refused y) e = cc
-versioned-one (versioned.Refused x) (versioned.Version b) e = cc
-versioned-one (versioned.Refused x) (versioned.Refused y) e = ap versioned.Refused (refusal-one x y e)
+pub versioned-one : (x y : Result ℕ Refusal) → versioned_as x ≡ versioned_as y → x ≡ y
+versioned-one (Ok a) (Ok b) e = cc
+versioned-one (Ok a) (Err y) e = cc
+versioned-one (Err x) (Ok b) e = cc
+versioned-one (Err x) (Err y) e = ap Err (refusal-one x y e)
 
-pub split_one : (x y : Split) → split_as x ≡ split_as y → x ≡ y
-split_one (split.Done a) (split.Done b) e = cc
-split_one (split.Done a) (split.Refused y) e = cc
-split_one (split.Refused x) (split.Done b) e = cc
-split_one (split.Refused x) (split.Refused y) e = ap split.Refused (refusal-one x y e)
+pub split_one : (x y : Result ℕ Refusal) → split_as x ≡ split_as y → x ≡ y
+split_one (Ok a) (Ok b) e = cc
+split_one (Ok a) (Err y) e = cc
+split_one (Err x) (Ok b) e = cc
+split_one (Err x) (Err y) e = ap Err (refusal-one x y e)

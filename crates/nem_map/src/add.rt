@@ -8,7 +8,6 @@ use machine::{Machine, PAGE};
 use outward::{FAILED, REFUSED, complain};
 use page::texts::{part, put};
 use tenant_map::add_version;
-use tenants::Versioned;
 
 // The word that names the table's file.
 const TABLE: usize = 5;
@@ -31,8 +30,8 @@ fn add_given(
     shares: &[u16],
 ) -> u8 {
     match add_version(map, first, keys, shares) {
-        Versioned::Version(_) => keep_appended(rt, page, map),
-        Versioned::Refused(x) => {
+        Ok(_) => keep_appended(rt, page, map),
+        Err(x) => {
             of_adding(rt, page, x, map);
             REFUSED
         }

@@ -5,12 +5,11 @@ use super::refused::of_going_back;
 use machine::Machine;
 use outward::{FAILED, REFUSED};
 use tenant_map::back_to;
-use tenants::Versioned;
 
 fn go_back(rt: &impl Machine, page: &mut [u8], map: &mut [u8], k: u64, first: u32) -> u8 {
     match back_to(map, k as usize, first) {
-        Versioned::Version(_) => keep_appended(rt, page, map),
-        Versioned::Refused(x) => {
+        Ok(_) => keep_appended(rt, page, map),
+        Err(x) => {
             of_going_back(rt, page, x, map);
             REFUSED
         }

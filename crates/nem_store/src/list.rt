@@ -8,7 +8,7 @@ use page::texts::part;
 use records::text_at;
 use settling::live_bytes;
 use slot_reading::read_slot;
-use store::{Header, SlotRead};
+use store::Header;
 use units::Spelling;
 
 fn headed(rt: &impl Machine, page: &mut [u8]) -> u8 {

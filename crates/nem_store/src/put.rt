@@ -18,7 +18,6 @@ use page::texts::part;
 use putting::put_day;
 use records::{NMI, SUFFIX, field};
 use refusals::headline;
-use store::Kept;
 use store_lines::{day as which_day, kept, summary};
 
 // The word that names the file.
@@ -91,8 +90,8 @@ fn put_one(
     match put_day(
         store, nmi, suffix, day, values, flags, methods, reasons, starts, lengths, file,
     ) {
-        Kept::Days(held) => is_kept(rt, page, p, before, held),
-        Kept::Refused(x) => not_kept(rt, page, p, before, x),
+        Ok(held) => is_kept(rt, page, p, before, held),
+        Err(x) => not_kept(rt, page, p, before, x),
     }
 }
 

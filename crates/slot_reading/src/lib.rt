@@ -10,11 +10,11 @@ use kept_days::update_of;
 use little::u32_at;
 use opening::{Opened, open_store};
 use slots::{place, read_entry};
-use store::{Header, SlotRead};
+use store::Header;
 use used_map::is_used;
 
 // A slot in use.
-fn read_used(memory: &[u8], h: Header, i: u32) -> SlotRead
+fn read_used(memory: &[u8], h: Header, i: u32) -> Result<Option<Slot>, Refusal>
     ensures { slot_read_as result ≡ slot_says memory.now h (slot_place h i) (slot_of memory.now h i) }
 {
     let at = place(h, i);
@@ -32,11 +32,11 @@ fn read_used(memory: &[u8], h: Header, i: u32) -> SlotRead
     }
 }
 
-fn read_opened(memory: &[u8], h: Header, slot: usize) -> SlotRead
+fn read_opened(memory: &[u8], h: Header, slot: usize) -> Result<Option<Slot>, Refusal>
     ensures { slot_read_as result ≡ slot_read_of memory.now h slot }
 {
     if h.slots as usize <= slot {
-        return SlotRead::Refused(Refusal::bare(14));
+        return Err(Refusal::bare(14));
     }
     let i = slot as u32;
     if is_used(h.map, i) {
@@ -46,12 +46,12 @@ fn read_opened(memory: &[u8], h: Header, slot: usize) -> SlotRead
 }
 
 // What the slot of a number from 0 holds, its places being places in memory; 21 if that is no store, 14 if it has no such slot.
-pub fn read_slot(memory: &[u8], slot: usize) -> SlotRead
+pub fn read_slot(memory: &[u8], slot: usize) -> Result<Option<Slot>, Refusal>
     ensures { slot_read_as result ≡ read_slot_of memory.now slot }
 {
     let o = open_store(memory);
     match o {
-        Opened::Not => SlotRead::Refused(Refusal::bare(21)),
+        Opened::Not => Err(Refusal::bare(21)),
         Opened::Is(h) => read_opened(memory, h, slot),
     }
 }

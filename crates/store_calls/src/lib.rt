@@ -14,6 +14,7 @@ ghost use Rattle.entries.specs.Left.{left};
 ghost use Rattle.store.specs.Calls.{kept_as, make_of, put_of, delete_of, get_of, read_slot_of};
 ghost use Rattle.store_calls.specs.Lines.{make_text, change_text, slot_text};
 
+use format::Refusal;
 use calls::PLACES;
 use calls::files::{BYTE_MARK, HALF_MARK, SIZE_MARK, WIDE_MARK, day_shown};
 use calls::kept::end_line;
@@ -26,11 +27,10 @@ use making::make_store;
 use page::texts::part;
 use putting::put_day;
 use slot_reading::read_slot;
-use store::{Kept, Made};
 use text::bytes::put_bytes;
 
 // The line of a put or a delete.
-fn changed(page: &mut [u8], at: usize, x: Kept, memory: &[u8], was: &[u8]) -> usize
+fn changed(page: &mut [u8], at: usize, x: Result<usize, Refusal>, memory: &[u8], was: &[u8]) -> usize
     ensures { Filled page.old at (change_text (left (kept_as x) memory.now) was.now) result page.new }
 {
     let p = said_lines::kept(page, at, x);

@@ -4,30 +4,30 @@ ghost use Rattle.answer_lines.specs.Lines.{line_of};
 ghost use Rattle.store.specs.Calls.{made_as, kept_as, slot_read_as};
 ghost use Rattle.store_calls.specs.Lines.{slot_text};
 
+use format::Refusal;
 use answer_lines::answers::{accepted, refusal};
 use page::texts::put;
-use store::{Kept, Made, SlotRead};
 
-pub fn made(page: &mut [u8], at: usize, x: Made) -> usize
+pub fn made(page: &mut [u8], at: usize, x: Result<usize, Refusal>) -> usize
     ensures { Filled page.old at (line_of (made_as x)) result page.new }
 {
     match x {
-        Made::Room(n) => accepted(page, at, &[n as u64]),
-        Made::Refused(x) => refusal(page, at, x),
+        Ok(n) => accepted(page, at, &[n as u64]),
+        Err(x) => refusal(page, at, x),
     }
 }
 
-pub fn kept(page: &mut [u8], at: usize, x: Kept) -> usize
+pub fn kept(page: &mut [u8], at: usize, x: Result<usize, Refusal>) -> usize
     ensures { Filled page.old at (line_of (kept_as x)) result page.new }
 {
     match x {
-        Kept::Days(n) => accepted(page, at, &[n as u64]),
-        Kept::Refused(x) => refusal(page, at, x),
+        Ok(n) => accepted(page, at, &[n as u64]),
+        Err(x) => refusal(page, at, x),
     }
 }
 
 // With the line's end.
-pub fn slot(page: &mut [u8], at: usize, x: SlotRead) -> usize
+pub fn slot(page: &mut [u8], at: usize, x: Result<Option<Slot>, Refusal>) -> usize
     ensures { Filled page.old at (slot_text (slot_read_as x)) result page.new }
 {
     match x {
@@ -58,7 +58,7 @@ pub fn slot(page: &mut [u8], at: usize, x: SlotRead) -> usize
             );
             put(page, p, b"\n")
         }
-        SlotRead::Refused(x) => {
+        Err(x) => {
             let p = refusal(page, at, x);
             put(page, p, b"\n")
         }

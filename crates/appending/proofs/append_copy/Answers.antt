@@ -5,10 +5,10 @@ use native.Mathlib.Omega.{arith}
 use Rattle.appending.proofs.append_copy.Goals as goal
 
 pub put_copy-requires : goal.put_copy-requires
-put_copy-requires c = let m = mapping c.args.memory.now c.requires.0 in let g = goes c.args.memory.now c.args.first c.next_version-x.ensures c.in-Behind.n c.in-Behind.is in (omega (arith, m.long), g.count, g.few, omega (arith, g.count))
+put_copy-requires c = let m = mapping c.args.memory.now c.requires.0 in let g = goes c.args.memory.now c.args.first c.next_version-x.ensures c.in-Ok.n c.in-Ok.is in (omega (arith, m.long), g.count, g.few, omega (arith, g.count))
 
-pub returns-in-Behind : goal.returns-in-Behind
-returns-in-Behind c = search (append-done, goes)
+pub returns-in-Ok : goal.returns-in-Ok
+returns-in-Ok c = search (append-done, goes)
 
-pub returns-in-Refused : goal.returns-in-Refused
-returns-in-Refused c = search append-refused
+pub returns-in-Err : goal.returns-in-Err
+returns-in-Err c = search append-refused

@@ -9,10 +9,10 @@ pub returns-then-not-good_key : goal.returns-then-not-good_key
 returns-then-not-good_key c = search put-16
 
 pub put_block-requires : goal.put_block-requires
-put_block-requires c = puttable c.requires _ _ _ c.good_key.ensures (ap not c.if-not-good_key.false) c.measure_day-w.ensures c.in-Block.is refl
+put_block-requires c = puttable c.requires _ _ _ c.good_key.ensures (ap not c.if-not-good_key.false) c.measure_day-w.ensures c.in-Ok.is refl
 
-pub returns-in-Refused : goal.returns-in-Refused
-returns-in-Refused c = search (put-unfit, put_fit_lem)
+pub returns-in-Err : goal.returns-in-Err
+returns-in-Err c = search (put-unfit, put_fit_lem)
 
-pub returns-in-Block : goal.returns-in-Block
-returns-in-Block c = search (put-unfit, put_fit_lem)
+pub returns-in-Ok : goal.returns-in-Ok
+returns-in-Ok c = search (put-unfit, put_fit_lem)

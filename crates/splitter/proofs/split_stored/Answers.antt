@@ -2,8 +2,8 @@
 use Rattle.splitter.proofs.Days.{stored_refused, stored-split}
 use Rattle.splitter.proofs.split_stored.Goals as goal
 
-pub returns-in-Refused : goal.returns-in-Refused
-returns-in-Refused c = search stored_refused
+pub returns-in-Err : goal.returns-in-Err
+returns-in-Err c = search stored_refused
 
-pub returns-in-Total : goal.returns-in-Total
-returns-in-Total c = search stored-split
+pub returns-in-Ok : goal.returns-in-Ok
+returns-in-Ok c = search stored-split

@@ -8,5 +8,5 @@ returns-in-Free c = search (used-slot, no_slot, free-slot)
 pub returns-in-Used : goal.returns-in-Used
 returns-in-Used c = search (used-slot, no_slot, free-slot)
 
-pub returns-in-Refused : goal.returns-in-Refused
-returns-in-Refused c = search (used-slot, no_slot, free-slot)
+pub returns-in-Err : goal.returns-in-Err
+returns-in-Err c = search (used-slot, no_slot, free-slot)
