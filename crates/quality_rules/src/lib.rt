@@ -7,36 +7,29 @@ ghost use Rattle.std.specs.Prelude.{◌≡◌};
 ghost use Rattle.format.specs.Quality.{quality_of, across};
 
 use flags::{needs_reason, stands_alone, takes_method};
-use format::Graded;
+use format::Grade;
 use leaf::digits::digits;
 
 // The quality that a field of a record of the kind says.
-pub fn quality(f: &[u8], kind: u64) -> Graded
+pub fn quality(f: &[u8], kind: u64) -> Option<Grade>
     ensures { result ≡ quality_of kind f.now }
 {
     let n = f.len();
     if n == 0 {
-        return Graded::Bad;
+        return None;
     }
-    let q = f[0];
-    if stands_alone(kind, q) {
+    let flag = f[0];
+    if stands_alone(kind, flag) {
         if n == 1 {
-            return Graded::Of(q, 255);
+            return Some(Grade { flag, method: 255 });
         }
-        return Graded::Bad;
+        return None;
     }
-    if takes_method(q) {
-        let m = digits(&f[1..], 2, 2);
-        match m {
-            Some(v) => {
-                return Graded::Of(q, v as u8);
-            }
-            None => {
-                return Graded::Bad;
-            }
-        }
+    if takes_method(flag) {
+        let method = digits(&f[1..], 2, 2)? as u8;
+        return Some(Grade { flag, method });
     }
-    Graded::Bad
+    None
 }
 
 // A flag, a reason and a description of so many bytes may stand together: S and F need a reason, reason 0 needs a description, V has neither.

@@ -2,11 +2,10 @@
 #![tactic(auto)]
 
 ghost use Rattle.std.specs.Prelude.{◌≡◌, ◌≤◌, get_or};
-ghost use Rattle.format.specs.Quality.{is_graded};
 ghost use Rattle.format.specs.Records.{scale, row100, row200, row300, row400, row500, row250, row550, count_of, rule_of, obeys};
 ghost use Rattle.format.specs.declared.Rule.TheVariants.{Indicator};
 
-use format::{Graded, Rule};
+use format::Rule;
 use quick_values::{is_read, is_value};
 use value_rules::up_to_six;
 
@@ -164,15 +163,6 @@ pub fn count_of(kind: u64, n: usize) -> usize
     }
 }
 
-fn is_graded(g: Graded) -> bool
-    ensures { result ≡ is_graded g }
-{
-    match g {
-        Graded::Of(_, _) => true,
-        Graded::Bad => false,
-    }
-}
-
 // The field meets its rule, in a record of the kind.
 pub fn obeys(kind: u64, rule: Rule, f: &[u8]) -> bool
     ensures { result ≡ obeys kind rule f.now }
@@ -193,7 +183,7 @@ pub fn obeys(kind: u64, rule: Rule, f: &[u8]) -> bool
         Rule::NextRead => date_rules::next_read_date(f).is_some(),
         Rule::Date => date_rules::date(f).is_some(),
         Rule::Value(d) => is_value(f, up_to_six(d)),
-        Rule::Quality => is_graded(quality_rules::quality(f, kind)),
+        Rule::Quality => quality_rules::quality(f, kind).is_some(),
         Rule::Reason => number_rules::reason(f).is_some(),
         Rule::Description => text_rules::description(f),
         Rule::Time => date_rules::time(f).is_some(),

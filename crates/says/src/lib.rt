@@ -12,19 +12,9 @@ ghost use Rattle.format.specs.Quality.{flag_in, method_in};
 ghost use Rattle.format.specs.Records.{kind_in, millionths};
 ghost use Rattle.format.specs.Day.{row_at, tag_at};
 
-use format::{Graded, Tag};
+use format::{Grade, Tag};
 use lines::pieces::{field_at, first_field};
 use units::named_decimals;
-
-// The number, 0 where there is none.
-pub fn number_in(x: Option<u64>) -> u64
-    ensures { result ≡ number_in x }
-{
-    match x {
-        Some(v) => v,
-        None => 0,
-    }
-}
 
 // The kind of the record, 0 where its first field is no indicator. Three bytes with a comma behind them are tried first: where they name a kind, they are the field.
 pub fn kind_at(file: &[u8], at: usize, e: usize) -> u64
@@ -34,21 +24,19 @@ pub fn kind_at(file: &[u8], at: usize, e: usize) -> u64
     if 3 < e - at {
         let z = at + 3;
         if file[z] == 44 {
-            let x = quick_kinds::indicator(&file[at..z]);
-            match x {
-                Some(k) => return k,
-                None => {}
+            if let Some(k) = quick_kinds::indicator(&file[at..z]) {
+                return k;
             }
         }
     }
-    number_in(number_rules::indicator(first_field(file, at, e)))
+    number_rules::indicator(first_field(file, at, e)).unwrap_or(0)
 }
 
 pub fn version_at(file: &[u8], a: usize, e: usize) -> u64
     requires { (a ≤ e) × (e ≤ length file.now) }
     ensures { result ≡ number_in (version_of (field 0 (fields (part file.now a e)))) }
 {
-    number_in(text_rules::version(first_field(file, a, e)))
+    text_rules::version(first_field(file, a, e)).unwrap_or(0)
 }
 
 // n, where the field is the interval length.
@@ -56,7 +44,7 @@ pub fn intervals_at(file: &[u8], a: usize, e: usize) -> usize
     requires { (a ≤ e) × (e ≤ length file.now) }
     ensures { result ≡ intervals_of (number_in (length_of (field 0 (fields (part file.now a e))))) }
 {
-    number_rules::intervals(number_in(number_rules::interval_length(first_field(file, a, e))))
+    number_rules::intervals(number_rules::interval_length(first_field(file, a, e)).unwrap_or(0))
 }
 
 // The number of the unit that the field names.
@@ -64,7 +52,7 @@ pub fn unit_at(file: &[u8], a: usize, e: usize) -> u8
     requires { (a ≤ e) × (e ≤ length file.now) }
     ensures { result ≡ number_in (unit_of (field 0 (fields (part file.now a e)))) }
 {
-    number_in(units::number(first_field(file, a, e))) as u8
+    units::number(first_field(file, a, e)).unwrap_or(0) as u8
 }
 
 pub fn date_at(file: &[u8], a: usize, e: usize) -> u64
@@ -72,14 +60,14 @@ pub fn date_at(file: &[u8], a: usize, e: usize) -> u64
     ensures is { result ≡ number_in (date_of (field 0 (fields (part file.now a e)))) }
     ensures small { result < 10 ^ 8 }
 {
-    number_in(date_rules::date(first_field(file, a, e)))
+    date_rules::date(first_field(file, a, e)).unwrap_or(0)
 }
 
 pub fn read_time_at(file: &[u8], a: usize, e: usize) -> u64
     requires { (a ≤ e) × (e ≤ length file.now) }
     ensures { result ≡ number_in (read_time_of (field 0 (fields (part file.now a e)))) }
 {
-    number_in(date_rules::read_time(first_field(file, a, e)))
+    date_rules::read_time(first_field(file, a, e)).unwrap_or(0)
 }
 
 // An update time.
@@ -87,14 +75,14 @@ pub fn time_at(file: &[u8], a: usize, e: usize) -> u64
     requires { (a ≤ e) × (e ≤ length file.now) }
     ensures { result ≡ number_in (time_of (field 0 (fields (part file.now a e)))) }
 {
-    number_in(date_rules::time(first_field(file, a, e)))
+    date_rules::time(first_field(file, a, e)).unwrap_or(0)
 }
 
 pub fn load_time_at(file: &[u8], a: usize, e: usize) -> u64
     requires { (a ≤ e) × (e ≤ length file.now) }
     ensures { result ≡ number_in (load_of (field 0 (fields (part file.now a e)))) }
 {
-    number_in(date_rules::load_time(first_field(file, a, e)))
+    date_rules::load_time(first_field(file, a, e)).unwrap_or(0)
 }
 
 // A value or a quantity, in millionths.
@@ -102,7 +90,7 @@ pub fn value_of(f: &[u8]) -> u64
     ensures is { result ≡ millionths f.now }
     ensures small { result < 10 ^ 13 }
 {
-    number_in(value_rules::value(f, 6))
+    value_rules::value(f, 6).unwrap_or(0)
 }
 
 // A 400's start or end.
@@ -111,31 +99,13 @@ pub fn interval_at(file: &[u8], a: usize, e: usize) -> usize
     ensures is { result ≡ number_in (interval_of (field 0 (fields (part file.now a e)))) }
     ensures small { result < 10000 }
 {
-    number_in(number_rules::interval(first_field(file, a, e))) as usize
-}
-
-fn flag_in(g: Graded) -> u8
-    ensures { result ≡ flag_in g }
-{
-    match g {
-        Graded::Of(q, _) => q,
-        Graded::Bad => 0,
-    }
-}
-
-fn method_in(g: Graded) -> u8
-    ensures { result ≡ method_in g }
-{
-    match g {
-        Graded::Of(_, m) => m,
-        Graded::Bad => 255,
-    }
+    number_rules::interval(first_field(file, a, e)).unwrap_or(0) as usize
 }
 
 fn reason_of(f: &[u8]) -> u16
     ensures { result ≡ number_in (reason_of f.now) }
 {
-    number_in(number_rules::reason(f)) as u16
+    number_rules::reason(f).unwrap_or(0) as u16
 }
 
 // The place of a stretch, 0 where it is empty.
@@ -147,6 +117,12 @@ pub fn start_of(at: usize, length: usize) -> usize
     }
     at
 }
+
+// What a field says that is no quality.
+const UNGRADED: Grade = Grade {
+    flag: 0,
+    method: 255,
+};
 
 // The quality, reason and description that stand from a on, in a record of the kind.
 pub fn tag_at(file: &[u8], a: usize, e: usize, kind: u64) -> Tag
@@ -161,10 +137,10 @@ pub fn tag_at(file: &[u8], a: usize, e: usize, kind: u64) -> Tag
     let y = r.next;
     let d = field_at(file, y, e);
     let n = d.to - y;
-    let g = quality_rules::quality(&file[a..b], kind);
+    let g = quality_rules::quality(&file[a..b], kind).unwrap_or(UNGRADED);
     Tag {
-        flag: flag_in(g),
-        method: method_in(g),
+        flag: g.flag,
+        method: g.method,
         reason: reason_of(&file[x..c]),
         start: start_of(y, n),
         length: n,

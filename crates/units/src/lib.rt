@@ -153,8 +153,7 @@ pub fn named_decimals(f: &[u8]) -> usize
     ensures is { result ≡ decimals_named f.now }
     ensures few { result ≤ 6 }
 {
-    let x = number(f);
-    match x {
+    match number(f) {
         Some(u) => decimals(u as u8),
         None => 6,
     }

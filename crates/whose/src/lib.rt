@@ -18,7 +18,7 @@ use format::{Checked, Refusal};
 use lines::line_end;
 use lines::pieces::first_field;
 use number_rules::interval_length;
-use says::{kind_at, number_in};
+use says::kind_at;
 
 // What is found of a day. The channel has its number from 0, NMI and suffix are places in the file, the unit is its number in the table of units, the length
 // is the interval's in minutes. The block starts at its 300 and ends behind the CR LF of its last record.
@@ -42,7 +42,7 @@ fn minutes_of(file: &[u8], a: usize, e: usize) -> u32
     ensures { result ≡ minutes_in (fields (part file.now a e)) }
 {
     let x = skip(file, a, e, 8);
-    number_in(interval_length(first_field(file, x, e))) as u32
+    interval_length(first_field(file, x, e)).unwrap_or(0) as u32
 }
 
 // A 400 or a 500, which stand under a 300.
