@@ -14,12 +14,6 @@ use output_bytes::put_outputs;
 use versions::{MOST, count, latest_date, may_follow, place};
 
 // Whether a version may be added: behind how many, or the number of the refusal.
-#[derive(Clone, Copy)]
-enum Next {
-    Behind(u32),
-    Refused(u64),
-}
-
 fn next_version(memory: &[u8], first: u32) -> Result<u32, u64>
     ensures { result ≡ next_of memory.now first }
 {
@@ -60,14 +54,9 @@ pub fn append_given(memory: &mut [u8], first: u32, keys: &[u8], shares: &[u16]) 
     requires { (is_map memory.old ≡ true) × (1536 ≤ length keys.now) × (128 ≤ length shares.now) }
     ensures { left (versioned_as result) memory.new ≡ append_of memory.old (version first (kept_given keys.now shares.now)) }
 {
-    let x = next_version(memory, first);
-    match x {
-        Ok(n) => {
-            put_given(memory, n, first, keys, shares);
-            Ok(n as usize + 1)
-        }
-        Err(number) => Err(Refusal::bare(number)),
-    }
+    let n = next_version(memory, first).map_err(Refusal::bare)?;
+    put_given(memory, n, first, keys, shares);
+    Ok(n as usize + 1)
 }
 
 // A version with the entries of the one behind k others.
@@ -75,12 +64,7 @@ pub fn append_copy(memory: &mut [u8], k: u32, first: u32) -> Result<usize, Refus
     requires { (is_map memory.old ≡ true) × (k < count_in memory.old) }
     ensures { left (versioned_as result) memory.new ≡ append_of memory.old (version first (outputs_of (versions_in memory.old) (k + 1))) }
 {
-    let x = next_version(memory, first);
-    match x {
-        Ok(n) => {
-            put_copy(memory, n, k, first);
-            Ok(n as usize + 1)
-        }
-        Err(number) => Err(Refusal::bare(number)),
-    }
+    let n = next_version(memory, first).map_err(Refusal::bare)?;
+    put_copy(memory, n, k, first);
+    Ok(n as usize + 1)
 }

@@ -1,12 +1,11 @@
 -- The tickets of 02, 12: "the file's refusal, 14 for the day". A day of a file that was looked for by its number from 0.
-use Rattle.std.specs.Prelude.{ℕ, ◌≤◌, List, [], ◌∷◌, length, drop}
+use Rattle.std.specs.Prelude.{ℕ, ◌≤◌, List, [], ◌∷◌, length, drop, Result, Ok, Err}
 use Rattle.format.specs.Answers.{Answer, accepted, refused, refusal, refused_as}
 use Rattle.format.specs.File.{check_of}
+use Rattle.format.specs.declared.Refusal.{Refusal}
 use Rattle.format.specs.Day.{DayRows, days_of}
 use Rattle.day.specs.Places.{Heads, day_at}
 use Rattle.day_sums.specs.declared.DayAt.{DayAt}
-use Rattle.day_sums.specs.declared.DaySought.{DaySought}
-use Rattle.day_sums.specs.declared.DaySought.TheVariants.{Found, Refused}
 
 pub data Sought : Type 0 where
   found : DayRows → Sought
@@ -30,9 +29,9 @@ day_in file day = sought_after (check_of file) (sought_first (drop day (days_of 
 abbrev pub rows_of : List ℕ → DayAt → DayRows
 rows_of file d = day_at file d.start d.end d.under
 
-abbrev pub sought_as : List ℕ → DaySought → Sought
-sought_as file (Found d) = found (rows_of file d)
-sought_as file (Refused x) = missing (refused_as x)
+abbrev pub sought_as : List ℕ → Result DayAt Refusal → Sought
+sought_as file (Ok d) = found (rows_of file d)
+sought_as file (Err x) = missing (refused_as x)
 
 -- they lie in the file
 pub record Within (file : List ℕ) (d : DayAt) : Type 0 where
@@ -40,6 +39,6 @@ pub record Within (file : List ℕ) (d : DayAt) : Type 0 where
   pub inside : d.end ≤ length file
   pub heads : Heads file d.under
 
-abbrev pub within_as : List ℕ → DaySought → Type 0
-within_as file (Found d) = Within file d
-within_as file (Refused x) = Unit
+abbrev pub within_as : List ℕ → Result DayAt Refusal → Type 0
+within_as file (Ok d) = Within file d
+within_as file (Err x) = Unit

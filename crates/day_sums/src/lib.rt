@@ -16,7 +16,7 @@ use day::fields::skip;
 use day::head::head_at;
 use day::walk::{find_day, intervals_of};
 use day::{DayStart, Place, Under};
-use format::{Checked, Refusal};
+use format::Refusal;
 use lines::pieces::first_field;
 use sums::add_day;
 
@@ -33,40 +33,27 @@ pub struct DayAt {
     pub under: Under,
 }
 
-#[derive(Clone, Copy)]
-pub enum DaySought {
-    Found(DayAt),
-    Refused(Refusal),
-}
-
 // The day of a number from 0, in a file that was accepted, where a walk that came by has noted from where it is found.
-fn seek_noted(file: &[u8], day: usize, from: DayStart) -> DaySought
+fn seek_noted(file: &[u8], day: usize, from: DayStart) -> Result<DayAt, Refusal>
     requires { IsAccepted file.now × DayAhead file.now day from }
     ensures is { sought_as file.now result ≡ day_in file.now day }
     ensures within { within_as file.now result }
 {
     let place = find_day(file, day, from);
     match place {
-        Place::Missing => DaySought::Refused(Refusal::bare(14)),
-        Place::At(start, end, under) => DaySought::Found(DayAt { start, end, under }),
+        Place::Missing => Err(Refusal::bare(14)),
+        Place::At(start, end, under) => Ok(DayAt { start, end, under }),
     }
 }
 
 // The day of a number from 0. The file's own refusal comes first, then 14 if there is no such day.
-pub fn seek_day(file: &[u8], day: usize) -> DaySought
+pub fn seek_day(file: &[u8], day: usize) -> Result<DayAt, Refusal>
     ensures is { sought_as file.now result ≡ day_in file.now day }
     ensures within { within_as file.now result }
 {
     let t = check_and_note(file, day, 0);
-    let c = t.answer;
-    match c {
-        Checked::Refused(x) => DaySought::Refused(x),
-        Checked::Accepted {
-            version: _,
-            channels: _,
-            days: _,
-        } => seek_noted(file, day, t.day),
-    }
+    t.answer?;
+    seek_noted(file, day, t.day)
 }
 
 // A field of the day's 200, by its number from 0.

@@ -8,7 +8,7 @@ ghost use Rattle.store.specs.Calls.{kept_as, delete_from, delete_of};
 ghost use Rattle.settling.specs.Settling.{Settles};
 
 use format::Refusal;
-use opening::{Opened, open_store};
+use opening::open_store;
 use seeking::find_slot;
 use settling::settle;
 use slots::write_header;
@@ -42,15 +42,10 @@ fn keep_only(memory: &mut [u8], h: Header, map: u64) -> Result<usize, Refusal>
 pub fn delete_day(memory: &mut [u8], nmi: &[u8], suffix: &[u8], date: u32) -> Result<usize, Refusal>
     ensures { left (kept_as result) memory.new ≡ delete_of memory.old (key nmi.now suffix.now date) }
 {
-    let o = open_store(memory);
-    match o {
-        Opened::Not => Err(Refusal::bare(21)),
-        Opened::Is(h) => {
-            let i = find_slot(memory, h, nmi, suffix, date);
-            if h.slots <= i {
-                return Err(Refusal::bare(14));
-            }
-            keep_only(memory, h, set_free(h.map, i))
-        }
+    let h = open_store(memory).ok_or(Refusal::bare(21))?;
+    let i = find_slot(memory, h, nmi, suffix, date);
+    if h.slots <= i {
+        return Err(Refusal::bare(14));
     }
+    keep_only(memory, h, set_free(h.map, i))
 }

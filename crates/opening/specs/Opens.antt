@@ -1,4 +1,4 @@
--- A store with its header, or none.
+-- The header of what is a store.
 use Rattle.std.specs.Prelude.{ℕ, cond, List, Option, Some, None}
 use Rattle.store.specs.Head.{header_of}
 use Rattle.store.specs.Store.{is_store}

@@ -13,9 +13,9 @@ ghost use Rattle.entering.specs.Enters.{Enterable};
 ghost use Rattle.putting.specs.Steps.{block_given, Addable, Added, Opens, Puttable};
 
 use entering::enter_day;
-use format::{DayHead, Refusal, Written};
+use format::{DayHead, Refusal};
 use keys::good_key;
-use opening::{Opened, open_store};
+use opening::open_store;
 use seeking::find_slot;
 use settling::{live_bytes, settle};
 use store::Header;
@@ -148,14 +148,11 @@ fn put_opened(
     if !good_key(nmi, suffix, day.date) {
         return Err(Refusal::bare(16));
     }
-    let w = measure_day(day, values, flags, methods, reasons, starts, lengths, text);
-    match w {
-        Written::Refused(x) => Err(x),
-        Written::Block { bytes, records } => put_block(
-            memory, h, nmi, suffix, day, values, flags, methods, reasons, starts, lengths, text,
-            bytes, records,
-        ),
-    }
+    let w = measure_day(day, values, flags, methods, reasons, starts, lengths, text)?;
+    put_block(
+        memory, h, nmi, suffix, day, values, flags, methods, reasons, starts, lengths, text,
+        w.bytes, w.records,
+    )
 }
 
 // Puts a day under its key, as its shortest block, and answers the days held then. 21 if the memory is no store; 16 if NMI, suffix and the day's date are no good
@@ -176,11 +173,8 @@ pub fn put_day(
 ) -> Result<usize, Refusal>
     ensures { left (kept_as result) memory.new ≡ put_of memory.old nmi.now suffix.now (given day values.now flags.now methods.now reasons.now starts.now lengths.now text.now) }
 {
-    let o = open_store(memory);
-    match o {
-        Opened::Not => Err(Refusal::bare(21)),
-        Opened::Is(h) => put_opened(
-            memory, h, nmi, suffix, day, values, flags, methods, reasons, starts, lengths, text,
-        ),
-    }
+    let h = open_store(memory).ok_or(Refusal::bare(21))?;
+    put_opened(
+        memory, h, nmi, suffix, day, values, flags, methods, reasons, starts, lengths, text,
+    )
 }

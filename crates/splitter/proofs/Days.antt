@@ -27,8 +27,6 @@ use Rattle.tenant_map.proofs.Asks.{on-keys-long, on-shares-long}
 use Rattle.whose.specs.Whose.{nmi_field, suffix_field}
 use Rattle.day_sums.specs.Sought.{day_in, rows_of, sought_as, Within, within_as}
 use Rattle.day_sums.specs.declared.DayAt.{DayAt}
-use Rattle.day_sums.specs.declared.DaySought.{DaySought}
-use Rattle.day_sums.specs.declared.DaySought.TheVariants as daySought
 use Rattle.stored_sums.specs.Sums.{sum_at, stored_sum_of}
 use Rattle.splits.specs.Calls.{split_of, split_on, split_day_of, split_stored_of}
 
@@ -94,15 +92,15 @@ module _ (t : ℕ) (nmi suffix m : List ℕ) (date : ℕ) (ps ks ss : List ℕ) 
 
 -- ---- of a file
 
-pub sought-within : (file : List ℕ) {r : DaySought} {d : DayAt} → r ≡ daySought.Found d → within_as file r → Within file d
+pub sought-within : (file : List ℕ) {r : Result DayAt Refusal} {d : DayAt} → r ≡ Ok d → within_as file r → Within file d
 sought-within file h w = rw h at w
 
-module _ (file : List ℕ) (day : ℕ) (m ps : List ℕ) {r : DaySought} (e : sought_as file r ≡ day_in file day) where
-  pub day-refused : {x : Refusal} → r ≡ daySought.Refused x → left (refused_as x) ps ≡ split_day_of file day m ps
+module _ (file : List ℕ) (day : ℕ) (m ps : List ℕ) {r : Result DayAt Refusal} (e : sought_as file r ≡ day_in file day) where
+  pub day-refused : {x : Refusal} → r ≡ Err x → left (refused_as x) ps ≡ split_day_of file day m ps
   unfolding split_day_of
   day-refused h = rw (← e, h)
 
-  pub day-split : {d : DayAt} → r ≡ daySought.Found d → {t date : ℕ} {nmi suffix : List ℕ} → t ≡ sum (values_of (rows_of file d).block)
+  pub day-split : {d : DayAt} → r ≡ Ok d → {t date : ℕ} {nmi suffix : List ℕ} → t ≡ sum (values_of (rows_of file d).block)
       → nmi ≡ field nmi_field (rows_of file d).channel.cells → suffix ≡ field suffix_field (rows_of file d).channel.cells
       → date ≡ date_in (rows_of file d).block.top.cells → {l : Left} → l ≡ split_on t nmi suffix date m ps → l ≡ split_day_of file day m ps
   unfolding split_day_of

@@ -11,7 +11,7 @@ ghost use Rattle.splits.specs.Calls.{split_as, is_on, shared_of, split_of, split
 ghost use Rattle.splitter.specs.Steps.{Fit};
 
 use channel_shares::put_weights;
-use day_sums::{DaySought, date_of, nmi_of, seek_day, suffix_of, sum_of};
+use day_sums::{date_of, nmi_of, seek_day, suffix_of, sum_of};
 use format::Refusal;
 use keys::put_capitals;
 use outputs::are_fit;
@@ -130,11 +130,8 @@ fn split_on(
 {
     let mut keys: [u8; 1536] = [0; 1536];
     let mut shares: [u16; 128] = [0; 128];
-    let on = map_on(memory, date, &mut keys, &mut shares);
-    match on {
-        Err(x) => Err(x),
-        Ok(_) => split(total, nmi, suffix, &keys, &shares, parts),
-    }
+    map_on(memory, date, &mut keys, &mut shares)?;
+    split(total, nmi, suffix, &keys, &shares, parts)
 }
 
 // Splits the sum of a day of a file by the map that memory holds, on the day's date. The file's own refusal comes first, then 14 if there is no such day; 21 if the
@@ -142,18 +139,15 @@ fn split_on(
 pub fn split_day(file: &[u8], day: usize, memory: &[u8], parts: &mut [u64]) -> Result<usize, Refusal>
     ensures { left (split_as result) parts.new ≡ split_day_of file.now day memory.now parts.old }
 {
-    let sought = seek_day(file, day);
-    match sought {
-        DaySought::Refused(x) => Err(x),
-        DaySought::Found(at) => split_on(
-            sum_of(file, at),
-            nmi_of(file, at),
-            suffix_of(file, at),
-            date_of(file, at),
-            memory,
-            parts,
-        ),
-    }
+    let at = seek_day(file, day)?;
+    split_on(
+        sum_of(file, at),
+        nmi_of(file, at),
+        suffix_of(file, at),
+        date_of(file, at),
+        memory,
+        parts,
+    )
 }
 
 // Splits the sum of a day that a store holds by the map that memory holds, on the day's date. 21 if the store is none, 14 if it has no day of that key; then as
@@ -168,9 +162,6 @@ pub fn split_stored(
 ) -> Result<usize, Refusal>
     ensures { left (split_as result) parts.new ≡ split_stored_of store.now (key nmi.now suffix.now date) memory.now parts.old }
 {
-    let stored = stored_sum(store, nmi, suffix, date);
-    match stored {
-        Err(x) => Err(x),
-        Ok(sum) => split_on(sum, nmi, suffix, date, memory, parts),
-    }
+    let sum = stored_sum(store, nmi, suffix, date)?;
+    split_on(sum, nmi, suffix, date, memory, parts)
 }
