@@ -1,7 +1,8 @@
 -- The ways out of adding a version whose entries are known to be fit. Assumes nothing.
-use Rattle.std.proofs.Common.{Result, Ok, Err}
+use Rattle.std.proofs.Common.{Result, Ok, Err, MatchResult, IsErrAnd}
+use Rattle.std.proofs.lemmas.Result.{err_from_is_err_and}
 use Prim.Native.Nat.{ℕ, ◌+◌, ◌≤◌, ◌<◌}
-use mathlib.Core.Path.{◌≡◌, sym, ◌∙◌}
+use mathlib.Core.Path.{◌≡◌, refl, sym, ◌∙◌}
 use mathlib.Core.Bool.{Bool, true, false, not}
 use mathlib.Core.List.{List, [], ◌∷◌}
 use native.Mathlib.Omega.{arith}
@@ -28,6 +29,30 @@ module _ (m : List ℕ) (first : ℕ) {d : ℕ} (l : d ≡ latest (versions_in m
     pub next-behind : n < 32 → Ok n ≡ next_of m first
     unfolding next_of
     next-behind h = rw (← l, ← e, not-false a t, ← c, lt-ltb n 32 h)
+
+-- ---- the refusal as the code makes it of its number
+
+abbrev pub Told : Result ℕ ℕ → Result ℕ Refusal → Type 0
+Told x r = MatchResult x (λ n. r ≡ Ok n) (λ k. IsErrAnd r (λ y. refused_as y ≡ refusal k))
+
+pub told-behind : (x : Result ℕ ℕ) {r : Result ℕ Refusal} {n : ℕ} → Told x r → r ≡ Ok n → x ≡ Ok n
+told-behind (Ok a) {r} {n} v q = let z : ◌≡◌ {A = Result ℕ Refusal} (Ok a) (Ok n) = sym v ∙ q in cc
+told-behind (Err k) {r} {n} v q =
+    let p = err_from_is_err_and r v in
+    let z : ◌≡◌ {A = Result ℕ Refusal} (Ok n) (Err p.0) = sym q ∙ p.1 in
+    let y : ◌≡◌ {A = ℕ} 0 1 = cc in
+    absurd (omega arith)
+
+pub told-refused : (x : Result ℕ ℕ) {r : Result ℕ Refusal} {y : Refusal} → Told x r → r ≡ Err y → (k : ℕ) × (x ≡ Err k) × (refused_as y ≡ refusal k)
+told-refused (Ok a) {r} {y} v q =
+    let z : ◌≡◌ {A = Result ℕ Refusal} (Ok a) (Err y) = sym v ∙ q in
+    let w : ◌≡◌ {A = ℕ} 0 1 = cc in
+    absurd (omega arith)
+told-refused (Err k) {r} {y} v q =
+    let p = err_from_is_err_and r v in
+    let z : ◌≡◌ {A = Result ℕ Refusal} (Err y) (Err p.0) = sym q ∙ p.1 in
+    let w : y ≡ p.0 = cc in
+    (k, refl, rw w p.2)
 
 -- ---- what each case says of the map
 

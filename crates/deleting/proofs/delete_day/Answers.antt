@@ -8,8 +8,8 @@ returns-then-h-i c = search (delete-21, delete-14, deleted)
 pub keep_only-requires : goal.keep_only-requires
 keep_only-requires c = search delete-settles
 
-pub returns-in-None : goal.returns-in-None
-returns-in-None c = search (delete-21, delete-14, deleted)
+pub returns-in_err-h : goal.returns-in_err-h
+returns-in_err-h c = search (delete-21, delete-14, deleted)
 
-pub returns-else-h-i : goal.returns-else-h-i
-returns-else-h-i c = search (delete-21, delete-14, deleted)
+pub returns : goal.returns
+returns c = search (delete-21, delete-14, deleted)

@@ -2,8 +2,8 @@
 use Rattle.slot_reading.proofs.SlotWays.{not-store, slot_read}
 use Rattle.slot_reading.proofs.read_slot.Goals as goal
 
-pub returns-in-None : goal.returns-in-None
-returns-in-None c = search (not-store, slot_read)
+pub returns-in_err-h : goal.returns-in_err-h
+returns-in_err-h c = search (not-store, slot_read)
 
-pub returns-in-Some : goal.returns-in-Some
-returns-in-Some c = search (not-store, slot_read)
+pub returns : goal.returns
+returns c = search (not-store, slot_read)
