@@ -20,21 +20,24 @@ fn is_minute(t: u64) -> bool
 pub fn date(f: &[u8]) -> Option<u64>
     ensures { result ≡ date_of f.now }
 {
-    digits(f, 8, 8).filter(|t| is_date(*t))
+    let t = digits(f, 8, 8)?;
+    is_date(t).then_some(t)
 }
 
 // DateTime(14).
 pub fn time(f: &[u8]) -> Option<u64>
     ensures { result ≡ time_of f.now }
 {
-    digits(f, 14, 14).filter(|t| is_time(*t))
+    let t = digits(f, 14, 14)?;
+    is_time(t).then_some(t)
 }
 
 // DateTime(12), the 100's.
 pub fn created(f: &[u8]) -> Option<u64>
     ensures { result ≡ created_of f.now }
 {
-    digits(f, 12, 12).filter(|t| is_minute(*t))
+    let t = digits(f, 12, 12)?;
+    is_minute(t).then_some(t)
 }
 
 pub fn next_read_date(f: &[u8]) -> Option<u64>
@@ -61,7 +64,8 @@ pub fn load_time(f: &[u8]) -> Option<u64>
 fn taken(f: &[u8]) -> Option<u64>
     ensures { result ≡ taken_of f.now }
 {
-    digits(f, 14, 14).filter(|t| is_read_time(*t))
+    let t = digits(f, 14, 14)?;
+    is_read_time(t).then_some(t)
 }
 
 // One that may be empty.

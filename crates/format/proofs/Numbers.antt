@@ -1,5 +1,6 @@
 -- Numbers: the cases of `number_of`, `small_of`, `value_of` and `is_read` as the code meets them, and what a number that was read says of its bytes.
 -- Assumes nothing.
+use Rattle.std.specs.Bool.{then_some}
 use Rattle.std.proofs.Common.{Option, Some, None}
 use mathlib.Core.Path.{◌≡◌, refl, sym, ap, ◌∙◌}
 use mathlib.Core.Bool.{Bool, true, false, cond, not, false≢true, true≢false}
@@ -101,6 +102,13 @@ module _ (p : ℕ → Bool) {x y : Option ℕ} where
   pub that-not : {v : ℕ} {b : Bool} → x ≡ y → x ≡ Some v → b ≡ p v → b ≡ false → None ≡ that p y
   that-not e i q t = rw (← e, i, ← q, t)
 
+  pub that-then : {v : ℕ} {b : Bool} → x ≡ y → x ≡ Some v → b ≡ p v → then_some b v ≡ that p y
+  that-then {v} {b} e i h = rw (← e, i, ← h) (as-cond b)
+    where
+      as-cond : (b : Bool) → then_some b v ≡ cond b (Some v) None
+      as-cond true = refl
+      as-cond false = refl
+
   pub that-bad : x ≡ y → x ≡ None → None ≡ that p y
   that-bad e i = rw (← e, i)
 
@@ -165,6 +173,14 @@ fraction-under d s = one (number_of 1 (min d 6) s) refl
     one : (x : Option ℕ) → number_of 1 (min d 6) s ≡ x → under (10 ^ 6) (times (10 ^ (6 - length s)) x)
     one (Some v) e = fraction-below d s refl e refl
     one None e = tt
+
+-- where one of the two is none
+pub none-whole : (m : Option ℕ) {w : Option ℕ} → w ≡ None → None ≡ amount w m
+none-whole m e = rw e
+
+pub none-behind : (w : Option ℕ) {m : Option ℕ} → m ≡ None → None ≡ amount w m
+none-behind (Some a) e = rw e
+none-behind None e = refl
 
 -- a whole number and millionths that were handed in
 module _ {w m : Option ℕ} {a b : ℕ} (h : under (10 ^ 7) w × under (10 ^ 6) m) (i : w ≡ Some a) (j : m ≡ Some b) where

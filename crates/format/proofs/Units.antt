@@ -2,18 +2,18 @@
 use Rattle.std.proofs.Common.{Option, Some, None}
 use Prim.Native.Nat.{ℕ, zero, suc, ◌+◌, ◌-◌, ◌≤◌, ◌<◌}
 use mathlib.Core.Path.{◌≡◌, refl, sym, ap, ◌∙◌}
-use mathlib.Core.Bool.{Bool, true, false, cond, ◌&&◌, ◌||◌}
+use mathlib.Core.Bool.{Bool, true, false, cond, ◌&&◌}
 use mathlib.Core.List.{List, [], ◌∷◌, map}
 use native.Mathlib.Omega.{arith}
 use lib.ListN.{length, get_or, length-map}
-use lib.Dec.{leb, ltb, eqb}
+use lib.Dec.{leb, eqb}
 use borrow.Author.Tests.{le-leb, lt-leb, lt-ltb, ltb-true, leb-true, eqb-true}
 use Rattle.ground.specs.Lists.{all, same}
 use Rattle.ground.proofs.Tests.{and-true, and-false, or-true, or-false}
 use Rattle.ground.proofs.Cases.{by, split}
 use Rattle.ground.proofs.Same.{same-sound}
 use Rattle.format.specs.Bytes.{is_capital, is_letter, capital}
-use Rattle.format.specs.Numbers.{is_number, number_in, decimals}
+use Rattle.format.specs.Numbers.{is_number, number_in}
 use Rattle.format.specs.Units.{UnitRow, no_unit, units, same_letters, unit_from, unit_of, is_unit, unit_at, unit_name, decimals_of, decimals_for, decimals_named}
 
 -- ---- letters without their case

@@ -2,7 +2,7 @@
 -- "Previous and current read: 1 to 15 bytes, digits with at most one point that stands between digits. Index read: the same or empty."
 -- "Start, end, interval length and reason code are written without leading zeros, though `0` itself may stand (H). Start and end have 1 to 4
 -- digits, reason 1 to 3 or empty. Interval length is 5, 15 or 30." And, in Records: "n is 1440 divided by the interval length."
-use Rattle.std.specs.Prelude.{ℕ, ◌+◌, ◌-◌, ◌*◌, ◌/◌, ◌^◌, min, List, Bool, true, false, cond, ◌&&◌, ◌||◌, length, get_or, take, drop, leb, ltb, eqb, Option, Some, None, is_some, unwrap_or}
+use Rattle.std.specs.Prelude.{ℕ, ◌+◌, ◌-◌, ◌*◌, ◌/◌, ◌^◌, min, List, Bool, cond, ◌&&◌, ◌||◌, length, get_or, take, drop, leb, ltb, eqb, Option, Some, None, is_some, unwrap_or}
 use Rattle.ground.specs.Lists.{all, span_of, other}
 use Rattle.ground.specs.Digits.{is_digit, decimal}
 use Rattle.format.specs.Bytes.{are_all}

@@ -1,7 +1,7 @@
 -- 01, Fields: "Quality: `A` alone, or `E`, `F`, `S` with two digits, or in a 300 only `V` alone. Capitals only: these values are enumerated, so case
 -- counts." "Rules across fields: S and F need a reason. Reason 0 needs a description. V has neither. In a 250 this holds for previous and for current."
 -- 02, 6: "Some providers send `N`, with no method, for null data. Accept it in 300 and 400 records, not in a 250."
-use Rattle.std.specs.Prelude.{ℕ, List, [], Bool, true, false, cond, not, ◌&&◌, ◌||◌, length, get_or, drop, eqb, Option, Some, None, is_some}
+use Rattle.std.specs.Prelude.{ℕ, List, [], Bool, cond, not, ◌&&◌, ◌||◌, length, get_or, drop, eqb, Option, Some, None, is_some}
 use Rattle.ground.specs.Lists.{same}
 use Rattle.format.specs.Numbers.{number_of, no_reason}
 use Rattle.format.specs.declared.Grade.{Grade}

@@ -38,7 +38,8 @@ fn is_kind(k: u64) -> bool
 pub fn indicator(f: &[u8]) -> Option<u64>
     ensures { result ≡ indicator_of f.now }
 {
-    digits(f, 3, 3).filter(|k| is_kind(*k))
+    let k = digits(f, 3, 3)?;
+    is_kind(k).then_some(k)
 }
 
 // A 400's start or end.
@@ -63,7 +64,8 @@ fn is_length(m: u64) -> bool
 pub fn interval_length(f: &[u8]) -> Option<u64>
     ensures { result ≡ length_of f.now }
 {
-    small(f, 2).filter(|m| is_length(*m))
+    let m = small(f, 2)?;
+    is_length(m).then_some(m)
 }
 
 // How many intervals a day has, 0 where m minutes are no interval length.

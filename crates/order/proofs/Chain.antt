@@ -4,6 +4,7 @@ use mathlib.Core.Path.{◌≡◌, refl, sym, ◌∙◌}
 use mathlib.Core.List.{List}
 use mathlib.Core.Bool.{Bool, true, false, cond, not, ◌&&◌, true≢false}
 use native.Mathlib.Omega.{arith}
+use Rattle.std.proofs.Common.{Result, Ok, Err}
 use lib.ListN.{length}
 use lib.Dec.{eqb, leb}
 use borrow.Author.Tests.{eqb-true, eq-eqb, ne_eqb, le-ltb, lt-ltb, not-true, not-false}
@@ -18,15 +19,15 @@ use Rattle.format.specs.declared.Tag.{Tag}
 use Rattle.lines.specs.Places.{Looked}
 use Rattle.record.specs.Walk.{first_asked, second_asked, Typed, Sound, Broken, Walks}
 use Rattle.runs.specs.Ran.{Ran, Runs}
+use Rattle.record.specs.declared.Asked.{Asked}
+use Rattle.record.specs.declared.BadField.{BadField}
+use Rattle.order.specs.declared.Stop as stop
 use Rattle.runs.specs.declared.Run.{Run}
-use Rattle.runs.specs.declared.Run.TheVariants as run
-use Rattle.record.specs.declared.Walked.{Walked}
-use Rattle.record.specs.declared.Walked.TheVariants as walked
 use Rattle.record.proofs.Turns.{by-test, second-field}
 use Rattle.rows.proofs.Rows.{count-300, count-for}
 use Rattle.order.specs.declared.State.{State}
 use Rattle.follows.specs.Tests.{expected_as}
-use Rattle.order.specs.State.{seen, closed, Kept, cells, Here, After, Ready, Next, goes, stops, or_stop, next_of, late_of, further_of, last_of}
+use Rattle.order.specs.State.{seen, closed, Kept, cells, Here, After, Ready, Next, goes, stops, or_stop, stop_of, next_of, late_of, further_of, last_of}
 use Rattle.format.proofs.Units.{named-most}
 use Rattle.format.proofs.States.{no_kind}
 use Rattle.follows.proofs.Expected.{is-400}
@@ -143,31 +144,31 @@ module _ (st : Due) (k : ℕ) (fs : List (List ℕ)) where
   further-on e q = rw e q
 
 -- w is what the walk over its fields found
-module _ (file : List ℕ) (at e k : ℕ) (st : State) (w : Walked) (ew : Walks file at e k (scale_of (seen file st) k (cells file at e)) w) where
-  pub walk-stops : (a i : ℕ) → w ≡ walked.Broken a i → (stops 6 a i ≡ further_of (seen file st) k (cells file at e)) × (at + a ≤ e)
-  walk-stops a i q =
-      let b : Broken file at e k (scale_of (seen file st) k (cells file at e)) a i = rw q at ew in
-      (further-6 (seen file st) k (cells file at e) a i b.fault, b.within)
+module _ (file : List ℕ) (at e k : ℕ) (st : State) (w : Result Asked BadField) (ew : Walks file at e k (scale_of (seen file st) k (cells file at e)) w) where
+  pub walk-stops : {b : BadField} {x : stop.Stop} → w ≡ Err b → x ≡ stop_of b → (stops x.number x.place x.field ≡ further_of (seen file st) k (cells file at e)) × (at + x.place ≤ e)
+  walk-stops {b} q ex =
+      let f : Broken file at e k (scale_of (seen file st) k (cells file at e)) b.place b.field = rw q at ew in
+      rw ex (further-6 (seen file st) k (cells file at e) b.place b.field f.fault, f.within)
 
-  module _ (p q : ℕ) (sound : w ≡ walked.Sound p q) where
-    is-sound : Sound file at e k (scale_of (seen file st) k (cells file at e)) p q
+  module _ (a : Asked) (sound : w ≡ Ok a) where
+    is-sound : Sound file at e k (scale_of (seen file st) k (cells file at e)) a.first a.second
     is-sound = rw sound at ew
 
-    pub ready : Kept file at st → Typed file at e k (scale_of (seen file st) k (cells file at e)) → Ready file at e k p q st
+    pub ready : Kept file at st → Typed file at e k (scale_of (seen file st) k (cells file at e)) → Ready file at e k a.first a.second st
     ready r y = record { kept = r; typed = y; sound = is-sound }
 
     pub walk-on : {x : Next} → x ≡ last_of (seen file st) k (cells file at e) → x ≡ further_of (seen file st) k (cells file at e)
     walk-on h = further-on (seen file st) k (cells file at e) is-sound.fault h
 
 -- r is what the reading of a 400 found
-module _ (file : List ℕ) (at e : ℕ) (r : Run) (er : Runs file at e r) where
-  pub run-stops : (st : State) (o i : ℕ) → r ≡ run.Broken o i → (stops 6 o i ≡ further_of (seen file st) 400 (cells file at e)) × (at + o ≤ e)
-  run-stops st o i q =
-      let b : Broken file at e 400 no_scale o i = rw q at er in
-      (further-6 (seen file st) 400 (cells file at e) o i b.fault, b.within)
+module _ (file : List ℕ) (at e : ℕ) (r : Result Run BadField) (er : Runs file at e r) where
+  pub run-stops : (st : State) {b : BadField} {x : stop.Stop} → r ≡ Err b → x ≡ stop_of b → (stops x.number x.place x.field ≡ further_of (seen file st) 400 (cells file at e)) × (at + x.place ≤ e)
+  run-stops st {b} q ex =
+      let f : Broken file at e 400 no_scale b.place b.field = rw q at er in
+      rw ex (further-6 (seen file st) 400 (cells file at e) b.place b.field f.fault, f.within)
 
-  module _ (from to q : ℕ) (t : Tag) (sound : r ≡ run.Of from to q t) where
-    pub ran : Ran file at e from to q t
+  module _ (d : Run) (sound : r ≡ Ok d) where
+    pub ran : Ran file at e d.from d.to d.quality d.mark
     ran = rw sound at er
 
     pub run_on : (st : State) {x : Next} → x ≡ last_of (seen file st) 400 (cells file at e) → x ≡ further_of (seen file st) 400 (cells file at e)

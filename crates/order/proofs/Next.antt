@@ -3,12 +3,12 @@ use Prim.Native.Nat.{ℕ, ◌+◌, ◌≤◌}
 use mathlib.Core.Path.{◌≡◌, refl, sym, ap}
 use mathlib.Core.List.{List}
 use mathlib.Core.Bool.{Bool, true, false, false≢true}
+use Rattle.std.proofs.Common.{Result, Ok, Err}
 use native.Mathlib.Omega.{arith}
 use Rattle.format.specs.Order.{Due}
 use Rattle.format.specs.Faults.{Fault, Fine, Stop}
 use Rattle.order.specs.declared.State.{State}
-use Rattle.order.specs.declared.Step.{Step}
-use Rattle.order.specs.declared.Step.TheVariants as step
+use Rattle.order.specs.declared.Stop as stop
 use Rattle.order.specs.State.{Kept, Next, goes, stops, or_stop, Holds}
 
 abbrev going : Next → Bool
@@ -31,11 +31,11 @@ stopped (Stop y p j) d x o i e = ap fault_of e
     fault_of (goes s) = Fine
     fault_of (stops a b c) = Stop a b c
 
-module _ (file : List ℕ) (at e : ℕ) (t : Step) (r : Holds file at e t) where
-  pub kept_on : (n : State) → t ≡ step.On n → Kept file (e + 2) n
+module _ (file : List ℕ) (at e : ℕ) (t : Result State stop.Stop) (r : Holds file at e t) where
+  pub kept_on : (n : State) → t ≡ Ok n → Kept file (e + 2) n
   kept_on n q =
       let h : Kept file (e + 1) n = rw q at r in
       record { known = h.known; begun = h.begun; within = h.within; small = h.small; few = h.few; channels = omega (arith, h.channels); days = omega (arith, h.days) }
 
-  pub stop-within : (x o i : ℕ) → t ≡ step.Stop x o i → at + o ≤ e
-  stop-within x o i q = rw q at r
+  pub stop-within : (x : stop.Stop) → t ≡ Err x → at + x.place ≤ e
+  stop-within x q = rw q at r

@@ -1,5 +1,5 @@
 -- The state in the code, which holds a description as a place of the file, and what the meaning's state says there.
-use Rattle.std.specs.Prelude.{ℕ, ◌+◌, ◌≤◌, ◌≡◌, List, Bool, false, cond, length, leb}
+use Rattle.std.specs.Prelude.{ℕ, ◌+◌, ◌≤◌, ◌≡◌, List, Bool, false, cond, length, leb, Result, Ok, Err}
 use Rattle.ground.specs.Lists.{part}
 use Rattle.format.specs.Quality.{Mark, no_method}
 use Rattle.format.specs.Numbers.{no_reason}
@@ -12,8 +12,8 @@ use Rattle.lines.specs.Places.{Starts}
 use Rattle.follows.specs.Tests.{mark_of, expected_as}
 use Rattle.record.specs.Walk.{Typed, Sound}
 use Rattle.order.specs.declared.State.{State}
-use Rattle.order.specs.declared.Step.{Step}
-use Rattle.order.specs.declared.Step.TheVariants as step
+use Rattle.record.specs.declared.BadField.{BadField}
+use Rattle.order.specs.declared.Stop as stop
 
 -- ---- the state
 
@@ -92,14 +92,21 @@ unfoldable pub last_of : Due → ℕ → List (List ℕ) → Next
 last_of st k fs = or_stop (late_of st k fs) (after_of st k fs)
 
 -- what the code's step says
-abbrev pub step_as : List ℕ → Step → Next
-step_as file (step.On st) = goes (seen file st)
-step_as file (step.Stop x o i) = stops x o i
+abbrev pub stop_at : ℕ → ℕ → ℕ → stop.Stop
+stop_at x o i = record { number = x; place = o; field = i }
+
+-- a field that breaks its rule is 6
+abbrev pub stop_of : BadField → stop.Stop
+stop_of b = stop_at 6 b.place b.field
+
+abbrev pub step_as : List ℕ → Result State stop.Stop → Next
+step_as file (Ok st) = goes (seen file st)
+step_as file (Err x) = stops x.number x.place x.field
 
 -- behind a record that ends at e the state is kept; a fault's place lies in the record
-abbrev pub Holds : List ℕ → ℕ → ℕ → Step → Type 0
-Holds file at e (step.On st) = Kept file (e + 1) st
-Holds file at e (step.Stop x o i) = at + o ≤ e
+abbrev pub Holds : List ℕ → ℕ → ℕ → Result State stop.Stop → Type 0
+Holds file at e (Ok st) = Kept file (e + 1) st
+Holds file at e (Err x) = at + x.place ≤ e
 
 -- with this mark, all of the day's 400s have one
 unfoldable pub alike_to : Due → Mark → Bool

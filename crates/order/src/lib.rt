@@ -4,7 +4,11 @@
 pub mod records;
 pub mod steps;
 
+ghost use Rattle.std.specs.Prelude.{◌≡◌};
+ghost use Rattle.order.specs.State.{stop_at, stop_of};
+
 use format::Tag;
+use record::BadField;
 
 // What may come next.
 #[derive(Clone, Copy)]
@@ -29,9 +33,31 @@ pub struct State {
     pub days: usize,
 }
 
-// What comes of a record: the state behind it, or its first fault with number, place from the record's start, and field.
+// A record's first fault: the refusal's number, the place from the record's start, and the field.
 #[derive(Clone, Copy)]
-pub enum Step {
-    On(State),
-    Stop(u64, usize, usize),
+pub struct Stop {
+    pub number: u64,
+    pub place: usize,
+    pub field: usize,
+}
+
+impl Stop {
+    pub fn new(number: u64, place: usize, field: usize) -> Stop
+        ensures { result ≡ stop_at number place field }
+    {
+        Stop {
+            number,
+            place,
+            field,
+        }
+    }
+}
+
+// A field that breaks its rule is 6.
+impl From<BadField> for Stop {
+    ghost from_gives = { λ b s. s ≡ stop_of b };
+
+    fn from(b: BadField) -> Stop {
+        Stop::new(6, b.place, b.field)
+    }
 }

@@ -6,7 +6,7 @@ ghost use Rattle.runs.specs.Ran.{Ran};
 ghost use Rattle.follows.specs.Tests.{mark_of};
 ghost use Rattle.order.specs.State.{seen, no_tag, closed, Kept, cells, Here, After, last_of, step_as, Holds, alike_to};
 
-use super::{State, Step};
+use super::{State, Stop};
 use follows::{goes_on, on_day, same_mark};
 use format::Tag;
 use quality_rules::across;
@@ -117,19 +117,19 @@ impl State {
     }
 
     // p is where the quality starts.
-    pub fn on_300(self, file: &[u8], at: usize, e: usize, p: usize) -> Step
+    pub fn on_300(self, file: &[u8], at: usize, e: usize, p: usize) -> Result<State, Stop>
         requires { Kept file.now at self × Here file.now at e 1 (at + 4) × Here file.now at e (self.n + 2) p }
         ensures { (step_as file.now result ≡ last_of (seen file.now self) 300 (cells file.now at e)) × Holds file.now at e result }
     {
         let t = tag_at(file, p, e, 300);
         if !across(t.flag, t.reason, t.length) {
-            return Step::Stop(7, p - at, self.n + 3);
+            return Err(Stop::new(7, p - at, self.n + 3));
         }
         let d = date_at(file, at + 4, e);
         if d <= self.date {
-            return Step::Stop(8, 4, 2);
+            return Err(Stop::new(8, 4, 2));
         }
-        Step::On(State {
+        Ok(State {
             expect: under(t.flag),
             version: self.version,
             n: self.n,
@@ -153,21 +153,21 @@ impl State {
         to: usize,
         q: usize,
         t: Tag,
-    ) -> Step
+    ) -> Result<State, Stop>
         requires { Kept file.now at self × Here file.now at e 1 (at + 4) × Ran file.now at e from to q t × (1 ≤ self.next) }
         ensures { (step_as file.now result ≡ last_of (seen file.now self) 400 (cells file.now at e)) × Holds file.now at e result }
     {
         if !across(t.flag, t.reason, t.length) {
-            return Step::Stop(7, q - at, 4);
+            return Err(Stop::new(7, q - at, 4));
         }
         if !goes_on(self.next, self.n, from, to) {
-            return Step::Stop(9, 4, 2);
+            return Err(Stop::new(9, 4, 2));
         }
         let alike = self.alike_with(file, t);
         if whole(to, self.n, alike) {
-            return Step::Stop(11, 0, 0);
+            return Err(Stop::new(11, 0, 0));
         }
-        Step::On(State {
+        Ok(State {
             expect: 4,
             version: self.version,
             n: self.n,
@@ -182,15 +182,15 @@ impl State {
     }
 
     // p is where the read time starts.
-    pub fn on_500(self, file: &[u8], at: usize, e: usize, p: usize) -> Step
+    pub fn on_500(self, file: &[u8], at: usize, e: usize, p: usize) -> Result<State, Stop>
         requires { Kept file.now at self × Here file.now at e 3 p }
         ensures { (step_as file.now result ≡ last_of (seen file.now self) 500 (cells file.now at e)) × Holds file.now at e result }
     {
         let t = read_time_at(file, p, e);
         if !on_day(self.date, t) {
-            return Step::Stop(12, p - at, 4);
+            return Err(Stop::new(12, p - at, 4));
         }
-        Step::On(State::closed(
+        Ok(State::closed(
             5,
             self.version,
             self.n,
@@ -202,19 +202,19 @@ impl State {
     }
 
     // p and q are where the qualities of previous and current start.
-    pub fn on_250(self, file: &[u8], at: usize, e: usize, p: usize, q: usize) -> Step
+    pub fn on_250(self, file: &[u8], at: usize, e: usize, p: usize, q: usize) -> Result<State, Stop>
         requires { Kept file.now at self × Here file.now at e 10 p × Here file.now at e 15 q }
         ensures { (step_as file.now result ≡ last_of (seen file.now self) 250 (cells file.now at e)) × Holds file.now at e result }
     {
         let s = tag_at(file, p, e, 250);
         if !across(s.flag, s.reason, s.length) {
-            return Step::Stop(7, p - at, 11);
+            return Err(Stop::new(7, p - at, 11));
         }
         let t = tag_at(file, q, e, 250);
         if !across(t.flag, t.reason, t.length) {
-            return Step::Stop(7, q - at, 16);
+            return Err(Stop::new(7, q - at, 16));
         }
-        Step::On(State::closed(7, self.version, 0, 0, 0, self.channels + 1, self.days))
+        Ok(State::closed(7, self.version, 0, 0, 0, self.channels + 1, self.days))
     }
 
     pub fn on_550(self) -> State

@@ -7,12 +7,12 @@ ghost use Rattle.lines.specs.Places.{Looked};
 ghost use Rattle.record.specs.Walk.{Typed};
 ghost use Rattle.order.specs.State.{seen, closed, Kept, cells, Ready, next_of, further_of, last_of, step_as, Holds};
 
-use super::{State, Step};
+use super::{State, Stop};
 use follows::{is_open, may_come};
 use lines::Found;
-use record::{Walked, check_fields};
+use record::check_fields;
 use rows::count_of;
-use runs::{Run, run_at};
+use runs::run_at;
 use says::kind_at;
 
 impl State {
@@ -24,66 +24,60 @@ impl State {
     }
 
     // A 400 is read in one go, and hands its method what it says.
-    fn run(self, file: &[u8], at: usize, e: usize) -> Step
+    fn run(self, file: &[u8], at: usize, e: usize) -> Result<State, Stop>
         requires { Kept file.now at self × Typed file.now at e 400 no_scale × (1 ≤ self.next) }
         ensures { (step_as file.now result ≡ further_of (seen file.now self) 400 (cells file.now at e)) × Holds file.now at e result }
     {
-        let r = run_at(file, at, e);
-        match r {
-            Run::Broken(o, i) => Step::Stop(6, o, i),
-            Run::Of(from, to, q, t) => self.on_400(file, at, e, from, to, q, t),
-        }
+        let r = run_at(file, at, e)?;
+        self.on_400(file, at, e, r.from, r.to, r.quality, r.mark)
     }
 
     // The own method of any other record; p and q are the places that it asks for.
-    fn on(self, file: &[u8], at: usize, e: usize, kind: u64, p: usize, q: usize) -> Step
+    fn on(self, file: &[u8], at: usize, e: usize, kind: u64, p: usize, q: usize) -> Result<State, Stop>
         requires { Ready file.now at e kind p q self × (kind ≡ 400 → ⊥) }
         ensures { (step_as file.now result ≡ last_of (seen file.now self) kind (cells file.now at e)) × Holds file.now at e result }
     {
         match kind {
-            100 => Step::On(self.on_100(file, at, e)),
-            200 => Step::On(self.on_200(file, at, e, p, q)),
+            100 => Ok(self.on_100(file, at, e)),
+            200 => Ok(self.on_200(file, at, e, p, q)),
             300 => self.on_300(file, at, e, p),
             500 => self.on_500(file, at, e, p),
             250 => self.on_250(file, at, e, p, q),
-            550 => Step::On(self.on_550()),
-            _ => Step::On(self.on_900()),
+            550 => Ok(self.on_550()),
+            _ => Ok(self.on_900()),
         }
     }
 
     // From 6 on: its fields, each held to its rule, and its own method.
-    fn further(self, file: &[u8], at: usize, e: usize, kind: u64) -> Step
+    fn further(self, file: &[u8], at: usize, e: usize, kind: u64) -> Result<State, Stop>
         requires { Kept file.now at self × Typed file.now at e kind (scale_of (seen file.now self) kind (cells file.now at e)) × (kind ≡ 400 → 1 ≤ self.next) }
         ensures { (step_as file.now result ≡ further_of (seen file.now self) kind (cells file.now at e)) × Holds file.now at e result }
     {
         if kind == 400 {
             return self.run(file, at, e);
         }
-        let w = check_fields(file, at, e, kind, self.n, self.decimals);
-        match w {
-            Walked::Broken(o, i) => Step::Stop(6, o, i),
-            Walked::Sound(p, q) => self.on(file, at, e, kind, p, q),
-        }
+        let w = check_fields(file, at, e, kind, self.n, self.decimals)?;
+        self.on(file, at, e, kind, w.first, w.second)
     }
 
     // The record that starts at a place and ends in a CR LF.
-    pub fn step(self, file: &[u8], at: usize, found: Found) -> Step
+    pub fn step(self, file: &[u8], at: usize, found: Found) -> Result<State, Stop>
         requires { Kept file.now at self × Looked file.now at found.end found.bad found.commas }
         ensures { (step_as file.now result ≡ next_of (seen file.now self) (part file.now at found.end)) × Holds file.now at found.end result }
     {
         let e = found.end;
         if found.bad < e {
-            return Step::Stop(3, found.bad - at, 0);
+            return Err(Stop::new(3, found.bad - at, 0));
         }
         let kind = kind_at(file, at, e);
         if is_open(self.expect, self.next, self.n, kind) {
-            return Step::Stop(10, 0, 0);
+            return Err(Stop::new(10, 0, 0));
         }
         if !may_come(self.expect, kind) {
-            return Step::Stop(4, 0, 0);
+            return Err(Stop::new(4, 0, 0));
         }
         if found.commas + 1 != count_of(kind, self.n) {
-            return Step::Stop(5, 0, 0);
+            return Err(Stop::new(5, 0, 0));
         }
         self.further(file, at, e, kind)
     }

@@ -26,8 +26,11 @@ pub fn quality(f: &[u8], kind: u64) -> Option<Grade>
         return None;
     }
     if takes_method(flag) {
-        let method = digits(&f[1..], 2, 2)? as u8;
-        return Some(Grade { flag, method });
+        let m = digits(&f[1..], 2, 2)?;
+        return Some(Grade {
+            flag,
+            method: m as u8,
+        });
     }
     None
 }

@@ -1,5 +1,6 @@
 -- The loop over the fields of a record: each field so far meets its rule, where the next one starts, and the places that later rules ask for.
 -- Assumes nothing.
+use Rattle.std.proofs.Common.{Option, Some, None}
 use Prim.Native.Nat.{ℕ, ◌+◌, ◌-◌, ◌≤◌, ◌<◌}
 use mathlib.Core.Path.{◌≡◌, refl, sym, ◌∙◌, ap, subst}
 use mathlib.Core.List.{List}
@@ -26,9 +27,6 @@ use Rattle.format.proofs.Cut.{fields-some, field-here, field-cons, start-zero, s
 use Rattle.lines.specs.Places.{Rest, Starts}
 use Rattle.tries.specs.Holds.{held_of}
 use Rattle.record.specs.Walk.{first_asked, second_asked, scale_at, Typed, Obeyed, Along, Goes, Sound, Broken}
-use Rattle.tries.specs.declared.Held.{Held}
-use Rattle.tries.specs.declared.Held.TheVariants.{To}
-use Rattle.tries.specs.declared.Held.TheVariants as held
 use Rattle.record.specs.declared.Spot.{Spot}
 use Rattle.lines.proofs.Cuts.{rest_at, rest-first}
 use Rattle.rows.proofs.Rows.{count-300, rule-is, row-value, rule-for, rule-quantity}
@@ -118,24 +116,24 @@ along-first file at e k z y =
 
 -- ---- a field held to its rule, by what came of it
 
-abbrev is_to : Held → Bool
-is_to (To z) = true
-is_to held.Broken = false
+abbrev is_to : Option ℕ → Bool
+is_to (Some z) = true
+is_to None = false
 
-abbrev end_of : Held → ℕ
-end_of (To z) = z
-end_of held.Broken = 0
+abbrev end_of : Option ℕ → ℕ
+end_of (Some z) = z
+end_of None = 0
 
-meets : (o : Bool) (z : ℕ) {t : ℕ} → cond o (To z) held.Broken ≡ To t → (o ≡ true) × (t ≡ z)
+meets : (o : Bool) (z : ℕ) {t : ℕ} → cond o (Some z) None ≡ Some t → (o ≡ true) × (t ≡ z)
 meets true z e = (refl, sym (ap end_of e))
 meets false z e = absurd (false≢true (ap is_to e))
 
-breaks : (o : Bool) (z : ℕ) → cond o (To z) held.Broken ≡ held.Broken → o ≡ false
+breaks : (o : Bool) (z : ℕ) → cond o (Some z) None ≡ None → o ≡ false
 breaks true z e = absurd (false≢true (sym (ap is_to e)))
 breaks false z e = refl
 
 -- it ends behind its start
-pub held-past : (k : ℕ) (x : Rule) (a : ℕ) (s : List ℕ) {r : Held} {t : ℕ} → r ≡ held_of k x a s → r ≡ To t → a ≤ t
+pub held-past : (k : ℕ) (x : Rule) (a : ℕ) (s : List ℕ) {r : Option ℕ} {t : ℕ} → r ≡ held_of k x a s → r ≡ Some t → a ≤ t
 unfolding held_of
 held-past k x a s er q = let g = meets (obeys k x (field 0 (fields s))) (a + span_of (other 44) s) (sym er ∙ q) in omega (arith, g.1)
 
@@ -167,7 +165,7 @@ module _ (file : List ℕ) (at e k : ℕ) (z : Scale) (i b : ℕ) (y : Typed fil
       by (no p) = absurd (let w : ⊥ = omega (arith, none (omega arith)) in w)
 
   -- a turn: what `held` answers of the field from `b + 1` on
-  module _ (x : Rule) (r : Held) (h : b < e) (ex : x ≡ rule_of k z i) (er : r ≡ held_of k x (b + 1) (part file (b + 1) e)) where
+  module _ (x : Rule) (r : Option ℕ) (h : b < e) (ex : x ≡ rule_of k z i) (er : r ≡ held_of k x (b + 1) (part file (b + 1) e)) where
     place : b + 1 ≡ at + start_of i (fields (part file at e))
     place = l.here
 
@@ -176,11 +174,11 @@ module _ (file : List ℕ) (at e k : ℕ) (z : Scale) (i b : ℕ) (y : Typed fil
         let s : Rest file (fields (part file at e)) at i (b + 1) e = rw place (rest_at file at e i y.order y.within (more h)) in
         rest-first s
 
-    turned : r ≡ cond (obeys k (rule_of k z i) (field i (fields (part file at e)))) (To (b + 1 + span_of (other 44) (part file (b + 1) e))) held.Broken
+    turned : r ≡ cond (obeys k (rule_of k z i) (field i (fields (part file at e)))) (Some (b + 1 + span_of (other 44) (part file (b + 1) e))) None
     unfolding held_of
     turned = rw (← ex, ← is) er
 
-    pub along-stops : r ≡ held.Broken → Broken file at e k z (b + 1 - at) (i + 1)
+    pub along-stops : r ≡ None → Broken file at e k z (b + 1 - at) (i + 1)
     along-stops t =
         let o : b + 1 - at ≡ start_of i (fields (part file at e)) = omega (arith, place) in
         record {
@@ -188,7 +186,7 @@ module _ (file : List ℕ) (at e k : ℕ) (z : Scale) (i b : ℕ) (y : Typed fil
           within = omega (arith, place);
         }
 
-    pub along-on : {t : ℕ} → r ≡ To t → Along file at e k z (i + 1) t
+    pub along-on : {t : ℕ} → r ≡ Some t → Along file at e k z (i + 1) t
     along-on {t} q =
         let g = meets (obeys k (rule_of k z i) (field i (fields (part file at e)))) (b + 1 + span_of (other 44) (part file (b + 1) e)) (sym turned ∙ q) in
         let s = part file (b + 1) e in
@@ -206,7 +204,7 @@ module _ (file : List ℕ) (at e k : ℕ) (z : Scale) (i b : ℕ) (y : Typed fil
 
 -- a turn, by what `held_at` answers of the field from `b + 1` on
 module _ (file : List ℕ) (at e k n d i b : ℕ) (y : Typed file at e k (scale_at file at e k n d)) (l : Along file at e k (scale_at file at e k n d) i b) (h : b < e)
-    {r : Held} (er : (fs : List (List ℕ)) → (i ≡ quantity_field → field quantity_unit_field fs ≡ field 1 (fields (part file (b + 1) e)))
+    {r : Option ℕ} (er : (fs : List (List ℕ)) → (i ≡ quantity_field → field quantity_unit_field fs ≡ field 1 (fields (part file (b + 1) e)))
     → r ≡ held_of k (rule_of k (scale_for k n d fs) i) (b + 1) (part file (b + 1) e)) where
   behind-it : i ≡ quantity_field → field quantity_unit_field (fields (part file at e)) ≡ field 1 (fields (part file (b + 1) e))
   behind-it q =
@@ -218,24 +216,24 @@ module _ (file : List ℕ) (at e k n d i b : ℕ) (y : Typed file at e k (scale_
   held-here : r ≡ held_of k (rule_of k (scale_at file at e k n d) i) (b + 1) (part file (b + 1) e)
   held-here = er (fields (part file at e)) behind-it
 
-  pub turn-stops : r ≡ held.Broken → Broken file at e k (scale_at file at e k n d) (b + 1 - at) (i + 1)
+  pub turn-stops : r ≡ None → Broken file at e k (scale_at file at e k n d) (b + 1 - at) (i + 1)
   turn-stops t = along-stops file at e k (scale_at file at e k n d) i b y l _ r h refl held-here t
 
-  pub turn_on : {t : ℕ} → r ≡ To t → Along file at e k (scale_at file at e k n d) (i + 1) t
+  pub turn_on : {t : ℕ} → r ≡ Some t → Along file at e k (scale_at file at e k n d) (i + 1) t
   turn_on q = along-on file at e k (scale_at file at e k n d) i b y l _ r h refl held-here q
 
-  pub turn-past : {t : ℕ} → r ≡ To t → b + 1 ≤ t
+  pub turn-past : {t : ℕ} → r ≡ Some t → b + 1 ≤ t
   turn-past q = held-past k (rule_of k (scale_at file at e k n d) i) (b + 1) (part file (b + 1) e) held-here q
 
 module _ (k n d i a : ℕ) (s : List ℕ) {b : Bool} (eb : b ≡ eqb i quantity_field && eqb k 250) (fs : List (List ℕ)) where
-  pub held-quantity : {r : Held} → b ≡ true → r ≡ held_of 250 (Value (decimals_named (field 1 (fields s)))) a s
+  pub held-quantity : {r : Option ℕ} → b ≡ true → r ≡ held_of 250 (Value (decimals_named (field 1 (fields s)))) a s
       → (i ≡ quantity_field → field quantity_unit_field fs ≡ field 1 (fields s)) → r ≡ held_of k (rule_of k (scale_for k n d fs) i) a s
   unfolding quantity_decimals
   held-quantity t e u =
       let q = rule-quantity k n d i fs (sym eb ∙ t) in
       rw (q.2, u q.1, q.0) e
 
-  pub held-field : {r : Held} {x : Rule} → b ≡ false → x ≡ rule_of k (scale n d) i → r ≡ held_of k x a s → r ≡ held_of k (rule_of k (scale_for k n d fs) i) a s
+  pub held-field : {r : Option ℕ} {x : Rule} → b ≡ false → x ≡ rule_of k (scale n d) i → r ≡ held_of k x a s → r ≡ held_of k (rule_of k (scale_for k n d fs) i) a s
   held-field t ex e = rw (← rule-for k n d i fs (sym eb ∙ t), ← ex) e
 
 -- ---- the fields that later rules ask for
@@ -325,8 +323,8 @@ pub along-at : (file : List ℕ) (at e k : ℕ) (z : Scale) (i j t : ℕ) → Al
 along-at file at e k z i j t l q = subst (λ (x : ℕ). Along file at e k z x t) q l
 
 -- the next of those that are left
-pub along-value : (file : List ℕ) (at e n d left t : ℕ) {r : Held} {z : ℕ} → Typed file at e 300 (scale n d) → Along file at e 300 (scale n d) (n + 2 - left) t → 2 ≤ n + 2 - left → 0 < left
-    → r ≡ held_of 300 (Value d) (t + 1) (part file (t + 1) e) → r ≡ To z → Along file at e 300 (scale n d) (n + 2 - (left - 1)) z
+pub along-value : (file : List ℕ) (at e n d left t : ℕ) {r : Option ℕ} {z : ℕ} → Typed file at e 300 (scale n d) → Along file at e 300 (scale n d) (n + 2 - left) t → 2 ≤ n + 2 - left → 0 < left
+    → r ≡ held_of 300 (Value d) (t + 1) (part file (t + 1) e) → r ≡ Some z → Along file at e 300 (scale n d) (n + 2 - (left - 1)) z
 unfolding row_of
 along-value file at e n d left t {r} {z} y l two some er q =
     let i : ℕ = n + 2 - left in

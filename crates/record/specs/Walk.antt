@@ -1,13 +1,13 @@
 -- A walk over the fields of a record, for the contracts of the inner functions.
-use Rattle.std.specs.Prelude.{ℕ, ◌+◌, ◌≤◌, ◌<◌, ◌≡◌, List, cond, length, drop, eqb}
+use Rattle.std.specs.Prelude.{ℕ, ◌+◌, ◌≤◌, ◌<◌, ◌≡◌, List, cond, length, drop, eqb, Result, Ok, Err}
 use Rattle.ground.specs.Lists.{part}
 use Rattle.format.specs.Cut.{fields, start_of}
 use Rattle.format.specs.Records.{Scale, scale_for, kind_in, count_of}
 use Rattle.format.specs.Faults.{fault_in, Fine, Stop}
 use Rattle.lines.specs.Places.{Starts}
 use Rattle.record.specs.declared.Spot.{Spot}
-use Rattle.record.specs.declared.Walked.{Walked}
-use Rattle.record.specs.declared.Walked.TheVariants as walked
+use Rattle.record.specs.declared.BadField.{BadField}
+use Rattle.record.specs.declared.Asked.{Asked}
 
 -- the fields that later rules ask for, by number from 0, where 0 is none: a 200's interval length and unit, a 300's quality, a 500's read time, a 250's
 -- qualities; a 400 is read by a crate of its own
@@ -63,6 +63,6 @@ pub record Broken (file : List ℕ) (at e k : ℕ) (z : Scale) (o i : ℕ) : Typ
   pub fault : fault_in k z 0 0 (fields (part file at e)) ≡ Stop 6 o i
   pub within : at + o ≤ e
 
-abbrev pub Walks : List ℕ → ℕ → ℕ → ℕ → Scale → Walked → Type 0
-Walks file at e k z (walked.Sound p q) = Sound file at e k z p q
-Walks file at e k z (walked.Broken o i) = Broken file at e k z o i
+abbrev pub Walks : List ℕ → ℕ → ℕ → ℕ → Scale → Result Asked BadField → Type 0
+Walks file at e k z (Ok a) = Sound file at e k z a.first a.second
+Walks file at e k z (Err b) = Broken file at e k z b.place b.field

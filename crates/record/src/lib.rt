@@ -9,14 +9,20 @@ ghost use Rattle.tries.specs.Holds.{held_of};
 ghost use Rattle.record.specs.Walk.{first_asked, second_asked, scale_at, Typed, Along, Goes, Walks};
 
 use rows::rule_at;
-use tries::{Held, field_held, quantity_held, value_held};
+use tries::{field_held, quantity_held, value_held};
 
-// What a walk over a record's fields found: each meets its rule, and where the two start that later rules ask for; or the leftmost that breaks its
-// rule, with its place from the record's start and its number from 1.
+// What a walk found over a record whose fields all meet their rules: where the two start that later rules ask for.
 #[derive(Clone, Copy)]
-pub enum Walked {
-    Sound(usize, usize),
-    Broken(usize, usize),
+pub struct Asked {
+    pub first: usize,
+    pub second: usize,
+}
+
+// The leftmost field that breaks its rule: its place from the record's start, and its number from 1.
+#[derive(Clone, Copy)]
+pub struct BadField {
+    pub place: usize,
+    pub field: usize,
 }
 
 // A loop over the fields: how many it has passed, and where the last of them ended.
@@ -70,7 +76,7 @@ fn pass_values(file: &[u8], at: usize, e: usize, n: usize, d: usize, i: usize, b
     while 0 < left {
         let a = t + 1;
         let h = value_held(file, a, e, d);
-        let Held::To(z) = h else {
+        let Some(z) = h else {
             return Spot {
                 i: behind - left,
                 b: t,
@@ -119,7 +125,7 @@ fn is_quantity(kind: u64, i: usize) -> bool
 }
 
 // Field i, which starts at a, held to its rule. A 250's quantity is held to the unit that stands behind it.
-fn held_at(file: &[u8], a: usize, e: usize, kind: u64, n: usize, d: usize, i: usize) -> Held
+fn held_at(file: &[u8], a: usize, e: usize, kind: u64, n: usize, d: usize, i: usize) -> Option<usize>
     requires { (a ≤ e) × (e ≤ length file.now) × (n ≤ 288) }
     ensures { (fs : List (List ℕ)) → (i ≡ quantity_field → field quantity_unit_field fs ≡ field 1 (fields (part file.now a e))) → result ≡ held_of kind (rule_of kind (scale_for kind n d fs) i) a (part file.now a e) }
 {
@@ -130,7 +136,7 @@ fn held_at(file: &[u8], a: usize, e: usize, kind: u64, n: usize, d: usize, i: us
 }
 
 // The record from at to e, of which the kind and the number of fields are known: an indicator has three bytes, so the walk starts behind it.
-pub fn check_fields(file: &[u8], at: usize, e: usize, kind: u64, n: usize, d: usize) -> Walked
+pub fn check_fields(file: &[u8], at: usize, e: usize, kind: u64, n: usize, d: usize) -> Result<Asked, BadField>
     requires { Typed file.now at e kind (scale_at file.now at e kind n d) × (n ≤ 288) }
     ensures { Walks file.now at e kind (scale_at file.now at e kind n d) result }
 {
@@ -143,8 +149,11 @@ pub fn check_fields(file: &[u8], at: usize, e: usize, kind: u64, n: usize, d: us
     while b < e {
         let a = b + 1;
         let h = held_at(file, a, e, kind, n, d, i);
-        let Held::To(t) = h else {
-            return Walked::Broken(a - at, i + 1);
+        let Some(t) = h else {
+            return Err(BadField {
+                place: a - at,
+                field: i + 1,
+            });
         };
         p = noted(v, p, i, a);
         q = noted(w, q, i, a);
@@ -152,5 +161,8 @@ pub fn check_fields(file: &[u8], at: usize, e: usize, kind: u64, n: usize, d: us
         i = s.i;
         b = s.b;
     }
-    Walked::Sound(p, q)
+    Ok(Asked {
+        first: p,
+        second: q,
+    })
 }

@@ -24,7 +24,6 @@ use Rattle.format.proofs.Cut.{field-here, start-next, start-end}
 use Rattle.lines.specs.Places.{Starts}
 use Rattle.record.specs.Walk.{Typed, Along, Broken}
 use Rattle.runs.specs.Ran.{Spans, Grades, Ran}
-use Rattle.tries.specs.declared.Held.TheVariants as held
 use Rattle.lines.proofs.Cuts.{first-is, rest_at, rest-first}
 use Rattle.says.proofs.Fields.{tag-eq}
 use Rattle.tries.proofs.Holds.{held_to, held-broken}
@@ -77,11 +76,11 @@ module _ (file : List ℕ) (at e : ℕ) (y : Typed file at e 400 no_scale) where
       module _ (x : Rule) (ex : x ≡ rule_of 400 no_scale i) {o : Bool} (eo : o ≡ obeys 400 x (take (b + 1 + m - (b + 1)) (drop (b + 1) file))) where
         run_on : o ≡ true → Along file at e 400 no_scale (i + 1) (b + 1 + m)
         run_on t =
-            along-on file at e 400 no_scale i b y l x (held.To (b + 1 + m)) behind ex (held_to file (b + 1) e m 400 x (omega (arith, behind)) y.within em eo t) refl
+            along-on file at e 400 no_scale i b y l x (Some (b + 1 + m)) behind ex (held_to file (b + 1) e m 400 x (omega (arith, behind)) y.within em eo t) refl
 
         run-stops : o ≡ false → Broken file at e 400 no_scale (b + 1 - at) (i + 1)
         run-stops t =
-            along-stops file at e 400 no_scale i b y l x held.Broken behind ex (held-broken file (b + 1) e m 400 x (omega (arith, behind)) y.within em eo t) refl
+            along-stops file at e 400 no_scale i b y l x None behind ex (held-broken file (b + 1) e m 400 x (omega (arith, behind)) y.within em eo t) refl
 
       -- x is what the rule of an interval answers
       module _ (ei : Interval ≡ rule_of 400 no_scale i) {x : Option ℕ} (q : x ≡ interval_of (take (b + 1 + m - (b + 1)) (drop (b + 1) file))) where

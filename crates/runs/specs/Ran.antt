@@ -1,5 +1,5 @@
 -- A 400 that was read in one go, for the contracts of the inner functions.
-use Rattle.std.specs.Prelude.{ℕ, ◌≡◌, List, Some}
+use Rattle.std.specs.Prelude.{ℕ, ◌≡◌, List, Some, Result, Ok, Err}
 use Rattle.ground.specs.Lists.{part}
 use Rattle.format.specs.Cut.{fields, field}
 use Rattle.format.specs.Records.{no_scale, first_in, last_in}
@@ -10,7 +10,7 @@ use Rattle.format.specs.declared.Tag.{Tag}
 use Rattle.lines.specs.Places.{Starts}
 use Rattle.record.specs.Walk.{Broken}
 use Rattle.runs.specs.declared.Run.{Run}
-use Rattle.runs.specs.declared.Run.TheVariants as run
+use Rattle.record.specs.declared.BadField.{BadField}
 
 -- its intervals
 pub record Spans (file : List ℕ) (at e from to : ℕ) : Type 0 where
@@ -29,6 +29,6 @@ pub record Ran (file : List ℕ) (at e from to q : ℕ) (t : Tag) : Type 0 where
   pub quality : Starts file (fields (part file at e)) at 3 q e
   pub tag : t ≡ tag_at 400 (row_at at (part file at e)) 3
 
-abbrev pub Runs : List ℕ → ℕ → ℕ → Run → Type 0
-Runs file at e (run.Some (grade from to) q t) = Ran file at e from to q t
-Runs file at e (run.Broken o i) = Broken file at e 400 no_scale o i
+abbrev pub Runs : List ℕ → ℕ → ℕ → Result Run BadField → Type 0
+Runs file at e (Ok r) = Ran file at e r.from r.to r.quality r.mark
+Runs file at e (Err b) = Broken file at e 400 no_scale b.place b.field

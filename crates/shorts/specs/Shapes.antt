@@ -1,12 +1,11 @@
 -- A value that is being read from place a of the file on, for the contracts of the inner functions: n and `zeros` are those of its digits up to q.
-use Rattle.std.specs.Prelude.{ℕ, ◌+◌, ◌≤◌, ◌<◌, ◌^◌, ◌≡◌, List, true, length, get_or}
+use Rattle.std.specs.Prelude.{ℕ, ◌+◌, ◌≤◌, ◌<◌, ◌^◌, ◌≡◌, List, true, length, get_or, Option, Some, None}
 use Rattle.ground.specs.Lists.{all, span_of, other, part}
 use Rattle.ground.specs.Digits.{is_digit, decimal_from, decimal}
 use Rattle.format.specs.Cut.{fields, field}
 use Rattle.format.specs.Records.{millionths}
 use Rattle.lines.specs.Places.{Cut}
-use Rattle.shorts.specs.declared.Taken.{Taken}
-use Rattle.shorts.specs.declared.Taken.TheVariants.{Value, Not}
+use Rattle.shorts.specs.declared.Valued.{Valued}
 
 -- digits, and no more than a value may have
 pub record Whole (file : List ℕ) (a q n zeros : ℕ) : Type 0 where
@@ -44,6 +43,6 @@ pub record ValueAt (file : List ℕ) (a e v x : ℕ) : Type 0 where
   pub cut : Cut file a e (a + span_of (other 44) (part file a e)) x
 
 -- a try says nothing where it did not come to a value
-abbrev pub Shown : List ℕ → ℕ → ℕ → Taken → Type 0
-Shown file a e (Value v x) = ValueAt file a e v x
-Shown file a e Not = Unit
+abbrev pub Shown : List ℕ → ℕ → ℕ → Option Valued → Type 0
+Shown file a e (Some x) = ValueAt file a e x.v x.next
+Shown file a e None = Unit

@@ -15,11 +15,11 @@ pub struct Digits {
     pub zeros: u64,
 }
 
-// What a try at a value came to: the value and where the next field starts, or nothing.
+// A value, in millionths, and where the next field starts; the record's end where there is none.
 #[derive(Clone, Copy)]
-pub enum Taken {
-    Value(u64, usize),
-    Not,
+pub struct Valued {
+    pub v: u64,
+    pub next: usize,
 }
 
 // One digit more.
@@ -36,24 +36,27 @@ fn more(d: Digits, b: u8) -> Digits
 }
 
 // The value from a up to q, if a comma follows; its last digit stands for so many millionths.
-fn ended(file: &[u8], a: usize, e: usize, q: usize, d: Digits, unit: u64) -> Taken
+fn ended(file: &[u8], a: usize, e: usize, q: usize, d: Digits, unit: u64) -> Option<Valued>
     requires { Complete file.now a e q ((d.n - d.zeros) * unit) × (d.zeros ≤ d.n) }
     ensures { Shown file.now a e result }
 {
     if file[q] != 44 {
-        return Taken::Not;
+        return None;
     }
-    Taken::Value((d.n - d.zeros) * unit, q + 1)
+    Some(Valued {
+        v: (d.n - d.zeros) * unit,
+        next: q + 1,
+    })
 }
 
 // Up to q stand digits and a point.
-fn fraction(file: &[u8], a: usize, e: usize, q: usize, d: Digits) -> Taken
+fn fraction(file: &[u8], a: usize, e: usize, q: usize, d: Digits) -> Option<Valued>
     requires { Pointed file.now a q 0 d.n d.zeros × (d.n < 10 ^ 5) × (q + 4 ≤ e) × (e ≤ length file.now) }
     ensures { Shown file.now a e result }
 {
     let b1 = file[q];
     if !is_digit(b1) {
-        return Taken::Not;
+        return None;
     }
     let d1 = more(d, b1);
     let q1 = q + 1;
@@ -71,7 +74,7 @@ fn fraction(file: &[u8], a: usize, e: usize, q: usize, d: Digits) -> Taken
 }
 
 // Up to q stand three digits.
-fn behind_three(file: &[u8], a: usize, e: usize, q: usize, d: Digits) -> Taken
+fn behind_three(file: &[u8], a: usize, e: usize, q: usize, d: Digits) -> Option<Valued>
     requires { Whole file.now a q d.n d.zeros × (d.n < 10 ^ 5) × (q + 5 ≤ e) × (e ≤ length file.now) }
     ensures { Shown file.now a e result }
 {
@@ -82,13 +85,13 @@ fn behind_three(file: &[u8], a: usize, e: usize, q: usize, d: Digits) -> Taken
 }
 
 // The value at a, if it is such a one. A point is looked for before a digit, since most values have one behind their first digits.
-pub fn short_at(file: &[u8], a: usize, e: usize) -> Taken
+pub fn short_at(file: &[u8], a: usize, e: usize) -> Option<Valued>
     requires { (a + 8 ≤ e) × (e ≤ length file.now) }
     ensures { Shown file.now a e result }
 {
     let b1 = file[a];
     if !is_digit(b1) {
-        return Taken::Not;
+        return None;
     }
     let d1 = more(Digits { n: 0, zeros: 0 }, b1);
     let q1 = a + 1;

@@ -1,5 +1,5 @@
 -- One field held to its rule, at a likely length or by its end. Assumes nothing.
-use Rattle.std.proofs.Common.{Option, Some}
+use Rattle.std.proofs.Common.{Option, Some, None}
 use Prim.Native.Nat.{ℕ, ◌+◌, ◌-◌, ◌≤◌, ◌<◌}
 use mathlib.Core.Path.{◌≡◌, refl, sym, ap, ◌∙◌}
 use mathlib.Core.List.{List, [], ◌∷◌}
@@ -36,8 +36,6 @@ use Rattle.quick_values.proofs.Shapes.{thousandths-value, thousandths-plain}
 use Rattle.ground.proofs.Bytes.{holds-none}
 use Rattle.quick_dates.proofs.CommonDates.{date-plain, time-plain}
 use Rattle.tries.specs.Holds.{Ended, held_of}
-use Rattle.tries.specs.declared.Held.{Held}
-use Rattle.tries.specs.declared.Held.TheVariants.{To, Broken}
 use Rattle.lines.specs.Places.{Stops, Cut}
 use Rattle.lines.proofs.Cuts.{first-is}
 use Rattle.lines.proofs.Commas.{stops-comma, span-is, field_is, long}
@@ -50,23 +48,23 @@ alnum-plain f h = holds-none 44 is_alnum refl f h
 
 module _ (file : List ℕ) (a e m : ℕ) (within : e ≤ length file) (le : a ≤ e) (s : Stops file a e m) where
   module _ (plain : all (other 44) (part file a (a + m)) ≡ true) where
-    pub ended_at : (p : List ℕ → Bool) → p (part file a (a + m)) ≡ true → Ended p a (part file a e) (To (a + m))
+    pub ended_at : (p : List ℕ → Bool) → p (part file a (a + m)) ≡ true → Ended p a (part file a e) (Some (a + m))
     ended_at p t = (rw (span-is file a e m within le s plain), rw (field_is file a e m within le s plain) t)
 
-  pub alnum-ended : {o : Bool} → o ≡ all is_alnum (part file a (a + m)) → o ≡ true → Ended (are_all is_alnum m m) a (part file a e) (To (a + m))
+  pub alnum-ended : {o : Bool} → o ≡ all is_alnum (part file a (a + m)) → o ≡ true → Ended (are_all is_alnum m m) a (part file a e) (Some (a + m))
   unfolding are_all
   alnum-ended e t =
       let h : all is_alnum (part file a (a + m)) ≡ true = sym e ∙ t in
       ended_at (alnum-plain (part file a (a + m)) h) (are_all is_alnum m m) (rw (long file a _ m within le s, le-leb m m (omega arith), h))
 
-  pub date-ended : {o : Bool} → o ≡ is_number (date_of (part file a (a + m))) → o ≡ true → Ended (λ f. is_number (date_of f)) a (part file a e) (To (a + m))
+  pub date-ended : {o : Bool} → o ≡ is_number (date_of (part file a (a + m))) → o ≡ true → Ended (λ f. is_number (date_of f)) a (part file a e) (Some (a + m))
   date-ended e t = let h = sym e ∙ t in ended_at (date-plain (part file a (a + m)) h) (λ f. is_number (date_of f)) h
 
-  pub time-ended : {o : Bool} → o ≡ is_number (time_of (part file a (a + m))) → o ≡ true → Ended (λ f. is_number (time_of f)) a (part file a e) (To (a + m))
+  pub time-ended : {o : Bool} → o ≡ is_number (time_of (part file a (a + m))) → o ≡ true → Ended (λ f. is_number (time_of f)) a (part file a e) (Some (a + m))
   time-ended e t = let h = sym e ∙ t in ended_at (time-plain (part file a (a + m)) h) (λ f. is_number (time_of f)) h
 
 pub one_ended : (file : List ℕ) (a e x : ℕ) → e ≤ length file → a ≤ e → Stops file a e 1 → get_or file a 0 ≡ x → eqb x 44 ≡ false
-    → Ended (λ f. same f (x ∷ [])) a (part file a e) (To (a + 1))
+    → Ended (λ f. same f (x ∷ [])) a (part file a e) (Some (a + 1))
 unfolding same
 one_ended file a e x within le s g n =
     let h : a < length file = omega (arith, s.room) in
@@ -76,13 +74,13 @@ one_ended file a e x within le s g n =
     one : a < length file → part file a (a + 1) ≡ x ∷ []
     one h = let w : a + 1 - a ≡ 1 = omega arith in rw (w, rest file a h, g)
 
-pub none-ended : (file : List ℕ) (a e : ℕ) → e ≤ length file → a ≤ e → Stops file a e 0 → Ended (λ f. eqb (length f) 0) a (part file a e) (To a)
+pub none-ended : (file : List ℕ) (a e : ℕ) → e ≤ length file → a ≤ e → Stops file a e 0 → Ended (λ f. eqb (length f) 0) a (part file a e) (Some a)
 none-ended file a e within le s =
     let w : a + 0 - a ≡ 0 = omega arith in
     rw add-zero at (ended_at file a e 0 within le s (rw w) (λ f. eqb (length f) 0) (rw w))
 
 pub kwh-ended : (file : List ℕ) (a e : ℕ) → e ≤ length file → a ≤ e → Stops file a e 3 → {o : Bool} → o ≡ same (part file a (a + 3)) (bytes "kWh") → o ≡ true
-    → Ended (λ f. same f (bytes "kWh")) a (part file a e) (To (a + 3))
+    → Ended (λ f. same f (bytes "kWh")) a (part file a e) (Some (a + 3))
 kwh-ended file a e within le s eo t =
     let h : same (part file a (a + 3)) (bytes "kWh") ≡ true = sym eo ∙ t in
     let q : part file a (a + 3) ≡ bytes "kWh" = same-sound (part file a (a + 3)) (bytes "kWh") h in
@@ -90,9 +88,9 @@ kwh-ended file a e within le s eo t =
 
 -- ---- the rule of such a field
 
-ended_by : (p q : List ℕ → Bool) → ((f : List ℕ) → p f ≡ true → q f ≡ true) → (a : ℕ) (s : List ℕ) (r : Held) → Ended p a s r → Ended q a s r
-ended_by p q h a s (To z) g = (g.0, h (field 0 (fields s)) g.1)
-ended_by p q h a s Broken g = tt
+ended_by : (p q : List ℕ → Bool) → ((f : List ℕ) → p f ≡ true → q f ≡ true) → (a : ℕ) (s : List ℕ) (r : Option ℕ) → Ended p a s r → Ended q a s r
+ended_by p q h a s (Some z) g = (g.0, h (field 0 (fields s)) g.1)
+ended_by p q h a s None g = tt
 
 or-empty : (rule : List ℕ → Option ℕ) (f : List ℕ) → is_number (rule f) ≡ true → is_number (or_empty 0 rule f) ≡ true
 or-empty rule f t = go (eqb (length f) 0)
@@ -101,7 +99,7 @@ or-empty rule f t = go (eqb (length f) 0)
     go true = refl
     go false = t
 
-module _ (a : ℕ) (s : List ℕ) (r : Held) (x : Rule) where
+module _ (a : ℕ) (s : List ℕ) (r : Option ℕ) (x : Rule) where
   pub ended-nmi : x ≡ rule.Nmi → Ended (are_all is_alnum 10 10) a s r → (k : ℕ) → Ended (obeys k x) a s r
   unfolding obeys is_nmi
   ended-nmi e h k = rw e h
@@ -157,11 +155,11 @@ module _ (a : ℕ) (s : List ℕ) (r : Held) (x : Rule) where
 -- ---- the field held to its rule
 
 module _ (k : ℕ) (x : Rule) (a : ℕ) (s : List ℕ) where
-  pub held-ended : (z : ℕ) → Ended (obeys k x) a s (To z) → To z ≡ held_of k x a s
+  pub held-ended : (z : ℕ) → Ended (obeys k x) a s (Some z) → Some z ≡ held_of k x a s
   unfolding held_of
   held-ended z h = rw (h.0, h.1)
 
-  pub held-tried : {r : Held} {z : ℕ} → ((j : ℕ) → Ended (obeys j x) a s r) → r ≡ To z → To z ≡ held_of k x a s
+  pub held-tried : {r : Option ℕ} {z : ℕ} → ((j : ℕ) → Ended (obeys j x) a s r) → r ≡ Some z → Some z ≡ held_of k x a s
   held-tried {r} {z} h e = held-ended z (rw e at (h k))
 
 -- m is what `field_end` answers of the record from a on, o what the rule answers of that field
@@ -170,18 +168,18 @@ module _ (file : List ℕ) (a e m k : ℕ) (x : Rule) (le : a ≤ e) (within : e
   held-is : o ≡ obeys k x (field 0 (fields (part file a e)))
   held-is = rw (← first-is file a e m le within em) eo
 
-  pub held_to : o ≡ true → To (a + m) ≡ held_of k x a (part file a e)
+  pub held_to : o ≡ true → Some (a + m) ≡ held_of k x a (part file a e)
   unfolding held_of
   held_to t = rw (← held-is, t, ← em)
 
-  pub held-broken : o ≡ false → Broken ≡ held_of k x a (part file a e)
+  pub held-broken : o ≡ false → None ≡ held_of k x a (part file a e)
   unfolding held_of
   held-broken t = rw (← held-is, t)
 
 -- of a value of at most d decimals
 module _ (file : List ℕ) (a e d : ℕ) (le : a ≤ e) (within : e ≤ length file) where
   pub held-thousandths : {o : Bool} → 5 < e - a → get_or file (a + 5) 0 ≡ 44 → o ≡ is_thousandths (take (a + 5 - a) (drop a file)) → o ≡ true → 3 ≤ d
-      → To (a + 5) ≡ held_of 300 (rule.Value d) a (part file a e)
+      → Some (a + 5) ≡ held_of 300 (rule.Value d) a (part file a e)
   unfolding obeys
   held-thousandths h c eo t three =
       let q : is_thousandths (part file a (a + 5)) ≡ true = sym eo ∙ t in
@@ -190,7 +188,7 @@ module _ (file : List ℕ) (a e d : ℕ) (le : a ≤ e) (within : e ≤ length f
 
 -- of a quantity that has one decimal at the most, which every unit has
 pub quantity-short : (file : List ℕ) (a e b x : ℕ) → Cut file a e b x → {o : Bool} → o ≡ is_number (value_of 1 (take (b - a) (drop a file))) → o ≡ true
-    → To b ≡ held_of 250 (rule.Value (decimals_named (field 1 (fields (part file a e))))) a (part file a e)
+    → Some b ≡ held_of 250 (rule.Value (decimals_named (field 1 (fields (part file a e))))) a (part file a e)
 unfolding held_of obeys
 quantity-short file a e b x c eo t =
     let d = decimals_named (field 1 (fields (part file a e))) in
@@ -207,10 +205,10 @@ module _ (file : List ℕ) (a e b x : ℕ) (c : Cut file a e b x) {d : ℕ} {f :
   unfolding obeys
   asked = rw (c.here, ← own) eo
 
-  pub quantity-to : o ≡ true → To b ≡ held_of 250 (rule.Value (decimals_named (field 1 (fields (part file a e))))) a (part file a e)
+  pub quantity-to : o ≡ true → Some b ≡ held_of 250 (rule.Value (decimals_named (field 1 (fields (part file a e))))) a (part file a e)
   unfolding held_of
   quantity-to t = rw (← asked, t, ← c.to)
 
-  pub quantity-broken : o ≡ false → Broken ≡ held_of 250 (rule.Value (decimals_named (field 1 (fields (part file a e))))) a (part file a e)
+  pub quantity-broken : o ≡ false → None ≡ held_of 250 (rule.Value (decimals_named (field 1 (fields (part file a e))))) a (part file a e)
   unfolding held_of
   quantity-broken t = rw (← asked, t)

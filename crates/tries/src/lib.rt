@@ -24,13 +24,6 @@ use quick_values::{is_value, thousandths};
 use rows::obeys;
 use units::named_decimals;
 
-// A field held to its rule: it meets it, and where it ends; or it breaks it.
-#[derive(Clone, Copy)]
-pub enum Held {
-    To(usize),
-    Broken,
-}
-
 // A comma or the record's end follows m bytes.
 fn ends(file: &[u8], a: usize, e: usize, m: usize) -> bool
     requires { (a ≤ e) × (e ≤ length file.now) }
@@ -43,85 +36,85 @@ fn ends(file: &[u8], a: usize, e: usize, m: usize) -> bool
 }
 
 // m letters and digits.
-fn alnum_to(file: &[u8], a: usize, e: usize, m: usize) -> Held
+fn alnum_to(file: &[u8], a: usize, e: usize, m: usize) -> Option<usize>
     requires { (a ≤ e) × (e ≤ length file.now) }
     ensures { Ended (are_all is_alnum m m) a (part file.now a e) result }
 {
     if ends(file, a, e, m) {
         let z = a + m;
         if all_in(&file[a..z], Class::Alnum) {
-            return Held::To(z);
+            return Some(z);
         }
     }
-    Held::Broken
+    None
 }
 
-fn date_to(file: &[u8], a: usize, e: usize) -> Held
+fn date_to(file: &[u8], a: usize, e: usize) -> Option<usize>
     requires { (a ≤ e) × (e ≤ length file.now) }
     ensures { Ended (λ f. is_number (date_of f)) a (part file.now a e) result }
 {
     if ends(file, a, e, 8) {
         let z = a + 8;
         if is_date(&file[a..z]) {
-            return Held::To(z);
+            return Some(z);
         }
     }
-    Held::Broken
+    None
 }
 
-fn time_to(file: &[u8], a: usize, e: usize) -> Held
+fn time_to(file: &[u8], a: usize, e: usize) -> Option<usize>
     requires { (a ≤ e) × (e ≤ length file.now) }
     ensures { Ended (λ f. is_number (time_of f)) a (part file.now a e) result }
 {
     if ends(file, a, e, 14) {
         let z = a + 14;
         if is_time(&file[a..z]) {
-            return Held::To(z);
+            return Some(z);
         }
     }
-    Held::Broken
+    None
 }
 
 // The one byte x, which is no comma.
-fn one_to(file: &[u8], a: usize, e: usize, x: u8) -> Held
+fn one_to(file: &[u8], a: usize, e: usize, x: u8) -> Option<usize>
     requires { (a ≤ e) × (e ≤ length file.now) × (eqb x 44 ≡ false) }
     ensures { Ended (λ f. same f (x ∷ [])) a (part file.now a e) result }
 {
     if ends(file, a, e, 1) {
         if file[a] == x {
-            return Held::To(a + 1);
+            return Some(a + 1);
         }
     }
-    Held::Broken
+    None
 }
 
 // No bytes.
-fn none_to(file: &[u8], a: usize, e: usize) -> Held
+fn none_to(file: &[u8], a: usize, e: usize) -> Option<usize>
     requires { (a ≤ e) × (e ≤ length file.now) }
     ensures { Ended (λ f. eqb (length f) 0) a (part file.now a e) result }
 {
     if ends(file, a, e, 0) {
-        return Held::To(a);
+        return Some(a);
     }
-    Held::Broken
+    None
 }
 
 // `kWh`, the commonest unit.
-fn kwh_to(file: &[u8], a: usize, e: usize) -> Held
+fn kwh_to(file: &[u8], a: usize, e: usize) -> Option<usize>
     requires { (a ≤ e) × (e ≤ length file.now) }
     ensures { Ended (λ f. same f (bytes "kWh")) a (part file.now a e) result }
 {
     if ends(file, a, e, 3) {
         let z = a + 3;
         if same_bytes(&file[a..z], b"kWh") {
-            return Held::To(z);
+            return Some(z);
         }
     }
-    Held::Broken
+    None
 }
 
 // At the likely length of the rule: a field that does not meet it so may still meet it.
-fn tried(file: &[u8], a: usize, e: usize, rule: Rule) -> Held
+fn tried(file: &[u8], a: usize, e: usize, rule: Rule) -> Option<usize>
     requires { (a ≤ e) × (e ≤ length file.now) }
     ensures { (k : ℕ) → Ended (obeys k rule) a (part file.now a e) result }
 {
@@ -138,49 +131,49 @@ fn tried(file: &[u8], a: usize, e: usize, rule: Rule) -> Held
         Rule::Quality => one_to(file, a, e, 65),
         Rule::Reason => none_to(file, a, e),
         Rule::Description => none_to(file, a, e),
-        _ => Held::Broken,
+        _ => None,
     }
 }
 
 // By its end.
-fn simply_held(file: &[u8], a: usize, e: usize, kind: u64, rule: Rule) -> Held
+fn simply_held(file: &[u8], a: usize, e: usize, kind: u64, rule: Rule) -> Option<usize>
     requires { (a ≤ e) × (e ≤ length file.now) }
     ensures { result ≡ held_of kind rule a (part file.now a e) }
 {
     let t = a + field_end(&file[a..e]);
     if obeys(kind, rule, &file[a..t]) {
-        return Held::To(t);
+        return Some(t);
     }
-    Held::Broken
+    None
 }
 
 // The field that starts at a, in a record of the kind that ends at e.
-pub fn field_held(file: &[u8], a: usize, e: usize, kind: u64, rule: Rule) -> Held
+pub fn field_held(file: &[u8], a: usize, e: usize, kind: u64, rule: Rule) -> Option<usize>
     requires { (a ≤ e) × (e ≤ length file.now) }
     ensures { result ≡ held_of kind rule a (part file.now a e) }
 {
     let h = tried(file, a, e, rule);
     match h {
-        Held::To(z) => Held::To(z),
-        Held::Broken => simply_held(file, a, e, kind, rule),
+        Some(z) => Some(z),
+        None => simply_held(file, a, e, kind, rule),
     }
 }
 
 // A value of a 300, of at most d decimals, by its end: nearly every field of a 5-minute file is a value, so its rule is asked by `is_value`, which needs no
 // number, and not through `obeys`, which would first look for the rule among all.
-fn value_ended(file: &[u8], a: usize, e: usize, d: usize) -> Held
+fn value_ended(file: &[u8], a: usize, e: usize, d: usize) -> Option<usize>
     requires { (a ≤ e) × (e ≤ length file.now) × (d ≤ 6) }
     ensures { result ≡ held_of 300 (Value d) a (part file.now a e) }
 {
     let t = a + field_end(&file[a..e]);
     if is_value(&file[a..t], d) {
-        return Held::To(t);
+        return Some(t);
     }
-    Held::Broken
+    None
 }
 
 // The same, its commonest shape tried first, where three decimals are allowed: a digit, a point and three digits.
-pub fn value_held(file: &[u8], a: usize, e: usize, d: usize) -> Held
+pub fn value_held(file: &[u8], a: usize, e: usize, d: usize) -> Option<usize>
     requires { (a ≤ e) × (e ≤ length file.now) × (d ≤ 6) }
     ensures { result ≡ held_of 300 (Value d) a (part file.now a e) }
 {
@@ -191,7 +184,7 @@ pub fn value_held(file: &[u8], a: usize, e: usize, d: usize) -> Held
         let z = a + 5;
         if file[z] == 44 {
             if thousandths(&file[a..z]) {
-                return Held::To(z);
+                return Some(z);
             }
         }
     }
@@ -200,19 +193,19 @@ pub fn value_held(file: &[u8], a: usize, e: usize, d: usize) -> Held
 
 // A 250's quantity: its decimals are those of its unit, which the field behind it names. Every unit has one decimal at least, so most quantities need no look
 // at theirs.
-pub fn quantity_held(file: &[u8], a: usize, e: usize) -> Held
+pub fn quantity_held(file: &[u8], a: usize, e: usize) -> Option<usize>
     requires { (a ≤ e) × (e ≤ length file.now) }
     ensures { result ≡ held_of 250 (Value (decimals_named (field 1 (fields (part file.now a e))))) a (part file.now a e) }
 {
     let q = field_at(file, a, e);
     let t = q.to;
     if is_value(&file[a..t], 1) {
-        return Held::To(t);
+        return Some(t);
     }
     let x = q.next;
     let d = named_decimals(first_field(file, x, e));
     if is_value(&file[a..t], d) {
-        return Held::To(t);
+        return Some(t);
     }
-    Held::Broken
+    None
 }

@@ -6,7 +6,6 @@ ghost use Rattle.format.specs.Bytes.{capital};
 ghost use Rattle.format.specs.Units.{same_letters, unit_of, is_unit, unit_name, decimals_of, decimals_named};
 ghost use Rattle.units.specs.Table.{table};
 
-
 // How many units there are.
 const COUNT: usize = 23;
 

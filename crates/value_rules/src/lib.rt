@@ -40,7 +40,8 @@ pub fn up_to_six(d: usize) -> usize
 fn fraction(f: &[u8], d: usize) -> Option<u64>
     ensures { result ≡ fraction_of d f.now }
 {
-    digits(f, 1, up_to_six(d)).map(|v| v * tens(f.len()))
+    let v = digits(f, 1, up_to_six(d))?;
+    Some(v * tens(f.len()))
 }
 
 // A whole number and millionths together.

@@ -11,8 +11,8 @@ use Rattle.quick_values.specs.Shapes.{is_thousandths}
 use Rattle.quick_values.proofs.Shapes.{thousandths-plain}
 use Rattle.lines.specs.Places.{Cut}
 use Rattle.lines.proofs.Commas.{comma-field, comma-whole}
-use Rattle.shorts.specs.declared.Taken.{Taken}
-use Rattle.shorts.specs.declared.Taken.TheVariants.{Value}
+use Rattle.std.proofs.Common.{Option, Some}
+use Rattle.shorts.specs.declared.Valued.{Valued}
 use Rattle.shorts.specs.Shapes.{ValueAt, Shown}
 
 -- o is what `thousandths` answers of the five bytes from a on, which a comma follows
@@ -25,17 +25,17 @@ module _ (file : List ℕ) (a e : ℕ) (le : a ≤ e) (within : e ≤ length fil
   five-cut = comma-whole file a e 5 le within h c (thousandths-plain _ (sym eo ∙ t))
 
 -- what a try came to, taken over
-module _ (file : List ℕ) (a e : ℕ) {t : Taken} (v x : ℕ) (s : Shown file a e t) (q : t ≡ Value v x) where
-  taken : ValueAt file a e v x
+module _ (file : List ℕ) (a e : ℕ) {t : Option Valued} (x : Valued) (s : Shown file a e t) (q : t ≡ Some x) where
+  taken : ValueAt file a e x.v x.next
   taken = rw q at s
 
-  pub taken_is : v ≡ millionths (field 0 (fields (part file a e)))
+  pub taken_is : x.v ≡ millionths (field 0 (fields (part file a e)))
   taken_is = taken.is
 
-  pub taken-small : v < 10 ^ 13
+  pub taken-small : x.v < 10 ^ 13
   taken-small = taken.small
 
-  pub taken-cut : Cut file a e (a + span_of (other 44) (part file a e)) x
+  pub taken-cut : Cut file a e (a + span_of (other 44) (part file a e)) x.next
   taken-cut = taken.cut
 
 -- any other field

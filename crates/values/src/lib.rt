@@ -12,14 +12,7 @@ use lines::pieces::field_at;
 use lumps::thousand;
 use quick_values::thousandths;
 use says::value_of;
-use shorts::{Taken, short_at};
-
-// A value, in millionths, and where the next field starts; the record's end where there is none.
-#[derive(Clone, Copy)]
-pub struct Valued {
-    pub v: u64,
-    pub next: usize,
-}
+use shorts::{Valued, short_at};
 
 // The value at a, in a record that ends at e. Its commonest shape, a digit, a point and three digits, is tried first: its end need not be looked for, and its
 // number needs no loop.
@@ -66,10 +59,8 @@ pub fn value_in_pass(file: &[u8], a: usize, e: usize, stop: usize) -> Valued
     ensures cut { Cut file.now a e (a + span_of (other 44) (part file.now a e)) result.next }
 {
     if a < stop {
-        let t = short_at(file, a, e);
-        match t {
-            Taken::Value(v, next) => return Valued { v, next },
-            Taken::Not => {}
+        if let Some(valued) = short_at(file, a, e) {
+            return valued;
         }
     }
     value_at(file, a, e)

@@ -1,4 +1,5 @@
 -- What the walker hands out at a place: made of what the pass over the record found, and read back by a caller. Assumes nothing.
+use Rattle.std.proofs.Common.{Option, Some, None, ◌×◌}
 use Prim.Native.Nat.{ℕ, ◌+◌, ◌-◌, ◌≤◌, ◌<◌}
 use mathlib.Core.Path.{◌≡◌, refl, sym, ◌∙◌, subst}
 use mathlib.Core.List.{List}
@@ -15,8 +16,6 @@ use Rattle.format.proofs.Cut.{fields-some, count_most}
 use Rattle.lines.specs.Places.{line_len, LineEnd, Looked}
 use Rattle.lines.proofs.Ends.{line_at, line-none, line-more, line-room, line-long}
 use Rattle.lines.specs.declared.Found.{Found}
-use Rattle.walker.specs.declared.Record.{Record}
-use Rattle.walker.specs.declared.Record.TheVariants.{At, None}
 use Rattle.walker.specs.Handed.{record_at}
 
 module _ (file : List ℕ) (at : ℕ) where
@@ -35,7 +34,7 @@ module _ (file : List ℕ) (at : ℕ) where
     unfolding record_at
     none_here h = rw (line-none file at f.end l.ends h)
 
-    pub one-here : (f.end ≡ length file → ⊥) → At at f ≡ record_at file at
+    pub one-here : (f.end ≡ length file → ⊥) → Some (at, f) ≡ record_at file at
     unfolding record_at
     one-here h =
         let s : span_of plain (part file at f.end) ≡ f.bad - at = omega (arith, l.first) in
@@ -47,8 +46,8 @@ module _ (file : List ℕ) (at : ℕ) where
 
   -- ---- read back: what a caller knows of each case
 
-  abbrev Told : Record → Type 0
-  Told (At s f) = Looked file at f.end f.bad f.commas × (f.end ≡ length file → ⊥)
+  abbrev Told : Option (ℕ × Found) → Type 0
+  Told (Some (s, f)) = Looked file at f.end f.bad f.commas × (f.end ≡ length file → ⊥)
   Told None = lines (drop at file) ≡ rest (drop at file)
 
   abbrev end : ℕ
@@ -85,11 +84,11 @@ module _ (file : List ℕ) (at : ℕ) where
       by true q = let h : length file < at = ltb-true _ _ q in subst Told (none-behind h) (behind h)
       by false q = here (ltb-false _ _ q) (eqb found.end (length file)) refl
 
-  module _ (r : Record) (is : r ≡ record_at file at) where
+  module _ (r : Option (ℕ × Found)) (is : r ≡ record_at file at) where
     pub handed-none : r ≡ None → lines (drop at file) ≡ rest (drop at file)
     handed-none q = subst Told (sym is ∙ q) told
 
-    module _ (s : ℕ) (f : Found) (q : r ≡ At s f) where
+    module _ (s : ℕ) (f : Found) (q : r ≡ Some (s, f)) where
       pub handed-looked : Looked file at f.end f.bad f.commas
       handed-looked = (subst Told (sym is ∙ q) told).0
 

@@ -14,24 +14,18 @@ struct Walker<'a> {
     at: usize,
 }
 
-// A record: where it starts, and its end, its first byte that is not plain and its commas; or none, where no CR LF follows.
-#[derive(Clone, Copy)]
-pub enum Record {
-    At(usize, Found),
-    None,
-}
-
-// A record, and the place behind its CR LF; where there is none, the place as it was.
+// A record: where it starts, and its end, its first byte that is not plain and its commas; and the place behind its CR LF. Where no CR LF follows there is none, and the
+// place is as it was.
 #[derive(Clone, Copy)]
 struct Fetched {
-    record: Record,
+    record: Option<(usize, Found)>,
     to: usize,
 }
 
 // What the walker hands out: the record at its cursor, and the walker behind that record, for the next one.
 #[derive(Clone, Copy)]
 struct HandedOn<'a> {
-    record: Record,
+    record: Option<(usize, Found)>,
     walker: Walker<'a>,
 }
 
@@ -42,20 +36,20 @@ fn found_at(file: &[u8], at: usize) -> Fetched
     let n = file.len();
     if n < at {
         return Fetched {
-            record: Record::None,
+            record: None,
             to: at,
         };
     }
     let found = scan(file, at);
     if found.end == n {
         return Fetched {
-            record: Record::None,
+            record: None,
             to: at,
         };
     }
     let to = found.end + 2;
     Fetched {
-        record: Record::At(at, found),
+        record: Some((at, found)),
         to,
     }
 }
@@ -96,7 +90,7 @@ impl<'a> Walker<'a> {
 }
 
 // The record that a walker hands out at a place of the file.
-pub fn record_at(file: &[u8], at: usize) -> Record
+pub fn record_at(file: &[u8], at: usize) -> Option<(usize, Found)>
     ensures { result ≡ record_at file.now at }
 {
     Walker::new(file).moved(at).next().record

@@ -1,20 +1,17 @@
 -- `date_rules::created` meets its contract. Assumes nothing.
+use Rattle.std.proofs.Common.{◌∙◌}
+use Rattle.format.specs.Dates.{is_minute, created_of}
 use Rattle.date_rules.proofs.Cases.{minute-below}
-use Rattle.format.proofs.Numbers.{that-is, that-not, that-bad}
-use Rattle.format.specs.Dates.{created_of}
+use Rattle.format.proofs.Numbers.{that-then, that-bad}
 use Rattle.date_rules.proofs.created.Goals as goal
 
+pub returns-in_err-t : goal.returns-in_err-t
+unfolding created_of
+returns-in_err-t c = c.from_residual.ensures ∙ that-bad is_minute c.digits.ensures c.in_err-t.was
+
 pub is_minute-requires : goal.is_minute-requires
-is_minute-requires c = search minute-below
+is_minute-requires c = minute-below _ c.digits.ensures c.in_ok-t.was
 
-pub returns-then-is_minute : goal.returns-then-is_minute
+pub returns : goal.returns
 unfolding created_of
-returns-then-is_minute c = search (that-is, that-not, that-bad)
-
-pub returns-else-is_minute : goal.returns-else-is_minute
-unfolding created_of
-returns-else-is_minute c = search (that-is, that-not, that-bad)
-
-pub returns-in-None : goal.returns-in-None
-unfolding created_of
-returns-in-None c = search (that-is, that-not, that-bad)
+returns c = c.then_some.ensures ∙ that-then is_minute c.digits.ensures c.in_ok-t.was c.is_minute.ensures

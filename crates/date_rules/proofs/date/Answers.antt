@@ -1,16 +1,13 @@
 -- `date_rules::date` meets its contract. Assumes nothing.
-use Rattle.format.proofs.Numbers.{that-is, that-not, that-bad}
-use Rattle.format.specs.Dates.{date_of}
+use Rattle.std.proofs.Common.{◌∙◌}
+use Rattle.format.specs.Dates.{is_date, date_of}
+use Rattle.format.proofs.Numbers.{that-then, that-bad}
 use Rattle.date_rules.proofs.date.Goals as goal
 
-pub returns-then-is_date : goal.returns-then-is_date
+pub returns-in_err-t : goal.returns-in_err-t
 unfolding date_of
-returns-then-is_date c = search (that-is, that-not, that-bad)
+returns-in_err-t c = c.from_residual.ensures ∙ that-bad is_date c.digits.ensures c.in_err-t.was
 
-pub returns-else-is_date : goal.returns-else-is_date
+pub returns : goal.returns
 unfolding date_of
-returns-else-is_date c = search (that-is, that-not, that-bad)
-
-pub returns-in-None : goal.returns-in-None
-unfolding date_of
-returns-in-None c = search (that-is, that-not, that-bad)
+returns c = c.then_some.ensures ∙ that-then is_date c.digits.ensures c.in_ok-t.was c.is_date.ensures

@@ -1,16 +1,13 @@
 -- `date_rules::taken` meets its contract. Assumes nothing.
-use Rattle.format.proofs.Numbers.{that-is, that-not, that-bad}
-use Rattle.format.specs.Dates.{taken_of}
+use Rattle.std.proofs.Common.{◌∙◌}
+use Rattle.format.specs.Dates.{is_read_time, taken_of}
+use Rattle.format.proofs.Numbers.{that-then, that-bad}
 use Rattle.date_rules.proofs.taken.Goals as goal
 
-pub returns-then-is_read_time : goal.returns-then-is_read_time
+pub returns-in_err-t : goal.returns-in_err-t
 unfolding taken_of
-returns-then-is_read_time c = search (that-is, that-not, that-bad)
+returns-in_err-t c = c.from_residual.ensures ∙ that-bad is_read_time c.digits.ensures c.in_err-t.was
 
-pub returns-else-is_read_time : goal.returns-else-is_read_time
+pub returns : goal.returns
 unfolding taken_of
-returns-else-is_read_time c = search (that-is, that-not, that-bad)
-
-pub returns-in-None : goal.returns-in-None
-unfolding taken_of
-returns-in-None c = search (that-is, that-not, that-bad)
+returns c = c.then_some.ensures ∙ that-then is_read_time c.digits.ensures c.in_ok-t.was c.is_read_time.ensures

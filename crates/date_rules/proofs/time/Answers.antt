@@ -1,16 +1,13 @@
 -- `date_rules::time` meets its contract. Assumes nothing.
-use Rattle.format.proofs.Numbers.{that-is, that-not, that-bad}
-use Rattle.format.specs.Dates.{time_of}
+use Rattle.std.proofs.Common.{◌∙◌}
+use Rattle.format.specs.Dates.{is_time, time_of}
+use Rattle.format.proofs.Numbers.{that-then, that-bad}
 use Rattle.date_rules.proofs.time.Goals as goal
 
-pub returns-then-is_time : goal.returns-then-is_time
+pub returns-in_err-t : goal.returns-in_err-t
 unfolding time_of
-returns-then-is_time c = search (that-is, that-not, that-bad)
+returns-in_err-t c = c.from_residual.ensures ∙ that-bad is_time c.digits.ensures c.in_err-t.was
 
-pub returns-else-is_time : goal.returns-else-is_time
+pub returns : goal.returns
 unfolding time_of
-returns-else-is_time c = search (that-is, that-not, that-bad)
-
-pub returns-in-None : goal.returns-in-None
-unfolding time_of
-returns-in-None c = search (that-is, that-not, that-bad)
+returns c = c.then_some.ensures ∙ that-then is_time c.digits.ensures c.in_ok-t.was c.is_time.ensures

@@ -1,16 +1,13 @@
 -- `number_rules::indicator` meets its contract. Assumes nothing.
-use Rattle.format.proofs.Numbers.{that-is, that-not, that-bad}
-use Rattle.format.specs.Records.{indicator_of}
+use Rattle.std.proofs.Common.{◌∙◌}
+use Rattle.format.specs.Records.{is_kind, indicator_of}
+use Rattle.format.proofs.Numbers.{that-then, that-bad}
 use Rattle.number_rules.proofs.indicator.Goals as goal
 
-pub returns-then-is_kind : goal.returns-then-is_kind
+pub returns-in_err-k : goal.returns-in_err-k
 unfolding indicator_of
-returns-then-is_kind c = search (that-is, that-not, that-bad)
+returns-in_err-k c = c.from_residual.ensures ∙ that-bad is_kind c.digits.ensures c.in_err-k.was
 
-pub returns-else-is_kind : goal.returns-else-is_kind
+pub returns : goal.returns
 unfolding indicator_of
-returns-else-is_kind c = search (that-is, that-not, that-bad)
-
-pub returns-in-None : goal.returns-in-None
-unfolding indicator_of
-returns-in-None c = search (that-is, that-not, that-bad)
+returns c = c.then_some.ensures ∙ that-then is_kind c.digits.ensures c.in_ok-k.was c.is_kind.ensures

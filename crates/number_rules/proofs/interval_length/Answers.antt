@@ -1,16 +1,13 @@
 -- `number_rules::interval_length` meets its contract. Assumes nothing.
-use Rattle.format.proofs.Numbers.{that-is, that-not, that-bad}
-use Rattle.format.specs.Numbers.{length_of}
+use Rattle.std.proofs.Common.{◌∙◌}
+use Rattle.format.specs.Numbers.{is_length, length_of}
+use Rattle.format.proofs.Numbers.{that-then, that-bad}
 use Rattle.number_rules.proofs.interval_length.Goals as goal
 
-pub returns-then-is_length : goal.returns-then-is_length
+pub returns-in_err-m : goal.returns-in_err-m
 unfolding length_of
-returns-then-is_length c = search (that-is, that-not, that-bad)
+returns-in_err-m c = c.from_residual.ensures ∙ that-bad is_length c.small.ensures c.in_err-m.was
 
-pub returns-else-is_length : goal.returns-else-is_length
+pub returns : goal.returns
 unfolding length_of
-returns-else-is_length c = search (that-is, that-not, that-bad)
-
-pub returns-in-None : goal.returns-in-None
-unfolding length_of
-returns-in-None c = search (that-is, that-not, that-bad)
+returns c = c.then_some.ensures ∙ that-then is_length c.small.ensures c.in_ok-m.was c.is_length.ensures

@@ -11,7 +11,7 @@ pub value_held-h-requires : goal.value_held-h-requires
 value_held-h-requires c = let h = value-left _ _ _ _ _ _ _ c.requires.0 c.loop-left.invariant.0 (omega arith) in (omega (arith, h), search rules, search rules)
 
 pub loop-left-preserved : goal.loop-left-preserved
-loop-left-preserved c = let p = held-past _ _ _ _ c.value_held-h.ensures c.in-To.is in (search along-value, omega arith, omega (arith, p), omega arith)
+loop-left-preserved c = let p = held-past _ _ _ _ c.value_held-h.ensures c.in-Some.is in (search along-value, omega arith, omega (arith, p), omega arith)
 
 pub returns : goal.returns
 returns c = (along-at _ _ _ _ _ _ _ _ c.loop-left.invariant.0 (omega arith), search rules, omega arith, search rules)

@@ -2,5 +2,5 @@
 use Rattle.tries.proofs.Holds.{held-tried}
 use Rattle.tries.proofs.field_held.Goals as goal
 
-pub returns-in-To : goal.returns-in-To
-returns-in-To c = search held-tried
+pub returns-in-Some : goal.returns-in-Some
+returns-in-Some c = search held-tried

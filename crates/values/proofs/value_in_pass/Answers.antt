@@ -6,5 +6,5 @@ use Rattle.values.proofs.value_in_pass.Goals as goal
 pub short_at-t-requires : goal.short_at-t-requires
 short_at-t-requires c = (omega arith, omega arith)
 
-pub returns-in-Value : goal.returns-in-Value
-returns-in-Value c = search (taken_is, taken-small, taken-cut)
+pub returns-in-valued : goal.returns-in-Value
+returns-in-valued c = search (taken_is, taken-small, taken-cut)
