@@ -3,7 +3,7 @@ use super::appended::keep_appended;
 use super::asked::{Asked, FIRST, date};
 use super::refused::{of_adding, of_table};
 use super::table::{Table, read_table};
-use disk::{Loaded, load_word};
+use disk::load_word;
 use machine::{Machine, PAGE};
 use outward::{FAILED, REFUSED, complain};
 use page::texts::{part, put};
@@ -75,7 +75,7 @@ fn add_loaded(
     first: u32,
     room: &mut [u8],
 ) -> u8 {
-    let Loaded::Bytes(n) = load_word(rt, TABLE, room) else {
+    let Some(n) = load_word(rt, TABLE, room) else {
         return FAILED;
     };
     if room.len() <= n {

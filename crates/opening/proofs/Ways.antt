@@ -1,7 +1,8 @@
 -- What an opening tells a caller. Assumes nothing.
-use Rattle.std.proofs.Common.{Option, Some, None}
+use Rattle.std.proofs.Common.{Option, Some, None, Result, Ok, Err}
+use Rattle.std.specs.Option.{ok_or}
 use Prim.Native.Nat.{ℕ}
-use mathlib.Core.Path.{◌≡◌, refl, sym, ◌∙◌}
+use mathlib.Core.Path.{◌≡◌, refl, sym, ap, ◌∙◌}
 use mathlib.Core.Bool.{Bool, true, false, cond}
 use mathlib.Core.List.{List}
 use native.Mathlib.Omega.{arith}
@@ -30,3 +31,25 @@ module _ (m : List ℕ) {o : Option Header} (e : o ≡ opened_of m) where
   pub opened-not : o ≡ None → is_store m ≡ false
   unfolding opened_of
   opened-not q = not-if (is_store m) (header_of m) (sym q ∙ e)
+
+-- ---- the header where a refusal stands for none
+
+pub told-header : {E : Type 0} (o : Option Header) (x : E) {r : Result Header E} {h : Header} → r ≡ ok_or o x → r ≡ Ok h → o ≡ Some h
+told-header {E} (Some k) x {r} {h} v q =
+    let z : ◌≡◌ {A = Result Header E} (Ok k) (Ok h) = sym v ∙ q in
+    let w : k ≡ h = cc in
+    ap Some w
+told-header {E} None x {r} {h} v q =
+    let z : ◌≡◌ {A = Result Header E} (Err x) (Ok h) = sym v ∙ q in
+    let w : ◌≡◌ {A = ℕ} 0 1 = cc in
+    absurd (omega arith)
+
+pub told-none : {E : Type 0} (o : Option Header) (x : E) {y : E} {r : Result Header E} → r ≡ ok_or o x → r ≡ Err y → (o ≡ None) × (y ≡ x)
+told-none {E} (Some k) x {y} {r} v q =
+    let z : ◌≡◌ {A = Result Header E} (Ok k) (Err y) = sym v ∙ q in
+    let w : ◌≡◌ {A = ℕ} 0 1 = cc in
+    absurd (omega arith)
+told-none {E} None x {y} {r} v q =
+    let z : ◌≡◌ {A = Result Header E} (Err x) (Err y) = sym v ∙ q in
+    let w : y ≡ x = cc in
+    (refl, w)

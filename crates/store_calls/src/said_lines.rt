@@ -31,29 +31,20 @@ pub fn slot(page: &mut [u8], at: usize, x: Result<Option<Slot>, Refusal>) -> usi
     ensures { Filled page.old at (slot_text (slot_read_as x)) result page.new }
 {
     match x {
-        SlotRead::Free => put(page, at, b"free\n"),
-        SlotRead::Used {
-            nmi,
-            suffix,
-            date,
-            length,
-            unit,
-            update,
-            start,
-            end,
-        } => {
+        Ok(None) => put(page, at, b"free\n"),
+        Ok(Some(day)) => {
             let p = accepted(
                 page,
                 at,
                 &[
-                    nmi as u64,
-                    suffix as u64,
-                    date as u64,
-                    length as u64,
-                    unit as u64,
-                    update,
-                    start as u64,
-                    end as u64,
+                    day.nmi as u64,
+                    day.suffix as u64,
+                    day.date as u64,
+                    day.length as u64,
+                    day.unit as u64,
+                    day.update,
+                    day.start as u64,
+                    day.end as u64,
                 ],
             );
             put(page, p, b"\n")
