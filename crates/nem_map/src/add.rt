@@ -1,8 +1,8 @@
 // A version added from a table.
 use super::appended::keep_appended;
-use super::asked::{Asked, FIRST, date};
+use super::asked::{FIRST, date};
 use super::refused::{of_adding, of_table};
-use super::table::{Table, read_table};
+use super::table::read_table;
 use disk::load_word;
 use machine::{Machine, PAGE};
 use outward::{FAILED, REFUSED, complain};
@@ -48,14 +48,15 @@ fn add_in(
     shares: &mut [u16],
 ) -> u8 {
     match read_table(text, keys, shares) {
-        Table::Read => add_given(rt, page, map, first, keys, shares),
-        Table::Wrong {
-            line,
-            from,
-            to,
-            fault,
-        } => {
-            of_table(rt, page, line, part(text, from, to), fault);
+        Ok(()) => add_given(rt, page, map, first, keys, shares),
+        Err(wrong) => {
+            of_table(
+                rt,
+                page,
+                wrong.line,
+                part(text, wrong.from, wrong.to),
+                wrong.fault,
+            );
             REFUSED
         }
     }
@@ -86,7 +87,7 @@ fn add_loaded(
 }
 
 pub fn add(rt: &impl Machine, page: &mut [u8], map: &mut [u8]) -> u8 {
-    let Asked::Date(first) = date(rt, page, FIRST) else {
+    let Some(first) = date(rt, page, FIRST) else {
         return FAILED;
     };
     let mut room = [0u8; PAGE];

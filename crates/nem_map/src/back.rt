@@ -1,6 +1,6 @@
 // A version with the entries of an earlier one.
 use super::appended::keep_appended;
-use super::asked::{Asked, FIRST, date, version};
+use super::asked::{FIRST, date, version};
 use super::refused::of_going_back;
 use machine::Machine;
 use outward::{FAILED, REFUSED};
@@ -21,7 +21,7 @@ pub fn back(rt: &impl Machine, page: &mut [u8], map: &mut [u8]) -> u8 {
         return FAILED;
     };
     match date(rt, page, FIRST + 1) {
-        Asked::Date(first) => go_back(rt, page, map, k, first),
-        Asked::Nothing => FAILED,
+        Some(first) => go_back(rt, page, map, k, first),
+        None => FAILED,
     }
 }

@@ -1,5 +1,5 @@
 -- The lines of a store's calls, from what the calls answered. Assumes nothing.
-use Rattle.std.proofs.Common.{Result, Err, Option}
+use Rattle.std.proofs.Common.{Result, Ok, Err, Option, Some, None}
 use Prim.Native.Nat.{ℕ, ◌+◌}
 use mathlib.Core.Path.{◌≡◌, ap}
 use mathlib.Core.Bool.{Bool}
@@ -15,6 +15,7 @@ use Rattle.answer_lines.specs.Lines.{line_of}
 use Rattle.calls.specs.Kept.{ending}
 use Rattle.entries.specs.Left.{Left, left}
 use Rattle.store.specs.Calls.{made_as, kept_as, slot_read_as}
+use Rattle.store.specs.declared.Slot.{Slot}
 use Rattle.kept_bytes.specs.Kept.{kept_from, used_end}
 use Rattle.store_calls.specs.Lines.{left_text, make_text, change_text, slot_text}
 
@@ -33,7 +34,7 @@ module _ {p₀ p₁ p₂ : List ℕ} {at i j : ℕ} where
   made-put x now was room {from = from} el ew f e p q = rw (← el, ← ew) (text-put (left (made_as x) now) 32 from was f e p q)
 
   -- a slot, with its line's end
-  pub used-slot : {x : Result (Option Slot) Refusal} {n s t u v w a b : ℕ} → x ≡ slotRead.Used n s t u v w a b → Filled p₀ at (line_of (accepted (n ∷ s ∷ t ∷ u ∷ v ∷ w ∷ a ∷ b ∷ []))) i p₁ → Filled p₁ i (10 ∷ []) j p₂
+  pub used-slot : {x : Result (Option Slot) Refusal} {s : Slot} → x ≡ Ok (Some s) → Filled p₀ at (line_of (accepted (s.nmi ∷ s.suffix ∷ s.date ∷ s.length ∷ s.unit ∷ s.update ∷ s.start ∷ s.end ∷ []))) i p₁ → Filled p₁ i (10 ∷ []) j p₂
       → Filled p₀ at (slot_text (slot_read_as x)) j p₂
   unfolding slot_text
   used-slot e p q = rw e (filled-then p q)
@@ -42,7 +43,7 @@ module _ {p₀ p₁ p₂ : List ℕ} {at i j : ℕ} where
   unfolding slot_text
   no_slot e p q = rw e (filled-then p q)
 
-pub free-slot : {p₀ p₁ : List ℕ} {at i : ℕ} {x : Result (Option Slot) Refusal} → x ≡ slotRead.Free → Filled p₀ at (bytes "free" ++ 10 ∷ []) i p₁ → Filled p₀ at (slot_text (slot_read_as x)) i p₁
+pub free-slot : {p₀ p₁ : List ℕ} {at i : ℕ} {x : Result (Option Slot) Refusal} → x ≡ Ok None → Filled p₀ at (bytes "free" ++ 10 ∷ []) i p₁ → Filled p₀ at (slot_text (slot_read_as x)) i p₁
 unfolding slot_text
 free-slot e p = rw e p
 

@@ -14,13 +14,12 @@ ghost use Rattle.entries.specs.Left.{left};
 ghost use Rattle.store.specs.Calls.{kept_as, make_of, put_of, delete_of, get_of, read_slot_of};
 ghost use Rattle.store_calls.specs.Lines.{make_text, change_text, slot_text};
 
-use format::Refusal;
 use calls::PLACES;
 use calls::files::{BYTE_MARK, HALF_MARK, SIZE_MARK, WIDE_MARK, day_shown};
 use calls::kept::end_line;
 use deleting::delete_day;
 use edit_calls::is_kept;
-use format::DayHead;
+use format::{DayHead, Refusal};
 use getting::get_day;
 use kept_bytes::{changed_from, made_from};
 use making::make_store;

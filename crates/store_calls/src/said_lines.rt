@@ -4,9 +4,10 @@ ghost use Rattle.answer_lines.specs.Lines.{line_of};
 ghost use Rattle.store.specs.Calls.{made_as, kept_as, slot_read_as};
 ghost use Rattle.store_calls.specs.Lines.{slot_text};
 
-use format::Refusal;
 use answer_lines::answers::{accepted, refusal};
+use format::Refusal;
 use page::texts::put;
+use store::Slot;
 
 pub fn made(page: &mut [u8], at: usize, x: Result<usize, Refusal>) -> usize
     ensures { Filled page.old at (line_of (made_as x)) result page.new }
