@@ -3,6 +3,7 @@
 #![tactic(auto)]
 
 use disk::load_word;
+use format::Refusal;
 use leaf::digits::digits;
 use machine::{Machine, PAGE, WORD};
 use month::read_days;
@@ -30,15 +31,15 @@ fn day_word(rt: &impl Machine, i: usize) -> usize {
     }
 }
 
-fn answered(rt: &impl Machine, page: &mut [u8], x: DaysRead) -> u8 {
+fn answered(rt: &impl Machine, page: &mut [u8], x: Result<DaysRead, Refusal>) -> u8 {
     match x {
-        DaysRead::Read { days, intervals } => {
-            let p = number(page, 0, days as u64);
+        Ok(d) => {
+            let p = number(page, 0, d.days as u64);
             let q = put(page, p, b" ");
-            let r = number(page, q, intervals as u64);
+            let r = number(page, q, d.intervals as u64);
             write_line(rt, page, r)
         }
-        DaysRead::Refused(refusal) => {
+        Err(refusal) => {
             let p = number(page, 0, refusal.number);
             write_line(rt, page, p);
             REFUSED

@@ -1,5 +1,5 @@
 -- The walk over a block: a record's fault there, what each way out of a turn answers, and the turn itself. Assumes nothing.
-use Rattle.std.proofs.Common.{Some}
+use Rattle.std.proofs.Common.{Option, Some, None, Result, Ok, Err, ◌×◌}
 use Prim.Native.Nat.{ℕ, ◌+◌, ◌-◌, ◌≤◌, ◌<◌}
 use mathlib.Core.Path.{◌≡◌, refl, sym, ap, ◌∙◌}
 use mathlib.Core.List.{List, [], ◌∷◌, ◌++◌}
@@ -28,23 +28,15 @@ use Rattle.lines.specs.Places.{LineEnd, Looked}
 use Rattle.lines.specs.declared.Found.{Found}
 use Rattle.lines.proofs.Ends.{line-more, line-long, line-room}
 use Rattle.walker.specs.Handed.{record_at}
-use Rattle.walker.specs.declared.Record.{Record}
-use Rattle.walker.specs.declared.Record.TheVariants.{At, None}
 use Rattle.walker.proofs.Handed.{handed-none, handed-looked, handed-inside}
 use Rattle.order.specs.declared.State.{State}
-use Rattle.order.specs.declared.Step.{Step}
-use Rattle.order.specs.declared.Step.TheVariants as step
+use Rattle.order.specs.declared.Stop as stop
 use Rattle.follows.specs.Tests.{expected_as, between}
 use Rattle.order.specs.State.{seen, next_of, step_as, Holds}
 use Rattle.follows.proofs.Expected.{is-400, is-500}
 use Rattle.order.proofs.Next.{gone, stopped, kept_on}
 use Rattle.alone.specs.declared.BlockWalk.{BlockWalk}
-use Rattle.alone.specs.declared.BlockTurn.{BlockTurn}
-use Rattle.alone.specs.declared.BlockTurn.TheVariants as turn
-use Rattle.alone.specs.declared.BlockEnd.{BlockEnd}
-use Rattle.alone.specs.declared.BlockEnd.TheVariants as blockEnd
 use Rattle.alone.specs.declared.Walked.{Walked}
-use Rattle.alone.specs.declared.Walked.TheVariants as walked
 use Rattle.alone.specs.Walk.{on_from, left_of, whole_of, is_foreign_here, first_walk, date_said, Walking, Stands, Turned, Ended, Entire, IsBlock, WalkedAs}
 
 -- ---- a record's fault in a block
@@ -141,7 +133,7 @@ module _ (memory : List ℕ) (start n d : ℕ) (t : BlockWalk) (q : t ≡ first_
   walked-first xs = rw q
 
 -- what a record that was handed out is
-pub stands : (memory : List ℕ) (at : ℕ) {r : Record} {p : ℕ} {f : Found} → r ≡ record_at memory at → r ≡ At p f → Stands memory at f
+pub stands : (memory : List ℕ) (at : ℕ) {r : Option (ℕ × Found)} {p : ℕ} {f : Found} → r ≡ record_at memory at → r ≡ Some (p, f) → Stands memory at f
 stands memory at {r} {p} {f} is h = record { looked = handed-looked memory at r is p f h; more = handed-inside memory at r is p f h }
 
 module _ (memory : List ℕ) (start : ℕ) (t : BlockWalk) (g : Walking memory start t) (f : Found) (k : Stands memory t.at f) where
@@ -174,13 +166,14 @@ module _ (memory : List ℕ) (start : ℕ) (t : BlockWalk) (g : Walking memory s
       let z : t.at - start + 0 ≡ t.at - start = omega arith in
       turned-fault 4 0 0 (foreign-fault st here (sym eb ∙ y)) xs ∙ rw z
 
-  module _ {b : Bool} (eb : b ≡ is_foreign_here st here) (no : b ≡ false) (w : Step) (ew : step_as memory w ≡ next_of st here) where
-    pub turned-stop : (x o i : ℕ) → w ≡ step.Stop x o i → (xs : List ℕ) → left_of memory start xs t ≡ refused x (t.at - start + o) t.records i
+  module _ {b : Bool} (eb : b ≡ is_foreign_here st here) (no : b ≡ false) (w : Result State stop.Stop) (ew : step_as memory w ≡ next_of st here) where
+    pub turned-stop : (x : stop.Stop) → w ≡ Err x → (xs : List ℕ) → left_of memory start xs t ≡ refused x.number (t.at - start + x.place) t.records x.field
     unfolding next_of
-    turned-stop x o i q = turned-fault x o i (own-fault st here (sym eb ∙ no) ∙ stopped (fault_of st here) (after st here) x o i (sym (rw q at ew)))
+    turned-stop x q =
+        turned-fault x.number x.place x.field (own-fault st here (sym eb ∙ no) ∙ stopped (fault_of st here) (after st here) x.number x.place x.field (sym (rw q at ew)))
 
-    pub turned_on : Holds memory t.at f.end w → (s : State) → w ≡ step.On s
-        → Turned memory start t (turn.On (record { at = f.end + 2; records = t.records + 1; state = s }))
+    pub turned_on : Holds memory t.at f.end w → (s : State) → w ≡ Ok s
+        → Turned memory start t (Ok (record { at = f.end + 2; records = t.records + 1; state = s }))
     unfolding next_of
     turned_on hw s q =
         let b = gone (fault_of st here) (after st here) (seen memory s) (sym (rw q at ew)) in
@@ -197,9 +190,9 @@ module _ (memory : List ℕ) (start : ℕ) (t : BlockWalk) (g : Walking memory s
 
 -- ---- turn after turn
 
-module _ (memory : List ℕ) (start : ℕ) (t : BlockWalk) (w : BlockTurn) (g : Turned memory start t w) where
-  module _ (u : BlockWalk) (h : w ≡ turn.On u) where
-    turned : Turned memory start t (turn.On u)
+module _ (memory : List ℕ) (start : ℕ) (t : BlockWalk) (w : Result BlockWalk Refusal) (g : Turned memory start t w) where
+  module _ (u : BlockWalk) (h : w ≡ Ok u) where
+    turned : Turned memory start t (Ok u)
     turned = rw h at g
 
     pub turned-walking : Walking memory start u
@@ -211,8 +204,8 @@ module _ (memory : List ℕ) (start : ℕ) (t : BlockWalk) (w : BlockTurn) (g : 
     pub turned-less : length memory - u.at < length memory - t.at
     turned-less = omega (arith, turned.1, turned.0.within)
 
-  pub turned-refused : (x : Refusal) → w ≡ turn.Stop x → (s : BlockWalk) → ((xs : List ℕ) → left_of memory start xs s ≡ left_of memory start xs t) → (xs : List ℕ) → left_of memory start xs s ≡ refused_as x
-  turned-refused x h s e xs = let z : Turned memory start t (turn.Stop x) = rw h at g in e xs ∙ z xs
+  pub turned-refused : (x : Refusal) → w ≡ Err x → (s : BlockWalk) → ((xs : List ℕ) → left_of memory start xs s ≡ left_of memory start xs t) → (xs : List ℕ) → left_of memory start xs s ≡ refused_as x
+  turned-refused x h s e xs = let z : Turned memory start t (Err x) = rw h at g in e xs ∙ z xs
 
 -- ---- where no CR LF is left
 
@@ -250,18 +243,18 @@ module _ (memory : List ℕ) (start : ℕ) (t : BlockWalk) (g : Walking memory s
 
 -- what the end is, the walk is
 module _ (memory : List ℕ) (start : ℕ) (s t : BlockWalk) (e : (xs : List ℕ) → left_of memory start xs s ≡ left_of memory start xs t) where
-  pub ended : (r : BlockEnd) → Ended memory start t r → Ended memory start s r
-  ended (blockEnd.Whole k) h = λ xs. e xs ∙ h xs
-  ended (blockEnd.Stopped x) h = λ xs. e xs ∙ h xs
+  pub ended : (r : Result ℕ Refusal) → Ended memory start t r → Ended memory start s r
+  ended (Ok k) h = λ xs. e xs ∙ h xs
+  ended (Err x) h = λ xs. e xs ∙ h xs
 
 -- and with the first record before it
-module _ (memory : List ℕ) (start n d : ℕ) (t : BlockWalk) (q : t ≡ first_walk start n d) (w : BlockTurn) (g : Turned memory start t w) where
-  pub entire-stopped : {x : Refusal} → w ≡ turn.Stop x → Entire memory start n d (blockEnd.Stopped x)
-  entire-stopped {x} h xs = let z : Turned memory start t (turn.Stop x) = rw h at g in walked-first memory start n d t q xs ∙ z xs
+module _ (memory : List ℕ) (start n d : ℕ) (t : BlockWalk) (q : t ≡ first_walk start n d) (w : Result BlockWalk Refusal) (g : Turned memory start t w) where
+  pub entire-stopped : {x : Refusal} → w ≡ Err x → Entire memory start n d (Err x)
+  entire-stopped {x} h xs = let z : Turned memory start t (Err x) = rw h at g in walked-first memory start n d t q xs ∙ z xs
 
-  pub entire-on : {u : BlockWalk} → w ≡ turn.On u → (r : BlockEnd) → Ended memory start u r → Entire memory start n d r
-  entire-on {u} h (blockEnd.Whole k) e = λ xs. walked-first memory start n d t q xs ∙ (turned memory start t w g u h).2 xs ∙ e xs
-  entire-on {u} h (blockEnd.Stopped x) e = λ xs. walked-first memory start n d t q xs ∙ (turned memory start t w g u h).2 xs ∙ e xs
+  pub entire-on : {u : BlockWalk} → w ≡ Ok u → (r : Result ℕ Refusal) → Ended memory start u r → Entire memory start n d r
+  entire-on {u} h (Ok k) e = λ xs. walked-first memory start n d t q xs ∙ (turned memory start t w g u h).2 xs ∙ e xs
+  entire-on {u} h (Err x) e = λ xs. walked-first memory start n d t q xs ∙ (turned memory start t w g u h).2 xs ∙ e xs
 
 -- ---- the whole block
 
@@ -283,7 +276,7 @@ module _ (memory : List ℕ) (start m n unit : ℕ) (en : n ≡ intervals_of m) 
     unfolding block_check_of block_walk_of
     none-there z = rw (← en, ne_eqb n 0 some, ← eb, not-false b h, z)
 
-    module _ {r : Record} (er : r ≡ record_at memory start) where
+    module _ {r : Option (ℕ × Found)} (er : r ≡ record_at memory start) where
       pub whole-none : {x : Refusal} → refused_as x ≡ refused 2 0 0 0 → r ≡ None → block_check_of m unit (drop start memory) ≡ refused_as x
       whole-none q z = none-there (handed-none memory start r er z) ∙ sym q
 
@@ -292,27 +285,30 @@ module _ (memory : List ℕ) (start m n unit : ℕ) (en : n ≡ intervals_of m) 
         unfolding block_check_of
         whole-walk = let z : start - start ≡ 0 = omega arith in rw (← en, ne_eqb n 0 some, ← eb, not-false b h, ← ed, z) refl
 
-        module _ {w : BlockEnd} (k : Entire memory start n d w) where
-          pub whole-stopped : {x : Refusal} → w ≡ blockEnd.Stopped x → block_check_of m unit (drop start memory) ≡ refused_as x
+        module _ {w : Result ℕ Refusal} (k : Entire memory start n d w) where
+          pub whole-stopped : {x : Refusal} → w ≡ Err x → block_check_of m unit (drop start memory) ≡ refused_as x
           whole-stopped {x} q = whole-walk ∙ (rw q at k) (top_says (intervals_of m) (lines (drop start memory)))
 
-          pub whole-block : {p j : ℕ} {f : Found} → r ≡ At p f → w ≡ blockEnd.Whole j → IsBlock memory start m unit j f.end
+          pub whole-block : {p j : ℕ} {f : Found} → r ≡ Some (p, f) → w ≡ Ok j → IsBlock memory start m unit j f.end
           whole-block h q =
               let g = stands memory start er h in
               record { line = g.looked.ends; more = g.more; is = whole-walk ∙ (rw q at k) (top_says (intervals_of m) (lines (drop start memory))) }
 
 -- ---- what a caller is told
 
-module _ (memory : List ℕ) (start m unit : ℕ) {w : Walked} (a : WalkedAs memory start m unit w) where
-  pub told-stopped : {x : Refusal} → w ≡ walked.Stopped x → refused_as x ≡ block_check_of m unit (drop start memory)
+module _ (memory : List ℕ) (start m unit : ℕ) {w : Result Walked Refusal} (a : WalkedAs memory start m unit w) where
+  pub told-stopped : {x : Refusal} → w ≡ Err x → refused_as x ≡ block_check_of m unit (drop start memory)
   told-stopped q = sym (rw q at a)
 
-  pub date-none : {x : Refusal} → w ≡ walked.Stopped x → None ≡ date_said (block_check_of m unit (drop start memory))
+  pub date-none : {x : Refusal} → w ≡ Err x → None ≡ date_said (block_check_of m unit (drop start memory))
   unfolding date_said
-  date-none q = let z : WalkedAs memory start m unit (walked.Stopped _) = rw q at a in rw z
+  date-none q = let z : WalkedAs memory start m unit (Err _) = rw q at a in rw z
 
-  module _ {k e : ℕ} (q : w ≡ walked.Block k e) where
-    pub block-is : IsBlock memory start m unit k e
+  module _ {v : Walked} (q : w ≡ Ok v) where
+    abbrev e : ℕ
+    e = v.end
+
+    pub block-is : IsBlock memory start m unit v.records e
     block-is = rw q at a
 
     pub block-order : start ≤ e
@@ -322,7 +318,7 @@ module _ (memory : List ℕ) (start m unit : ℕ) {w : Walked} (a : WalkedAs mem
     block_within = block-is.line.within
 
     pub told-block : {n : ℕ} → n ≡ intervals_of m → {d u l : ℕ} → d ≡ date_in (fields (part memory start e)) → u ≡ update_in n (fields (part memory start e))
-        → l ≡ load_in n (fields (part memory start e)) → accepted (d ∷ n ∷ u ∷ l ∷ k ∷ []) ≡ block_check_of m unit (drop start memory)
+        → l ≡ load_in n (fields (part memory start e)) → accepted (d ∷ n ∷ u ∷ l ∷ v.records ∷ []) ≡ block_check_of m unit (drop start memory)
     told-block en ed eu el = sym (block-is.is ∙ rw (line-more memory start e block-is.line block-is.more, ← en, ← ed, ← eu, ← el) refl)
 
     pub date-is : {d : ℕ} → d ≡ date_in (fields (part memory start e)) → Some d ≡ date_said (block_check_of m unit (drop start memory))

@@ -1,5 +1,5 @@
 -- The walk over a block that is a part of longer memory, from a place of it to its end.
-use Rattle.std.specs.Prelude.{ℕ, ◌-◌, ◌≤◌, ◌<◌, ◌≡◌, List, [], ◌∷◌, ◌++◌, Bool, false, cond, length, drop, get_or, ltb, Option, Some, None}
+use Rattle.std.specs.Prelude.{ℕ, ◌-◌, ◌≤◌, ◌<◌, ◌≡◌, List, [], ◌∷◌, ◌++◌, Bool, false, cond, length, drop, get_or, ltb, Option, Some, None, Result, Ok, Err}
 use Rattle.ground.specs.Lists.{span_of}
 use Rattle.format.specs.Bytes.{plain}
 use Rattle.format.specs.Cut.{lines, fields}
@@ -7,20 +7,14 @@ use Rattle.format.specs.Records.{kind_in}
 use Rattle.format.specs.Order.{Due}
 use Rattle.format.specs.Faults.{is_open}
 use Rattle.format.specs.Answers.{Answer, accepted, refused, refused_as}
+use Rattle.format.specs.declared.Refusal.{Refusal}
 use Rattle.format.specs.Numbers.{intervals_of}
 use Rattle.format.specs.File.{behind200, is_foreign, block_walk_of, top_says, block_check_of}
 use Rattle.lines.specs.Places.{LineEnd, Looked}
 use Rattle.lines.specs.declared.Found.{Found}
 use Rattle.order.specs.State.{seen, closed, Kept}
 use Rattle.alone.specs.declared.BlockWalk.{BlockWalk}
-use Rattle.alone.specs.declared.BlockTurn.{BlockTurn}
-use Rattle.alone.specs.declared.BlockTurn.TheVariants.{On, Stop}
-use Rattle.alone.specs.declared.BlockEnd.{BlockEnd}
-use Rattle.alone.specs.declared.BlockEnd.TheVariants.{Whole}
-use Rattle.alone.specs.declared.BlockEnd.TheVariants as blockEnd
 use Rattle.alone.specs.declared.Walked.{Walked}
-use Rattle.alone.specs.declared.Walked.TheVariants.{Block}
-use Rattle.alone.specs.declared.Walked.TheVariants as walked
 
 -- a refusal without a field
 abbrev pub refused_at : ℕ → ℕ → ℕ → Answer
@@ -64,19 +58,19 @@ pub record Stands (memory : List ℕ) (p : ℕ) (f : Found) : Type 0 where
   pub more : f.end ≡ length memory → ⊥
 
 -- behind a record it is on its way, and further, and what is left of the answer is a walk from there; or its refusal is the answer
-abbrev pub Turned : List ℕ → ℕ → BlockWalk → BlockTurn → Type 0
-Turned memory start t (On u) = Walking memory start u × (t.at < u.at) × ((xs : List ℕ) → left_of memory start xs t ≡ left_of memory start xs u)
-Turned memory start t (Stop x) = (xs : List ℕ) → left_of memory start xs t ≡ refused_as x
+abbrev pub Turned : List ℕ → ℕ → BlockWalk → Result BlockWalk Refusal → Type 0
+Turned memory start t (Ok u) = Walking memory start u × (t.at < u.at) × ((xs : List ℕ) → left_of memory start xs t ≡ left_of memory start xs u)
+Turned memory start t (Err x) = (xs : List ℕ) → left_of memory start xs t ≡ refused_as x
 
 -- what the walk from t on comes to, whatever the 300 says: the block is whole, with so many records, or its refusal is the answer
-abbrev pub Ended : List ℕ → ℕ → BlockWalk → BlockEnd → Type 0
-Ended memory start t (Whole k) = (xs : List ℕ) → left_of memory start xs t ≡ accepted (xs ++ k ∷ [])
-Ended memory start t (blockEnd.Stopped x) = (xs : List ℕ) → left_of memory start xs t ≡ refused_as x
+abbrev pub Ended : List ℕ → ℕ → BlockWalk → Result ℕ Refusal → Type 0
+Ended memory start t (Ok k) = (xs : List ℕ) → left_of memory start xs t ≡ accepted (xs ++ k ∷ [])
+Ended memory start t (Err x) = (xs : List ℕ) → left_of memory start xs t ≡ refused_as x
 
 -- the same from the first record on
-abbrev pub Entire : List ℕ → ℕ → ℕ → ℕ → BlockEnd → Type 0
-Entire memory start n d (Whole k) = (xs : List ℕ) → whole_of memory start n d xs ≡ accepted (xs ++ k ∷ [])
-Entire memory start n d (blockEnd.Stopped x) = (xs : List ℕ) → whole_of memory start n d xs ≡ refused_as x
+abbrev pub Entire : List ℕ → ℕ → ℕ → ℕ → Result ℕ Refusal → Type 0
+Entire memory start n d (Ok k) = (xs : List ℕ) → whole_of memory start n d xs ≡ accepted (xs ++ k ∷ [])
+Entire memory start n d (Err x) = (xs : List ℕ) → whole_of memory start n d xs ≡ refused_as x
 
 -- a block of so many records behind a 200 of m minutes and that unit, whose 300 ends at e
 pub record IsBlock (memory : List ℕ) (start m unit k e : ℕ) : Type 0 where
@@ -84,6 +78,6 @@ pub record IsBlock (memory : List ℕ) (start m unit k e : ℕ) : Type 0 where
   pub more : e ≡ length memory → ⊥
   pub is : block_check_of m unit (drop start memory) ≡ accepted (top_says (intervals_of m) (lines (drop start memory)) ++ k ∷ [])
 
-abbrev pub WalkedAs : List ℕ → ℕ → ℕ → ℕ → Walked → Type 0
-WalkedAs memory start m unit (Block k e) = IsBlock memory start m unit k e
-WalkedAs memory start m unit (walked.Stopped x) = block_check_of m unit (drop start memory) ≡ refused_as x
+abbrev pub WalkedAs : List ℕ → ℕ → ℕ → ℕ → Result Walked Refusal → Type 0
+WalkedAs memory start m unit (Ok w) = IsBlock memory start m unit w.records w.end
+WalkedAs memory start m unit (Err x) = block_check_of m unit (drop start memory) ≡ refused_as x

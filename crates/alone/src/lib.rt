@@ -20,9 +20,9 @@ use follows::{in_day, is_open};
 use format::{BlockChecked, Refusal};
 use lines::Found;
 use number_rules::intervals;
-use order::{State, Step};
+use order::State;
 use says::kind_at;
-use walker::{Record, record_at};
+use walker::record_at;
 
 // The walk over a block before a record: where that starts in the memory, how many records are behind, and the state.
 #[derive(Clone, Copy)]
@@ -32,25 +32,11 @@ pub struct BlockWalk {
     pub state: State,
 }
 
-// What comes of a record: the walk behind it, or the refusal that ends it.
+// What a walk over a whole block comes to: how many records the block has, and where its 300 ends.
 #[derive(Clone, Copy)]
-pub enum BlockTurn {
-    On(BlockWalk),
-    Stop(Refusal),
-}
-
-// What the walk comes to: how many records the block has, or the refusal that ends it.
-#[derive(Clone, Copy)]
-pub enum BlockEnd {
-    Whole(usize),
-    Stopped(Refusal),
-}
-
-// The same of any bytes, and where the block's 300 ends.
-#[derive(Clone, Copy)]
-pub enum Walked {
-    Block(usize, usize),
-    Stopped(Refusal),
+pub struct Walked {
+    pub records: usize,
+    pub end: usize,
 }
 
 // What a block's 300 says beside its values and its mark.
@@ -119,8 +105,8 @@ impl BlockWalk {
         }
     }
 
-    // Over the record at which the walk stands, as it was looked at.
-    fn over(self, memory: &[u8], start: usize, found: Found) -> BlockTurn
+    // Over the record at which the walk stands, as it was looked at: the walk behind it, or the refusal that ends it.
+    fn over(self, memory: &[u8], start: usize, found: Found) -> Result<BlockWalk, Refusal>
         requires { Walking memory.now start self × Stands memory.now self.at found }
         ensures { Turned memory.now start self result }
     {
@@ -131,7 +117,7 @@ impl BlockWalk {
         let st = self.state;
         let from = at - start;
         if is_foreign(memory, at, found, st) {
-            return BlockTurn::Stop(Refusal {
+            return Err(Refusal {
                 number: 4,
                 place: from,
                 record: self.records,
@@ -140,13 +126,13 @@ impl BlockWalk {
         }
         let step = st.step(memory, at, found);
         match step {
-            Step::Stop(number, o, field) => BlockTurn::Stop(Refusal {
-                number,
-                place: from + o,
+            Err(x) => Err(Refusal {
+                number: x.number,
+                place: from + x.place,
                 record: self.records,
-                field,
+                field: x.field,
             }),
-            Step::On(s) => BlockTurn::On(BlockWalk {
+            Ok(s) => Ok(BlockWalk {
                 at: behind,
                 records: passed,
                 state: s,
@@ -154,23 +140,23 @@ impl BlockWalk {
         }
     }
 
-    // Where no CR LF is left: the memory has to end here, with a day that may end.
-    fn end(self, memory: &[u8], start: usize) -> BlockEnd
+    // Where no CR LF is left: the memory has to end here, with a day that may end. Then the block has so many records.
+    fn end(self, memory: &[u8], start: usize) -> Result<usize, Refusal>
         requires { Walking memory.now start self × (lines (drop self.at memory.now) ≡ rest (drop self.at memory.now)) }
         ensures { Ended memory.now start self result }
     {
         let st = self.state;
         let from = self.at - start;
         if !in_day(st.expect) {
-            return BlockEnd::Stopped(refusal_at(2, from, self.records));
+            return Err(refusal_at(2, from, self.records));
         }
         if self.at != memory.len() {
-            return BlockEnd::Stopped(refusal_at(2, from, self.records));
+            return Err(refusal_at(2, from, self.records));
         }
         if is_open(st.expect, st.next, st.n, 0) {
-            return BlockEnd::Stopped(refusal_at(10, from, self.records));
+            return Err(refusal_at(10, from, self.records));
         }
-        BlockEnd::Whole(self.records)
+        Ok(self.records)
     }
 }
 
@@ -186,82 +172,68 @@ fn refusal_at(number: u64, place: usize, record: usize) -> Refusal
     }
 }
 
-// From the record on at which the walk stands.
-fn walk_from(memory: &[u8], start: usize, first: BlockWalk) -> BlockEnd
+// From the record on at which the walk stands: how many records the block has.
+fn walk_from(memory: &[u8], start: usize, first: BlockWalk) -> Result<usize, Refusal>
     requires { Walking memory.now start first }
     ensures { Ended memory.now start first result }
 {
     let mut t = first;
     loop {
         let handed = record_at(memory, t.at);
-        let Record::At(_, found) = handed else {
+        let Some((_, found)) = handed else {
             return t.end(memory, start);
         };
-        let turn = t.over(memory, start, found);
-        match turn {
-            BlockTurn::On(next) => {
-                t = next;
-            }
-            BlockTurn::Stop(x) => return BlockEnd::Stopped(x),
-        }
+        t = t.over(memory, start, found)?;
     }
 }
 
 // The block from `start` to the memory's end, behind a 200 of n intervals whose values have at most so many decimals, where it has a record, which was looked at.
-fn walk_block(memory: &[u8], start: usize, found: Found, n: usize, decimals: usize) -> BlockEnd
+fn walk_block(memory: &[u8], start: usize, found: Found, n: usize, decimals: usize) -> Result<usize, Refusal>
     requires { Stands memory.now start found × (n ≤ 288) × (decimals ≤ 6) }
     ensures { Entire memory.now start n decimals result }
 {
     let t = BlockWalk::new(start, n, decimals);
-    let turn = t.over(memory, start, found);
-    match turn {
-        BlockTurn::On(next) => walk_from(memory, start, next),
-        BlockTurn::Stop(x) => BlockEnd::Stopped(x),
-    }
+    let next = t.over(memory, start, found)?;
+    walk_from(memory, start, next)
 }
 
 // The walk over bytes of which nothing is known.
-fn walk_bytes(memory: &[u8], start: usize, minutes: u32, unit: u8) -> Walked
+fn walk_bytes(memory: &[u8], start: usize, minutes: u32, unit: u8) -> Result<Walked, Refusal>
     ensures { WalkedAs memory.now start minutes unit result }
 {
     let n = intervals(minutes as u64);
     if n == 0 {
-        return Walked::Stopped(refusal_at(16, 0, 0));
+        return Err(refusal_at(16, 0, 0));
     }
     if !units::is_unit(unit) {
-        return Walked::Stopped(refusal_at(16, 0, 0));
+        return Err(refusal_at(16, 0, 0));
     }
     let handed = record_at(memory, start);
-    let Record::At(_, found) = handed else {
-        return Walked::Stopped(refusal_at(2, 0, 0));
+    let Some((_, found)) = handed else {
+        return Err(refusal_at(2, 0, 0));
     };
-    let end = walk_block(memory, start, found, n, units::decimals(unit));
-    match end {
-        BlockEnd::Stopped(x) => Walked::Stopped(x),
-        BlockEnd::Whole(records) => Walked::Block(records, found.end),
-    }
+    let records = walk_block(memory, start, found, n, units::decimals(unit))?;
+    Ok(Walked {
+        records,
+        end: found.end,
+    })
 }
 
 // Whether the bytes from `start` to the memory's end are a day block behind a 200 of so many minutes and that unit: what it says and how many records it has,
 // or its first refusal. An interval length or a unit that is none is 16, before all else.
-pub fn check_block(memory: &[u8], start: usize, minutes: u32, unit: u8) -> BlockChecked
+pub fn check_block(memory: &[u8], start: usize, minutes: u32, unit: u8) -> Result<BlockChecked, Refusal>
     ensures { block_checked_as result ≡ block_check_of minutes unit (drop start memory.now) }
 {
-    let w = walk_bytes(memory, start, minutes, unit);
-    match w {
-        Walked::Stopped(x) => BlockChecked::Refused(x),
-        Walked::Block(records, e) => {
-            let n = intervals(minutes as u64);
-            let s = said_at(memory, start, e, n);
-            BlockChecked::Accepted {
-                date: s.date,
-                n,
-                update: s.update,
-                load: s.load,
-                records,
-            }
-        }
-    }
+    let block = walk_bytes(memory, start, minutes, unit)?;
+    let n = intervals(minutes as u64);
+    let s = said_at(memory, start, block.end, n);
+    Ok(BlockChecked {
+        date: s.date,
+        n,
+        update: s.update,
+        load: s.load,
+        records: block.records,
+    })
 }
 
 // The date that the same check answers, if it accepts the block. The times stand behind all the values, and who needs none of them is spared a second pass.
@@ -270,9 +242,9 @@ pub fn block_date(memory: &[u8], start: usize, minutes: u32, unit: u8) -> Option
 {
     let w = walk_bytes(memory, start, minutes, unit);
     match w {
-        Walked::Stopped(_) => None,
-        Walked::Block(_, e) => {
-            let h = head_at(memory, start, e);
+        Err(_) => None,
+        Ok(block) => {
+            let h = head_at(memory, start, block.end);
             Some(h.date as u64)
         }
     }

@@ -1,11 +1,11 @@
 -- The line in which an answer is given.
-use Rattle.std.specs.Prelude.{ℕ, List, [], ◌∷◌, ◌++◌, get_or}
+use Rattle.std.specs.Prelude.{ℕ, List, [], ◌∷◌, ◌++◌, get_or, Result, Ok, Err}
 use Rattle.ground.specs.Digits.{dec}
 use Rattle.ground.specs.Text.{bytes}
 use Rattle.page.specs.Texts.{texts}
 use Rattle.format.specs.Answers.{Answer, accepted, refused, day_read_as}
 use Rattle.format.specs.declared.DayRead.{DayRead}
-use Rattle.format.specs.declared.DayRead.TheVariants as dayRead
+use Rattle.format.specs.declared.Refusal.{Refusal}
 
 -- numbers, each behind the sign
 unfoldable pub numbers_text : ℕ → List ℕ → List ℕ
@@ -26,10 +26,10 @@ abbrev pub interval_in : List ℕ → List ℕ → List ℕ → List ℕ → Lis
 interval_in vs fs ms rs ss ls i = interval_text (get_or vs i 0) (get_or fs i 0) (get_or ms i 0) (get_or rs i 0) (get_or ss i 0) (get_or ls i 0)
 
 -- how many intervals were read
-abbrev pub intervals_read : DayRead → ℕ
-intervals_read (dayRead.Read t n u l m) = n
-intervals_read (dayRead.Refused x) = 0
+abbrev pub intervals_read : Result DayRead Refusal → ℕ
+intervals_read (Ok d) = d.n
+intervals_read (Err x) = 0
 
 -- the line of a day, the text of each of whose intervals f gives: the answer, and behind it the intervals
-abbrev pub day_line : DayRead → (ℕ → List ℕ) → List ℕ
+abbrev pub day_line : Result DayRead Refusal → (ℕ → List ℕ) → List ℕ
 day_line x f = line_of (day_read_as x) ++ texts f (intervals_read x)

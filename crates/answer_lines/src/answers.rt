@@ -5,7 +5,7 @@ ghost use Rattle.page.specs.Filled.{Filled};
 ghost use Rattle.answer_lines.specs.Lines.{line_of};
 
 use super::numbers::numbers_behind;
-use format::{BlockChecked, Checked, DayRead, Refusal, Totalled, Written};
+use format::{BlockChecked, Checked, DayRead, Refusal, Written};
 use page::texts::put;
 
 pub fn accepted(page: &mut [u8], at: usize, list: &[u64]) -> usize
@@ -27,71 +27,61 @@ pub fn refusal(page: &mut [u8], at: usize, x: Refusal) -> usize
     )
 }
 
-pub fn checked(page: &mut [u8], at: usize, x: Checked) -> usize
+pub fn checked(page: &mut [u8], at: usize, x: Result<Checked, Refusal>) -> usize
     ensures { Filled page.old at (line_of (checked_as x)) result page.new }
 {
     match x {
-        Checked::Accepted {
-            version,
-            channels,
-            days,
-        } => accepted(page, at, &[version, channels as u64, days as u64]),
-        Checked::Refused(x) => refusal(page, at, x),
+        Ok(c) => accepted(page, at, &[c.version, c.channels as u64, c.days as u64]),
+        Err(x) => refusal(page, at, x),
     }
 }
 
-pub fn block_checked(page: &mut [u8], at: usize, x: BlockChecked) -> usize
+pub fn block_checked(page: &mut [u8], at: usize, x: Result<BlockChecked, Refusal>) -> usize
     ensures { Filled page.old at (line_of (block_checked_as x)) result page.new }
 {
     match x {
-        BlockChecked::Accepted {
-            date,
-            n,
-            update,
-            load,
-            records,
-        } => accepted(
+        Ok(c) => accepted(
             page,
             at,
-            &[date as u64, n as u64, update, load, records as u64],
+            &[
+                c.date as u64,
+                c.n as u64,
+                c.update,
+                c.load,
+                c.records as u64,
+            ],
         ),
-        BlockChecked::Refused(x) => refusal(page, at, x),
+        Err(x) => refusal(page, at, x),
     }
 }
 
-pub fn day_read(page: &mut [u8], at: usize, x: DayRead) -> usize
+pub fn day_read(page: &mut [u8], at: usize, x: Result<DayRead, Refusal>) -> usize
     ensures { Filled page.old at (line_of (day_read_as x)) result page.new }
 {
     match x {
-        DayRead::Read {
-            date,
-            n,
-            update,
-            load,
-            unit,
-        } => accepted(
+        Ok(d) => accepted(
             page,
             at,
-            &[date as u64, n as u64, update, load, unit as u64],
+            &[d.date as u64, d.n as u64, d.update, d.load, d.unit as u64],
         ),
-        DayRead::Refused(x) => refusal(page, at, x),
+        Err(x) => refusal(page, at, x),
     }
 }
 
-pub fn totalled(page: &mut [u8], at: usize, x: Totalled) -> usize
+pub fn totalled(page: &mut [u8], at: usize, x: Result<u64, Refusal>) -> usize
     ensures { Filled page.old at (line_of (totalled_as x)) result page.new }
 {
     match x {
-        Totalled::Total(v) => accepted(page, at, &[v]),
-        Totalled::Refused(x) => refusal(page, at, x),
+        Ok(v) => accepted(page, at, &[v]),
+        Err(x) => refusal(page, at, x),
     }
 }
 
-pub fn written(page: &mut [u8], at: usize, x: Written) -> usize
+pub fn written(page: &mut [u8], at: usize, x: Result<Written, Refusal>) -> usize
     ensures { Filled page.old at (line_of (written_as x)) result page.new }
 {
     match x {
-        Written::Block { bytes, records } => accepted(page, at, &[bytes as u64, records as u64]),
-        Written::Refused(x) => refusal(page, at, x),
+        Ok(w) => accepted(page, at, &[w.bytes as u64, w.records as u64]),
+        Err(x) => refusal(page, at, x),
     }
 }

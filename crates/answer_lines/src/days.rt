@@ -6,7 +6,7 @@ ghost use Rattle.answer_lines.specs.Lines.{interval_in, intervals_read, day_line
 
 use super::answers::day_read;
 use super::numbers::{number_behind, numbers_behind};
-use format::DayRead;
+use format::{DayRead, Refusal};
 use page::items::{u8_at, u16_at, u64_at, usize_at};
 
 // Interval i: a space, then its six numbers with slashes between them.
@@ -68,25 +68,19 @@ fn intervals(
 }
 
 // How many intervals were read.
-pub fn intervals_read(x: DayRead) -> usize
+pub fn intervals_read(x: Result<DayRead, Refusal>) -> usize
     ensures { result ≡ intervals_read x }
 {
     match x {
-        DayRead::Read {
-            date: _,
-            n,
-            update: _,
-            load: _,
-            unit: _,
-        } => n,
-        DayRead::Refused(_) => 0,
+        Ok(d) => d.n,
+        Err(_) => 0,
     }
 }
 
 pub fn day_line(
     page: &mut [u8],
     at: usize,
-    x: DayRead,
+    x: Result<DayRead, Refusal>,
     values: &[u64],
     flags: &[u8],
     methods: &[u8],

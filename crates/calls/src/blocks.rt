@@ -8,7 +8,7 @@ ghost use Rattle.calls.specs.Lines.{bytes_in, block_text};
 use super::kept;
 use super::kept::end_line;
 use answer_lines::answers;
-use format::{DayHead, Written};
+use format::{DayHead, Refusal, Written};
 use writing::write_day;
 
 // What each place of the lent room is filled with: nothing that a block has.
@@ -21,12 +21,12 @@ pub struct Wrote {
     pub bytes: usize,
 }
 
-fn bytes_in(x: Written) -> usize
+fn bytes_in(x: Result<Written, Refusal>) -> usize
     ensures { result ≡ bytes_in (written_as x) }
 {
     match x {
-        Written::Block { bytes, records: _ } => bytes,
-        Written::Refused(_) => 0,
+        Ok(w) => w.bytes,
+        Err(_) => 0,
     }
 }
 

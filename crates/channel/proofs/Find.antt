@@ -3,6 +3,7 @@ use Prim.Native.Nat.{ℕ, zero, suc, ◌+◌, ◌-◌, ◌≤◌}
 use mathlib.Core.Path.{◌≡◌, refl, sym, ap, ◌∙◌}
 use mathlib.Core.List.{List, [], ◌∷◌}
 use native.Mathlib.Omega.{arith}
+use Rattle.std.specs.Prelude.{Option, Some, None}
 use lib.ListN.{length, drop}
 use lib.Seq.{drop-nil, drop-length, drop-drop}
 use borrow.Author.Tests.{ne_eqb}
@@ -17,7 +18,7 @@ use Rattle.lines.proofs.Ends.{line-none, line-more}
 use Rattle.format.specs.File.{IsAccepted}
 use Rattle.sums.specs.Sums.{sum_at}
 use Rattle.channel.specs.declared.Channel.{Channel}
-use Rattle.channel.specs.declared.Channel.TheVariants.{Days, Quantity, Missing}
+use Rattle.channel.specs.declared.Channel.TheVariants.{Days, Quantity}
 use Rattle.channel.specs.declared.ChannelStart.{ChannelStart}
 use Rattle.channel.specs.Places.{totals_in, totals_at, ChannelAhead, totalled, inside, Behind}
 
@@ -39,11 +40,11 @@ module _ (file : List ℕ) (at e left : ℕ) (s : LineEnd file at e) (ts : List 
 
   module _ (go : e ≡ length file → ⊥) {k : ℕ} (ek : k ≡ kind_in (fields (part file at e))) where
     module _ (is : k ≡ 200) where
-      has-days : totals_at file at ≡ totalled file (Days at e)
+      has-days : totals_at file at ≡ totalled file (Some (Days at e))
       unfolding totals_from
       has-days = rw (line-more file at e s go, ← ek, is)
 
-      pub find-days : left ≡ 0 → totalled file (Days at e) ≡ ts
+      pub find-days : left ≡ 0 → totalled file (Some (Days at e)) ≡ ts
       find-days z = sym (inv ∙ rw (has-days, z))
 
       pub find-on : (left ≡ 0 → ⊥) → ts ≡ drop (left - 1) (totals_at file (e + 2))
@@ -51,11 +52,11 @@ module _ (file : List ℕ) (at e left : ℕ) (s : LineEnd file at e) (ts : List 
 
     module _ (not : k ≡ 200 → ⊥) where
       module _ (is : k ≡ 250) where
-        has-quantity : totals_at file at ≡ totalled file (Quantity at e)
+        has-quantity : totals_at file at ≡ totalled file (Some (Quantity at e))
         unfolding totals_from
         has-quantity = rw (line-more file at e s go, ← ek, is)
 
-        pub find-quantity : left ≡ 0 → totalled file (Quantity at e) ≡ ts
+        pub find-quantity : left ≡ 0 → totalled file (Some (Quantity at e)) ≡ ts
         find-quantity z = sym (inv ∙ rw (has-quantity, z))
 
         pub find-over : (left ≡ 0 → ⊥) → ts ≡ drop (left - 1) (totals_at file (e + 2))
@@ -70,10 +71,10 @@ pub ruleset finds = (find_none, find-days, find-on, find-quantity, find-over, fi
 -- ---- behind a channel
 
 -- c is a 200 or a 250 from a to e
-module _ (file : List ℕ) (c : Channel) (i : inside file c) (a e : ℕ) where
-  module _ (h : c ≡ Days a e) where
+module _ (file : List ℕ) (c : Option Channel) (i : inside file c) (a e : ℕ) where
+  module _ (k : Channel) (o : c ≡ Some k) (h : k ≡ Days a e) where
     within-days : (a ≤ e) × (e + 2 ≤ length file)
-    within-days = rw h at i
+    within-days = rw (o, h) at i
 
     pub days-order : a ≤ e
     days-order = within-days.0
@@ -84,9 +85,9 @@ module _ (file : List ℕ) (c : Channel) (i : inside file c) (a e : ℕ) where
     pub days-end : e ≤ length file
     days-end = omega (arith, days-room)
 
-  module _ (h : c ≡ Quantity a e) where
+  module _ (k : Channel) (o : c ≡ Some k) (h : k ≡ Quantity a e) where
     within-quantity : (a ≤ e) × (e + 2 ≤ length file)
-    within-quantity = rw h at i
+    within-quantity = rw (o, h) at i
 
     pub quantity-order : a ≤ e
     quantity-order = within-quantity.0
@@ -97,32 +98,32 @@ module _ (file : List ℕ) (c : Channel) (i : inside file c) (a e : ℕ) where
     pub quantity-end : e ≤ length file
     quantity-end = omega (arith, quantity-room)
 
-  pub behind-days : c ≡ Days a e → (r : ChannelStart) → r.at ≡ e + 2 → r.left ≡ 0 → Behind file c r
-  behind-days h r ra rl = record { within = rw ra (days-room h); is = rw (h, ra, rl) }
+  pub behind-days : (k : Channel) → c ≡ Some k → k ≡ Days a e → (r : ChannelStart) → r.at ≡ e + 2 → r.left ≡ 0 → Behind file c r
+  behind-days k o h r ra rl = record { within = rw ra (days-room k o h); is = rw (o, h, ra, rl) }
 
-  pub behind-quantity : c ≡ Quantity a e → (r : ChannelStart) → r.at ≡ e + 2 → r.left ≡ 0 → Behind file c r
-  behind-quantity h r ra rl = record { within = rw ra (quantity-room h); is = rw (h, ra, rl) }
+  pub behind-quantity : (k : Channel) → c ≡ Some k → k ≡ Quantity a e → (r : ChannelStart) → r.at ≡ e + 2 → r.left ≡ 0 → Behind file c r
+  behind-quantity k o h r ra rl = record { within = rw ra (quantity-room k o h); is = rw (o, h, ra, rl) }
 
-pub behind-none : (file : List ℕ) (c : Channel) → c ≡ Missing → (r : ChannelStart) → r.at ≡ length file → r.left ≡ 0 → Behind file c r
+pub behind-none : (file : List ℕ) (c : Option Channel) → c ≡ None → (r : ChannelStart) → r.at ≡ length file → r.left ≡ 0 → Behind file c r
 unfolding totals_from lines
 behind-none file c h r ra rl = record { within = omega arith; is = rw (h, ra, rl, drop-length file) }
 
 -- ---- what is answered of it
 
-module _ (file : List ℕ) (c : Channel) where
-  pub channel-days : (a e n v : ℕ) → c ≡ Days a e → n ≡ intervals_in (fields (part file a e)) → v ≡ sum_at file (e + 2) n
+module _ (file : List ℕ) (c : Option Channel) where
+  pub channel-days : (k : Channel) (a e n v : ℕ) → c ≡ Some k → k ≡ Days a e → n ≡ intervals_in (fields (part file a e)) → v ≡ sum_at file (e + 2) n
       → accepted (v ∷ []) ≡ total_first (totalled file c)
-  channel-days a e n v h en ev = rw (h, ← en, ← ev)
+  channel-days k a e n v o h en ev = rw (o, h, ← en, ← ev)
 
-  pub channel-quantity : (a e v : ℕ) → c ≡ Quantity a e → v ≡ quantity_in (fields (part file a e)) → accepted (v ∷ []) ≡ total_first (totalled file c)
-  channel-quantity a e v h ev = rw (h, ← ev)
+  pub channel-quantity : (k : Channel) (a e v : ℕ) → c ≡ Some k → k ≡ Quantity a e → v ≡ quantity_in (fields (part file a e)) → accepted (v ∷ []) ≡ total_first (totalled file c)
+  channel-quantity k a e v o h ev = rw (o, h, ← ev)
 
-  pub channel-missing : (r : Answer) → c ≡ Missing → r ≡ refusal 14 → r ≡ total_first (totalled file c)
+  pub channel-missing : (r : Answer) → c ≡ None → r ≡ refusal 14 → r ≡ total_first (totalled file c)
   channel-missing r h er = rw (h, er)
 
 -- ---- in a file that was accepted
 
-module _ (file : List ℕ) (channel : ℕ) (c : Channel) (ec : totalled file c ≡ drop channel (totals_in file)) where
+module _ (file : List ℕ) (channel : ℕ) (c : Option Channel) (ec : totalled file c ≡ drop channel (totals_in file)) where
   pub next-noted : (r : ChannelStart) → Behind file c r → ChannelAhead file (channel + 1) r
   next-noted r b = record { within = b.within; is = sym (drop-drop 1 channel (totals_in file)) ∙ rw (← ec) b.is }
 

@@ -10,7 +10,7 @@ ghost use Rattle.format.specs.File.{most, IsAccepted};
 ghost use Rattle.channel.specs.Places.{totals_in, ChannelAhead, totalled, inside};
 
 use day::walk::intervals_of;
-use format::{Refusal, Totalled};
+use format::Refusal;
 use sums::add_days;
 use walk::{behind, find_channel, quantity_of};
 
@@ -26,26 +26,27 @@ pub struct ChannelStart {
 pub enum Channel {
     Days(usize, usize),
     Quantity(usize, usize),
-    Missing,
 }
 
 // What a channel adds up to, if there is one.
-fn total_place(file: &[u8], c: Channel) -> Totalled
+fn total_place(file: &[u8], c: Option<Channel>) -> Result<u64, Refusal>
     requires { inside file.now c × (length file.now ≤ most) }
     ensures { totalled_as result ≡ total_first (totalled file.now c) }
 {
-    match c {
-        Channel::Missing => Totalled::Refused(Refusal::bare(14)),
-        Channel::Quantity(a, e) => Totalled::Total(quantity_of(file, a, e)),
-        Channel::Days(a, e) => Totalled::Total(add_days(file, e + 2, intervals_of(file, a, e))),
+    let Some(found) = c else {
+        return Err(Refusal::bare(14));
+    };
+    match found {
+        Channel::Quantity(a, e) => Ok(quantity_of(file, a, e)),
+        Channel::Days(a, e) => Ok(add_days(file, e + 2, intervals_of(file, a, e))),
     }
 }
 
 // What a channel adds up to, where it stands, and from where the channel behind it is found.
 #[derive(Clone, Copy)]
 pub struct ChannelTurn {
-    pub answer: Totalled,
-    pub place: Channel,
+    pub answer: Result<u64, Refusal>,
+    pub place: Option<Channel>,
     pub next: ChannelStart,
 }
 

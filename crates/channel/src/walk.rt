@@ -23,7 +23,7 @@ pub fn quantity_of(file: &[u8], a: usize, e: usize) -> u64
 }
 
 // The channel of a number from 0.
-pub fn find_channel(file: &[u8], channel: usize, from: ChannelStart) -> Channel
+pub fn find_channel(file: &[u8], channel: usize, from: ChannelStart) -> Option<Channel>
     requires { ChannelAhead file.now channel from }
     ensures is { totalled file.now result ≡ drop channel (totals_in file.now) }
     ensures inside { inside file.now result }
@@ -33,19 +33,19 @@ pub fn find_channel(file: &[u8], channel: usize, from: ChannelStart) -> Channel
     loop {
         let e = line_end(file, at);
         if e == file.len() {
-            return Channel::Missing;
+            return None;
         }
         let a = at;
         at = e + 2;
         let k = kind_at(file, a, e);
         if k == 200 {
             if left == 0 {
-                return Channel::Days(a, e);
+                return Some(Channel::Days(a, e));
             }
             left -= 1;
         } else if k == 250 {
             if left == 0 {
-                return Channel::Quantity(a, e);
+                return Some(Channel::Quantity(a, e));
             }
             left -= 1;
         }
@@ -53,16 +53,18 @@ pub fn find_channel(file: &[u8], channel: usize, from: ChannelStart) -> Channel
 }
 
 // From where the channel behind one is found: behind its record, or at the end of the file where there was none.
-pub fn behind(file: &[u8], c: Channel) -> ChannelStart
+pub fn behind(file: &[u8], c: Option<Channel>) -> ChannelStart
     requires { inside file.now c }
     ensures { Behind file.now c result }
 {
-    match c {
-        Channel::Days(_, e) => ChannelStart { at: e + 2, left: 0 },
-        Channel::Quantity(_, e) => ChannelStart { at: e + 2, left: 0 },
-        Channel::Missing => ChannelStart {
+    let Some(found) = c else {
+        return ChannelStart {
             at: file.len(),
             left: 0,
-        },
+        };
+    };
+    match found {
+        Channel::Days(_, e) => ChannelStart { at: e + 2, left: 0 },
+        Channel::Quantity(_, e) => ChannelStart { at: e + 2, left: 0 },
     }
 }

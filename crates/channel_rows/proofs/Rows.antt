@@ -2,6 +2,7 @@
 use Prim.Native.Nat.{ℕ, suc, ◌+◌, ◌-◌, ◌≤◌}
 use mathlib.Core.Path.{◌≡◌}
 use mathlib.Core.List.{List, [], ◌∷◌}
+use Rattle.std.proofs.Common.{Option, Some, None}
 use native.Mathlib.Omega.{arith}
 use borrow.Author.Tests.{ne_eqb}
 use lib.ListN.{length, drop}
@@ -11,7 +12,7 @@ use Rattle.format.specs.Records.{kind_in}
 use Rattle.lines.specs.Places.{LineEnd}
 use Rattle.lines.proofs.Ends.{line-none, line-more}
 use Rattle.channel.specs.declared.Channel.{Channel}
-use Rattle.channel.specs.declared.Channel.TheVariants.{Days, Quantity, Missing}
+use Rattle.channel.specs.declared.Channel.TheVariants.{Days, Quantity}
 use Rattle.page.specs.Filled.{Filled}
 use Rattle.page.proofs.Filling.{filled-then}
 use Rattle.phrase.specs.Phrases.{line_text}
@@ -61,14 +62,14 @@ module _ {p₀ p₁ p₂ : List ℕ} {i j : ℕ} where
   channel-put n fs unit days t en es eu a b = rw (← en, ← es, ← eu) (filled-then a b)
 
 -- and by where it stands
-module _ {p₀ p₁ : List ℕ} {i : ℕ} (file : List ℕ) (k : ℕ) (place : Channel) (t : ℕ) where
-  pub placed-days : (a e d : ℕ) {s : List ℕ} → place ≡ Days a e → s ≡ part file a e → d ≡ days_ahead (lines (drop (e + 2) file))
+module _ {p₀ p₁ : List ℕ} {i : ℕ} (file : List ℕ) (k : ℕ) (place : Option Channel) (t : ℕ) where
+  pub placed-days : (c : Channel) (a e d : ℕ) {s : List ℕ} → place ≡ Some c → c ≡ Days a e → s ≡ part file a e → d ≡ days_ahead (lines (drop (e + 2) file))
       → Filled p₀ 0 (channel_row k (fields s) (8 - 1) d t) i p₁ → Filled p₀ 0 (channel_text file k place t) i p₁
-  placed-days a e d h es ed w = rw (h, ← es, ← ed) w
+  placed-days c a e d o h es ed w = rw (o, h, ← es, ← ed) w
 
-  pub placed-quantity : (a e : ℕ) {s : List ℕ} → place ≡ Quantity a e → s ≡ part file a e
+  pub placed-quantity : (c : Channel) (a e : ℕ) {s : List ℕ} → place ≡ Some c → c ≡ Quantity a e → s ≡ part file a e
       → Filled p₀ 0 (channel_row k (fields s) (20 - 1) 0 t) i p₁ → Filled p₀ 0 (channel_text file k place t) i p₁
-  placed-quantity a e h es w = rw (h, ← es) w
+  placed-quantity c a e o h es w = rw (o, h, ← es) w
 
-  pub placed-missing : place ≡ Missing → Filled p₀ 0 [] i p₁ → Filled p₀ 0 (channel_text file k place t) i p₁
+  pub placed-missing : place ≡ None → Filled p₀ 0 [] i p₁ → Filled p₀ 0 (channel_text file k place t) i p₁
   placed-missing h w = rw h w

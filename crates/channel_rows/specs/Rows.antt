@@ -1,10 +1,10 @@
 -- What a channel adds up to, as a line of the table.
-use Rattle.std.specs.Prelude.{ℕ, suc, ◌+◌, cond, List, [], drop, eqb}
+use Rattle.std.specs.Prelude.{ℕ, suc, ◌+◌, cond, List, [], drop, eqb, Option, Some, None}
 use Rattle.ground.specs.Lists.{part}
 use Rattle.format.specs.Cut.{Lines, line, rest, lines, fields, field}
 use Rattle.format.specs.Records.{kind_in}
 use Rattle.channel.specs.declared.Channel.{Channel}
-use Rattle.channel.specs.declared.Channel.TheVariants.{Days, Quantity, Missing}
+use Rattle.channel.specs.declared.Channel.TheVariants.{Days, Quantity}
 use Rattle.phrase.specs.Phrases.{line_text}
 use Rattle.tables.specs.Totals.{row_text}
 
@@ -18,7 +18,7 @@ unfoldable pub channel_row : ℕ → List (List ℕ) → ℕ → ℕ → ℕ →
 channel_row k fs unit days total = line_text (row_text k (field 1 fs) (field 4 fs) (field unit fs) days total 0)
 
 -- channel k, where it stands in the file
-abbrev pub channel_text : List ℕ → ℕ → Channel → ℕ → List ℕ
-channel_text file k (Days a e) total = channel_row k (fields (part file a e)) 7 (days_ahead (lines (drop (e + 2) file))) total
-channel_text file k (Quantity a e) total = channel_row k (fields (part file a e)) 19 0 total
-channel_text file k Missing total = []
+abbrev pub channel_text : List ℕ → ℕ → Option Channel → ℕ → List ℕ
+channel_text file k (Some (Days a e)) total = channel_row k (fields (part file a e)) 7 (days_ahead (lines (drop (e + 2) file))) total
+channel_text file k (Some (Quantity a e)) total = channel_row k (fields (part file a e)) 19 0 total
+channel_text file k None total = []

@@ -71,11 +71,20 @@ fn channel_row(
 }
 
 // The row of channel k, which stands at a place of the file.
-pub fn placed(page: &mut [u8], file: &[u8], k: usize, place: Channel, total: u64) -> usize
+pub fn placed(
+    page: &mut [u8],
+    file: &[u8],
+    k: usize,
+    place: Option<Channel>,
+    total: u64,
+) -> usize
     requires { inside file.now place }
     ensures { Filled page.old 0 (channel_text file.now k place total) result page.new }
 {
-    match place {
+    let Some(found) = place else {
+        return put(page, 0, b"");
+    };
+    match found {
         Channel::Days(a, e) => channel_row(
             page,
             k,
@@ -85,6 +94,5 @@ pub fn placed(page: &mut [u8], file: &[u8], k: usize, place: Channel, total: u64
             total,
         ),
         Channel::Quantity(a, e) => channel_row(page, k, part(file, a, e), UNIT_OF_250, 0, total),
-        Channel::Missing => put(page, 0, b""),
     }
 }

@@ -4,6 +4,7 @@ use Prim.Native.Nat.{ℕ, suc, ◌+◌, ◌-◌, ◌≤◌, ◌<◌}
 use mathlib.Core.Path.{◌≡◌, refl, sym, ◌∙◌, ap}
 use mathlib.Core.List.{List, ◌∷◌}
 use mathlib.Core.Bool.{Bool, true, false, cond}
+use Rattle.std.proofs.Common.{Option, Some, Result, Ok, ◌×◌}
 use native.Mathlib.Omega.{arith}
 use native.Mathlib.Decide.{dec_lt}
 use lib.ListN.{length, drop}
@@ -24,12 +25,9 @@ use Rattle.lines.proofs.Ends.{line-more}
 use Rattle.lines.specs.declared.Found.{Found}
 use Rattle.record.proofs.Turns.{by-test}
 use Rattle.walker.specs.Handed.{record_at}
-use Rattle.walker.specs.declared.Record.{Record}
-use Rattle.walker.specs.declared.Record.TheVariants.{At}
 use Rattle.walker.proofs.Handed.{handed-looked, handed-inside}
 use Rattle.order.specs.declared.State.{State}
-use Rattle.order.specs.declared.Step.{Step}
-use Rattle.order.specs.declared.Step.TheVariants as step
+use Rattle.order.specs.declared.Stop as stop
 use Rattle.order.specs.State.{seen, goes, next_of, step_as}
 use Rattle.order.proofs.Next.{gone}
 use Rattle.follows.proofs.Expected.{is-first}
@@ -187,8 +185,8 @@ pub channel-first : (file : List ℕ) (channel : ℕ) → ChannelAhead file chan
 channel-first file channel = record { within = omega arith; is = refl }
 
 -- the turn, in the terms of the walk's code
-module _ (file : List ℕ) (day channel at : ℕ) (u v : Under) (st : State) (r : Record) (is : r ≡ record_at file at) (p : ℕ) (f : Found) (h : r ≡ At p f) (t : Step)
-    (et : step_as file t ≡ next_of (seen file st) (part file at f.end)) (s : State) (q : t ≡ step.On s) (a : Ahead file day channel at u (seen file st)) where
+module _ (file : List ℕ) (day channel at : ℕ) (u v : Under) (st : State) (r : Option (ℕ × Found)) (is : r ≡ record_at file at) (p : ℕ) (f : Found) (h : r ≡ Some (p, f)) (t : Result State stop.Stop)
+    (et : step_as file t ≡ next_of (seen file st) (part file at f.end)) (s : State) (q : t ≡ Ok s) (a : Ahead file day channel at u (seen file st)) where
   next-is : goes (seen file s) ≡ next_of (seen file st) (part file at f.end)
   next-is = rw q at et
 

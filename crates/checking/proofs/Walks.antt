@@ -3,6 +3,7 @@ use Prim.Native.Nat.{ℕ, ◌+◌, ◌-◌, ◌≤◌, ◌<◌}
 use mathlib.Core.Path.{◌≡◌, refl, sym, ap, ◌∙◌}
 use mathlib.Core.Bool.{true, false, true≢false}
 use mathlib.Core.List.{List, [], ◌∷◌}
+use Rattle.std.proofs.Common.{Option, Some, None, Result, Ok, Err, ◌×◌}
 use native.Mathlib.Omega.{arith}
 use native.Mathlib.Decide.{dec_lt}
 use lib.ListN.{length, drop, length-drop}
@@ -16,19 +17,15 @@ use Rattle.format.specs.Faults.{fault_of, Fault}
 use Rattle.format.specs.Day.{DayRows, days_from}
 use Rattle.format.specs.Answers.{Answer, accepted, refused, refused_as, checked_as}
 use Rattle.format.specs.declared.Refusal.{Refusal}
-use Rattle.format.specs.declared.Checked.TheVariants.{Refused}
 use Rattle.format.specs.File.{after, or_go_on, walk_of, check_of}
 use Rattle.format.specs.Faults as faults
 use Rattle.lines.specs.Places.{line_len, LineEnd}
 use Rattle.lines.proofs.Ends.{line_at, line-none, line-more, line-long}
 use Rattle.lines.specs.declared.Found.{Found}
 use Rattle.walker.specs.Handed.{record_at}
-use Rattle.walker.specs.declared.Record.{Record}
-use Rattle.walker.specs.declared.Record.TheVariants.{At, None}
 use Rattle.walker.proofs.Handed.{handed-none, handed-looked, handed-inside, handed-order, handed-room}
 use Rattle.order.specs.declared.State.{State}
-use Rattle.order.specs.declared.Step.{Step}
-use Rattle.order.specs.declared.Step.TheVariants as step
+use Rattle.order.specs.declared.Stop as stop
 use Rattle.follows.specs.Tests.{expected_as}
 use Rattle.order.specs.State.{seen, closed, Kept, Next, goes, stops, or_stop, next_of, step_as, Holds}
 use Rattle.order.proofs.Next.{kept_on}
@@ -68,13 +65,13 @@ onward-is : (p k : ℕ) (f : Fault) (st : Due) (w : Due → Answer) → or_go_on
 onward-is p k faults.Fine st w = refl
 onward-is p k (faults.Stop x o i) st w = refl
 
-module _ (file : List ℕ) (at k : ℕ) (st : State) (r : Record) (is : r ≡ record_at file at) (known : st.expect ≤ 9) (going : st.expect ≡ 9 → ⊥)
+module _ (file : List ℕ) (at k : ℕ) (st : State) (r : Option (ℕ × Found)) (is : r ≡ record_at file at) (known : st.expect ≤ 9) (going : st.expect ≡ 9 → ⊥)
     (inv : check_of file ≡ walk_of (seen file st) at k (lines (drop at file))) where
   pub walk_2 : r ≡ None → check_of file ≡ refused 2 at k 0
   unfolding walk_of
   walk_2 h = inv ∙ rw (handed-none file at r is h, not_end st.expect known going)
 
-  module _ (p : ℕ) (f : Found) (h : r ≡ At p f) (t : Step) (et : step_as file t ≡ next_of (seen file st) (part file at f.end)) where
+  module _ (p : ℕ) (f : Found) (h : r ≡ Some (p, f)) (t : Result State stop.Stop) (et : step_as file t ≡ next_of (seen file st) (part file at f.end)) where
     abbrev e : ℕ
     e = f.end
 
@@ -87,10 +84,10 @@ module _ (file : List ℕ) (at k : ℕ) (st : State) (r : Record) (is : r ≡ re
         (inv ∙ rw (line-more file at e s (handed-inside file at r is p f h), not_end st.expect known going, m)
         (onward-is at k (fault_of (seen file st) (part file at e)) (after (seen file st) (part file at e)) (behind file e k)))
 
-    pub walk-stop : (x o i : ℕ) → t ≡ step.Stop x o i → check_of file ≡ refused x (at + o) k i
-    walk-stop x o i q = rw q at turn
+    pub walk-stop : (x : stop.Stop) → t ≡ Err x → check_of file ≡ refused x.number (at + x.place) k x.field
+    walk-stop x q = rw q at turn
 
-    pub walk-on : (n : State) → t ≡ step.On n → check_of file ≡ walk_of (seen file n) (e + 2) (k + 1) (lines (drop (e + 2) file))
+    pub walk-on : (n : State) → t ≡ Ok n → check_of file ≡ walk_of (seen file n) (e + 2) (k + 1) (lines (drop (e + 2) file))
     unfolding behind
     walk-on n q = rw q at turn
 
@@ -141,16 +138,16 @@ touring-first file day channel st t es et h =
     })
 
 -- over the record f that it was handed, with the step's answer
-module _ (file : List ℕ) (day channel : ℕ) (st : State) (t : Tour) (g : Touring file day channel st t) (going : st.expect ≡ 9 → ⊥) (r : Record)
-    (is : r ≡ record_at file t.at) (p : ℕ) (f : Found) (h : r ≡ At p f) where
+module _ (file : List ℕ) (day channel : ℕ) (st : State) (t : Tour) (g : Touring file day channel st t) (going : st.expect ≡ 9 → ⊥) (r : Option (ℕ × Found))
+    (is : r ≡ record_at file t.at) (p : ℕ) (f : Found) (h : r ≡ Some (p, f)) where
   pub turn-few : t.records < f.end + 2
   turn-few = omega (arith, g.few, handed-order file t.at r is p f h)
 
   pub turn-less : (u : Tour) (s : State) → u ≡ turned_to t f.end (f.end + 2) s day channel → length file - u.at < length file - t.at
   turn-less u s e = rw e (omega (arith, handed-order file t.at r is p f h, handed-room file t.at r is p f h))
 
-  module _ (w : Step) (ew : step_as file w ≡ next_of (seen file st) (part file t.at f.end)) (hw : Holds file t.at f.end w) (s : State)
-      (q : w ≡ step.On s) where
+  module _ (w : Result State stop.Stop) (ew : step_as file w ≡ next_of (seen file st) (part file t.at f.end)) (hw : Holds file t.at f.end w) (s : State)
+      (q : w ≡ Ok s) where
     pub turn-touring : (u : Tour) → u ≡ turned_to t f.end (f.end + 2) s day channel → Touring file day channel s u
     turn-touring u e =
         let room = handed-room file t.at r is p f h in
@@ -176,7 +173,7 @@ module _ (file : List ℕ) (day channel : ℕ) (st : State) (t : Tour) (g : Tour
         })
 
 -- over the record, in the terms of what the walk was handed
-module _ (file : List ℕ) (day channel : ℕ) (st : State) (t : Tour) (g : Touring file day channel st t) (going : st.expect ≡ 9 → ⊥) (r : Record)
+module _ (file : List ℕ) (day channel : ℕ) (st : State) (t : Tour) (g : Touring file day channel st t) (going : st.expect ≡ 9 → ⊥) (r : Option (ℕ × Found))
     (is : r ≡ record_at file t.at) where
   pub turned-2 : (x : Refusal) → refused_as x ≡ refused 2 t.at t.records 0 → r ≡ None → check_of file ≡ refused_as x
   turned-2 x e h = z ∙ sym e
@@ -184,12 +181,12 @@ module _ (file : List ℕ) (day channel : ℕ) (st : State) (t : Tour) (g : Tour
       z : check_of file ≡ refused 2 t.at t.records 0
       z = walk_2 file t.at t.records st r is g.kept.known going g.walked h
 
-  pub turned-stop : (p : ℕ) (f : Found) → r ≡ At p f → (w : Step) → step_as file w ≡ next_of (seen file st) (part file t.at f.end) → (x o i : ℕ)
-      → w ≡ step.Stop x o i → (y : Refusal) → refused_as y ≡ refused x (t.at + o) t.records i → check_of file ≡ refused_as y
-  turned-stop p f h w ew x o i q y e = z ∙ sym e
+  pub turned-stop : (p : ℕ) (f : Found) → r ≡ Some (p, f) → (w : Result State stop.Stop) → step_as file w ≡ next_of (seen file st) (part file t.at f.end) → (x : stop.Stop)
+      → w ≡ Err x → (y : Refusal) → refused_as y ≡ refused x.number (t.at + x.place) t.records x.field → check_of file ≡ refused_as y
+  turned-stop p f h w ew x q y e = z ∙ sym e
     where
-      z : check_of file ≡ refused x (t.at + o) t.records i
-      z = walk-stop file t.at t.records st r is g.kept.known going g.walked p f h w ew x o i q
+      z : check_of file ≡ refused x.number (t.at + x.place) t.records x.field
+      z = walk-stop file t.at t.records st r is g.kept.known going g.walked p f h w ew x q
 
 -- behind the 900
 module _ (file : List ℕ) (day channel : ℕ) (st : State) (t : Tour) (g : Touring file day channel st t) (done : st.expect ≡ 9) where
@@ -216,7 +213,7 @@ module _ (file : List ℕ) (day channel : ℕ) (st : State) (t : Tour) (g : Tour
   ended-13 h = walk-13 file t.at t.records st done g.walked g.within h refl
 
 -- a refusal, and what is noted beside it
-module _ (file : List ℕ) (day channel : ℕ) (x : Refusal) (r : Noted) (er : r ≡ record { answer = Refused x; day = first_day day; before = 0; channel = first_channel channel }) where
+module _ (file : List ℕ) (day channel : ℕ) (x : Refusal) (r : Noted) (er : r ≡ record { answer = Err x; day = first_day day; before = 0; channel = first_channel channel }) where
   pub refused-answer : check_of file ≡ refused_as x → checked_as r.answer ≡ check_of file
   refused-answer h = ap (λ (z : Noted). checked_as z.answer) er ∙ sym h
 

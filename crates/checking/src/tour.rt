@@ -1,19 +1,18 @@
 // The walk over the lent file, record after record, with the state handed in and handed back. On its way it notes from where a day and a channel are
 // found, so that nobody has to walk to them again.
-ghost use Rattle.std.specs.Prelude.{◌≡◌, cond, ◌-◌, ◌<◌, leb, eqb};
+ghost use Rattle.std.specs.Prelude.{◌≡◌, cond, ◌-◌, ◌<◌, leb, eqb, Err};
 ghost use Rattle.format.specs.Answers.{refused as Answers·refused};
 ghost use Rattle.format.specs.Answers.{refused_as, checked_as};
 ghost use Rattle.format.specs.File.{check_of};
 ghost use Rattle.day.specs.Places.{DayAhead};
 ghost use Rattle.channel.specs.Places.{ChannelAhead};
 ghost use Rattle.checking.specs.Tour.{no_under, first_day, first_channel, first_tour, ChannelsBefore, Touring, turned_to};
-ghost use Rattle.format.specs.declared.Checked.TheVariants.{Refused};
 
 use channel::ChannelStart;
 use day::{DayStart, Under};
 use format::{Checked, Refusal};
-use order::{State, Step};
-use walker::{Record, record_at};
+use order::State;
+use walker::record_at;
 
 // The walk before a record, beside its state: where the record starts, how many are behind, the last 200, and from where the day and the channel that were
 // asked for are found, with the channels before that day.
@@ -30,7 +29,7 @@ pub struct Tour {
 // What the check answers, from where the day and the channel that were asked for are found, and how many channels stand before the day.
 #[derive(Clone, Copy)]
 pub struct Noted {
-    pub answer: Checked,
+    pub answer: Result<Checked, Refusal>,
     pub day: DayStart,
     pub before: usize,
     pub channel: ChannelStart,
@@ -139,18 +138,18 @@ impl Tour {
     }
 
     // The end of the file has to stand behind the 900.
-    fn end(self, file: &[u8], st: State, day: usize, channel: usize) -> Checked
+    fn end(self, file: &[u8], st: State, day: usize, channel: usize) -> Result<Checked, Refusal>
         requires { Touring file.now day channel st self × (st.expect ≡ 9) }
         ensures { checked_as result ≡ check_of file.now }
     {
         if self.at == file.len() {
-            return Checked::Accepted {
+            return Ok(Checked {
                 version: st.version,
                 channels: st.channels,
                 days: st.days,
-            };
+            });
         }
-        Checked::Refused(Refusal {
+        Err(Refusal {
             number: 13,
             place: self.at,
             record: self.records,
@@ -172,10 +171,10 @@ fn place_of(number: u64, place: usize, record: usize, field: usize) -> Refusal
 
 // A refusal, with the day and the channel to be looked for from the start.
 fn refused(x: Refusal, day: usize, channel: usize) -> Noted
-    ensures { result ≡ (record { answer = Refused x; day = first_day day; before = 0; channel = first_channel channel }) }
+    ensures { result ≡ (record { answer = Err x; day = first_day day; before = 0; channel = first_channel channel }) }
 {
     Noted {
-        answer: Checked::Refused(x),
+        answer: Err(x),
         day: first_day(day),
         before: 0,
         channel: first_channel(channel),
@@ -197,16 +196,16 @@ pub fn check_and_note(file: &[u8], day: usize, channel: usize) -> Noted
     while st.expect != 9 {
         let at = t.at;
         let handed = record_at(file, at);
-        let Record::At(_, found) = handed else {
+        let Some((_, found)) = handed else {
             return refused(place_of(2, at, t.records, 0), day, channel);
         };
         let e = found.end;
         let step = st.step(file, at, found);
         match step {
-            Step::Stop(number, o, field) => {
-                return refused(place_of(number, at + o, t.records, field), day, channel);
+            Err(x) => {
+                return refused(place_of(x.number, at + x.place, t.records, x.field), day, channel);
             }
-            Step::On(s) => {
+            Ok(s) => {
                 t = t.turn(e, e + 2, s, day, channel);
                 st = s;
             }

@@ -3,6 +3,7 @@ use Prim.Native.Nat.{ℕ, zero, suc, ◌+◌, ◌-◌, ◌≤◌, ◌<◌}
 use mathlib.Core.Path.{◌≡◌, refl, sym, ap, ◌∙◌}
 use mathlib.Core.List.{List, [], ◌∷◌}
 use native.Mathlib.Omega.{arith}
+use Rattle.std.specs.Prelude.{Option, Some, None}
 use lib.ListN.{length, drop}
 use lib.Seq.{drop-nil, drop-length}
 use borrow.Author.Tests.{ne_eqb}
@@ -19,7 +20,6 @@ use Rattle.day.specs.Places.{Heads, day_at, days_at, inside, Behind}
 use Rattle.day.specs.declared.Under.{Under}
 use Rattle.day.specs.declared.DayStart.{DayStart}
 use Rattle.day.specs.declared.Place.{Place}
-use Rattle.day.specs.declared.Place.TheVariants.{At, Missing}
 
 -- n is in the ninth field of a 200
 pub intervals-is : (file : List ℕ) (fs : List (List ℕ)) (p x e n : ℕ) → Rest file fs p 8 x e
@@ -83,38 +83,38 @@ no-heads file u a e = record { order = omega arith; within = omega arith }
 pub heads-here : (file : List ℕ) (at e : ℕ) → LineEnd file at e → (u : Under) → u.at ≡ at → u.end ≡ e → Heads file u
 heads-here file at e l u ua ue = record { order = omega (arith, l.order); within = omega (arith, l.within) }
 
-pub room-behind : (file : List ℕ) (p : Place) (a e : ℕ) (u : Under) → p ≡ At a e u → inside file p → e + 2 ≤ length file
-room-behind file p a e u h i = let w : (a ≤ e) × (e + 2 ≤ length file) × Heads file u × LineEnd file a e = rw h at i in w.1
+pub room-behind : (file : List ℕ) (p : Option Place) (d : Place) → p ≡ Some d → inside file p → d.end + 2 ≤ length file
+room-behind file p d h i = let w : inside file (Some d) = rw h at i in w.1
 
-pub behind-day : (file : List ℕ) (p : Place) (a e : ℕ) (u : Under) → p ≡ At a e u → inside file p → (r : DayStart) → r.at ≡ e + 2 → r.left ≡ 0 → r.under ≡ u
+pub behind-day : (file : List ℕ) (p : Option Place) (d : Place) → p ≡ Some d → inside file p → (r : DayStart) → r.at ≡ d.end + 2 → r.left ≡ 0 → r.under ≡ d.under
     → Behind file p r
-behind-day file p a e u h i r ra rl ru =
-    let w : (a ≤ e) × (e + 2 ≤ length file) × Heads file u × LineEnd file a e = rw h at i in
+behind-day file p d h i r ra rl ru =
+    let w : inside file (Some d) = rw h at i in
     record { within = rw ra w.1; heads = rw ru w.2; is = rw (h, ra, rl, ru) }
 
-pub behind-none : (file : List ℕ) (p : Place) → p ≡ Missing → (r : DayStart) → r.at ≡ length file → r.left ≡ 0 → Heads file r.under → Behind file p r
+pub behind-none : (file : List ℕ) (p : Option Place) → p ≡ None → (r : DayStart) → r.at ≡ length file → r.left ≡ 0 → Heads file r.under → Behind file p r
 unfolding days_from lines
 behind-none file p h r ra rl u = record { within = omega arith; heads = u; is = rw (h, ra, rl, drop-length file) }
 
 -- the 300 of a day that was found, and its 200
-module _ (file : List ℕ) (p : Place) (a e : ℕ) (u : Under) (h : p ≡ At a e u) (i : inside file p) where
-  found : (a ≤ e) × (e + 2 ≤ length file) × Heads file u × LineEnd file a e
+module _ (file : List ℕ) (p : Option Place) (d : Place) (h : p ≡ Some d) (i : inside file p) where
+  found : inside file (Some d)
   found = rw h at i
 
-  pub day-order : a ≤ e
+  pub day-order : d.at ≤ d.end
   day-order = found.0
 
-  pub day-within : e ≤ length file
+  pub day-within : d.end ≤ length file
   day-within = omega (arith, found.1)
 
-  pub heads-found : Heads file u
+  pub heads-found : Heads file d.under
   heads-found = found.2
 
-  pub line-found : LineEnd file a e
+  pub line-found : LineEnd file d.at d.end
   line-found = found.3
 
-  pub under-order : u.at ≤ u.end
+  pub under-order : d.under.at ≤ d.under.end
   under-order = heads-found.order
 
-  pub under-within : u.end ≤ length file
+  pub under-within : d.under.end ≤ length file
   under-within = heads-found.within

@@ -1,5 +1,5 @@
 -- A day as places of the file, for the contracts of the inner functions: its 300 stands from a to e, its values start at v, its quality at q.
-use Rattle.std.specs.Prelude.{ℕ, zero, suc, ◌+◌, ◌≤◌, ◌≡◌, List, [], ◌∷◌, length, drop}
+use Rattle.std.specs.Prelude.{ℕ, zero, suc, ◌+◌, ◌≤◌, ◌≡◌, List, [], ◌∷◌, length, drop, Option, Some, None}
 use Rattle.ground.specs.Lists.{part}
 use Rattle.format.specs.Cut.{lines, field}
 use Rattle.format.specs.Records.{intervals_in, unit_in, millionths}
@@ -8,7 +8,6 @@ use Rattle.format.specs.Day.{Row, row_at, BlockRows, DayRows, runs_from, days_fr
 use Rattle.day.specs.declared.DayStart.{DayStart}
 use Rattle.day.specs.declared.Under.{Under}
 use Rattle.day.specs.declared.Place.{Place}
-use Rattle.day.specs.declared.Place.TheVariants.{At, Missing}
 
 -- the values of n fields from field i on; one that is not there reads as 0
 unfoldable pub values_from : ℕ → ℕ → List (List ℕ) → List ℕ
@@ -48,16 +47,16 @@ pub record DayAhead (file : List ℕ) (day : ℕ) (from : DayStart) : Type 0 whe
   pub is : drop day (days_of file) ≡ drop from.left (days_at file from.at from.under)
 
 -- the days from the one that was found
-abbrev pub located : List ℕ → Place → List DayRows
-located file (At a e u) = day_at file a e u ∷ days_at file (e + 2) u
-located file Missing = []
+abbrev pub located : List ℕ → Option Place → List DayRows
+located file (Some p) = day_at file p.at p.end p.under ∷ days_at file (p.end + 2) p.under
+located file None = []
 
-abbrev pub inside : List ℕ → Place → Type 0
-inside file (At a e u) = (a ≤ e) × (e + 2 ≤ length file) × Heads file u × LineEnd file a e
-inside file Missing = Unit
+abbrev pub inside : List ℕ → Option Place → Type 0
+inside file (Some p) = (p.at ≤ p.end) × (p.end + 2 ≤ length file) × Heads file p.under × LineEnd file p.at p.end
+inside file None = Unit
 
 -- and the day behind it is found from there
-pub record Behind (file : List ℕ) (p : Place) (from : DayStart) : Type 0 where
+pub record Behind (file : List ℕ) (p : Option Place) (from : DayStart) : Type 0 where
   pub within : from.at ≤ length file
   pub heads : Heads file from.under
   pub is : drop 1 (located file p) ≡ drop from.left (days_at file from.at from.under)

@@ -22,7 +22,8 @@ pub struct DayStart {
 
 // Where a day's 300 stands, from its first byte to its CR LF, and the 200 that it stands under.
 #[derive(Clone, Copy)]
-pub enum Place {
-    At(usize, usize, Under),
-    Missing,
+pub struct Place {
+    pub at: usize,
+    pub end: usize,
+    pub under: Under,
 }

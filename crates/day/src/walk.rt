@@ -30,7 +30,7 @@ pub fn unit_of(file: &[u8], a: usize, e: usize) -> u8
 }
 
 // The day of a number from 0, with the last 200 before it. A walk that came by has noted from where it is found.
-pub fn find_day(file: &[u8], day: usize, from: DayStart) -> Place
+pub fn find_day(file: &[u8], day: usize, from: DayStart) -> Option<Place>
     requires { DayAhead file.now day from }
     ensures is { located file.now result ≡ drop day (days_of file.now) }
     ensures inside { inside file.now result }
@@ -42,14 +42,18 @@ pub fn find_day(file: &[u8], day: usize, from: DayStart) -> Place
         let s = scan(file, at);
         let e = s.end;
         if e == file.len() {
-            return Place::Missing;
+            return None;
         }
         let a = at;
         at = e + 2;
         let k = kind_at(file, a, e);
         if k == 300 {
             if left == 0 {
-                return Place::At(a, e, under);
+                return Some(Place {
+                    at: a,
+                    end: e,
+                    under,
+                });
             }
             left -= 1;
         } else if k == 200 {
@@ -59,17 +63,17 @@ pub fn find_day(file: &[u8], day: usize, from: DayStart) -> Place
 }
 
 // From where the day behind one is found: behind its 300, or at the end of the file where there was none.
-pub fn behind(file: &[u8], p: Place) -> DayStart
+pub fn behind(file: &[u8], p: Option<Place>) -> DayStart
     requires { inside file.now p }
     ensures { Behind file.now p result }
 {
     match p {
-        Place::At(_, e, under) => DayStart {
-            at: e + 2,
+        Some(found) => DayStart {
+            at: found.end + 2,
             left: 0,
-            under,
+            under: found.under,
         },
-        Place::Missing => DayStart {
+        None => DayStart {
             at: file.len(),
             left: 0,
             under: Under { at: 0, end: 0 },

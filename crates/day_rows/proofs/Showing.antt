@@ -7,7 +7,7 @@ use lib.ListN.{get_or}
 use Rattle.format.specs.Answers.{checked_as}
 use Rattle.format.specs.File.{check_of}
 use Rattle.format.specs.declared.Checked.{Checked}
-use Rattle.format.specs.declared.Checked.TheVariants.{Accepted, Refused}
+use Rattle.std.proofs.Common.{Result, Ok, Err}
 use Rattle.format.specs.declared.DayHead.{DayHead}
 use Rattle.format.specs.declared.Refusal.{Refusal}
 use Rattle.page.specs.Filled.{Filled}
@@ -20,12 +20,12 @@ use Rattle.day_rows.specs.Shown.{no_day, no_day_text, refused_text, top_text, in
 
 -- ---- why there is none
 
-module _ (file : List ℕ) {x : Checked} {p₀ p₁ : List ℕ} {i : ℕ} (e : checked_as x ≡ check_of file) where
-  pub no-day-there : (v c d : ℕ) → x ≡ Accepted v c d → Filled p₀ 0 (no_day d) i p₁ → Filled p₀ 0 (no_day_text file (check_of file)) i p₁
-  no-day-there v c d h w = filled-as w (ap (λ (z : Checked). no_day_text file (checked_as z)) (sym h) ∙ ap (no_day_text file) e)
+module _ (file : List ℕ) {x : Result Checked Refusal} {p₀ p₁ : List ℕ} {i : ℕ} (e : checked_as x ≡ check_of file) where
+  pub no-day-there : (c : Checked) → x ≡ Ok c → Filled p₀ 0 (no_day c.days) i p₁ → Filled p₀ 0 (no_day_text file (check_of file)) i p₁
+  no-day-there c h w = filled-as w (ap (λ (z : Result Checked Refusal). no_day_text file (checked_as z)) (sym h) ∙ ap (no_day_text file) e)
 
-  pub no-day-refused : (y : Refusal) → x ≡ Refused y → Filled p₀ 0 (explanation file y) i p₁ → Filled p₀ 0 (no_day_text file (check_of file)) i p₁
-  no-day-refused y h w = filled-as w (ap (λ (z : Checked). no_day_text file (checked_as z)) (sym h) ∙ ap (no_day_text file) e)
+  pub no-day-refused : (y : Refusal) → x ≡ Err y → Filled p₀ 0 (explanation file y) i p₁ → Filled p₀ 0 (no_day_text file (check_of file)) i p₁
+  no-day-refused y h w = filled-as w (ap (λ (z : Result Checked Refusal). no_day_text file (checked_as z)) (sym h) ∙ ap (no_day_text file) e)
 
 module _ (file : List ℕ) (x : Refusal) {p₀ p₁ : List ℕ} {i : ℕ} where
   pub refused-other : (x.number ≡ 14 → ⊥) → Filled p₀ 0 (explanation file x) i p₁ → Filled p₀ 0 (refused_text file x) i p₁

@@ -8,7 +8,7 @@ ghost use Rattle.day_rows.specs.Shown.{days_there, file_has, no_day, no_such_day
 
 use checking::check::check;
 use explain::refused::explained;
-use format::{Checked, DayHead, Refusal};
+use format::{DayHead, Refusal};
 use page::items::{u8_at, u16_at, u64_at, usize_at};
 use page::texts::{number, part, put};
 use phrase::counts::counted;
@@ -59,12 +59,8 @@ fn no_day_in(page: &mut [u8], file: &[u8]) -> usize
 {
     let x = check(file);
     match x {
-        Checked::Accepted {
-            version: _,
-            channels: _,
-            days,
-        } => no_day(page, days),
-        Checked::Refused(y) => explained(page, 0, file, y),
+        Ok(c) => no_day(page, c.days),
+        Err(y) => explained(page, 0, file, y),
     }
 }
 

@@ -2,6 +2,7 @@
 use Prim.Native.Nat.{ℕ}
 use mathlib.Core.Path.{◌≡◌, ◌∙◌}
 use mathlib.Core.List.{List}
+use Rattle.std.proofs.Common.{Option, Some, None, Result, Err}
 use lib.ListN.{drop}
 use Rattle.ground.specs.Lists.{part, sum}
 use Rattle.format.specs.Cut.{fields, field}
@@ -11,33 +12,30 @@ use Rattle.format.specs.File.{check_of, IsAccepted}
 use Rattle.format.specs.Day.{days_of, values_of}
 use Rattle.format.specs.declared.Refusal.{Refusal}
 use Rattle.format.specs.declared.Checked.{Checked}
-use Rattle.format.specs.declared.Checked.TheVariants as checked
 use Rattle.lines.specs.Places.{Rest}
 use Rattle.lines.proofs.Cuts.{rest-first}
 use Rattle.day.specs.Places.{day_at, located, inside}
-use Rattle.day.specs.declared.Under.{Under}
 use Rattle.day.specs.declared.Place.{Place}
-use Rattle.day.specs.declared.Place.TheVariants.{At, Missing}
 use Rattle.day.proofs.Find.{day-order, day-within, heads-found}
 use Rattle.day_sums.specs.Sought.{found, missing, day_in, rows_of, Within}
 use Rattle.day_sums.specs.declared.DayAt.{DayAt}
 
 module _ (file : List ℕ) (day : ℕ) where
-  pub seek-refused : (c : Checked) (x : Refusal) → checked_as c ≡ check_of file → c ≡ checked.Refused x → missing (refused_as x) ≡ day_in file day
+  pub seek-refused : (c : Result Checked Refusal) (x : Refusal) → checked_as c ≡ check_of file → c ≡ Err x → missing (refused_as x) ≡ day_in file day
   unfolding day_in
   seek-refused c x e h = rw (← e, h)
 
-  module _ (w : IsAccepted file) (p : Place) (l : located file p ≡ drop day (days_of file)) where
-    pub seek-none : p ≡ Missing → (r : Refusal) → refused_as r ≡ refusal 14 → missing (refused_as r) ≡ day_in file day
+  module _ (w : IsAccepted file) (p : Option Place) (l : located file p ≡ drop day (days_of file)) where
+    pub seek-none : p ≡ None → (r : Refusal) → refused_as r ≡ refusal 14 → missing (refused_as r) ≡ day_in file day
     unfolding day_in
     seek-none h r er = rw (er, w.1, ← l, h)
 
-    pub seek_found : (a e : ℕ) (u : Under) → p ≡ At a e u → found (day_at file a e u) ≡ day_in file day
+    pub seek_found : (q : Place) → p ≡ Some q → found (day_at file q.at q.end q.under) ≡ day_in file day
     unfolding day_in
-    seek_found a e u h = rw (w.1, ← l, h)
+    seek_found q h = rw (w.1, ← l, h)
 
-pub seek-within : (file : List ℕ) (p : Place) (a e : ℕ) (u : Under) → p ≡ At a e u → inside file p → Within file record { start = a; end = e; under = u }
-seek-within file p a e u h i = record { order = day-order file p a e u h i; inside = day-within file p a e u h i; heads = heads-found file p a e u h i }
+pub seek-within : (file : List ℕ) (p : Option Place) (q : Place) → p ≡ Some q → inside file p → Within file record { start = q.at; end = q.end; under = q.under }
+seek-within file p q h i = record { order = day-order file p q h i; inside = day-within file p q h i; heads = heads-found file p q h i }
 
 -- ---- what is read there
 

@@ -2,10 +2,10 @@
 use Rattle.std.specs.Prelude.{ℕ, ◌≤◌, List, [], ◌∷◌, length, drop, Result, Ok, Err}
 use Rattle.format.specs.Answers.{Answer, accepted, refused, refusal, refused_as}
 use Rattle.format.specs.File.{check_of}
-use Rattle.format.specs.declared.Refusal.{Refusal}
 use Rattle.format.specs.Day.{DayRows, days_of}
 use Rattle.day.specs.Places.{Heads, day_at}
 use Rattle.day_sums.specs.declared.DayAt.{DayAt}
+use Rattle.format.specs.declared.Refusal.{Refusal}
 
 pub data Sought : Type 0 where
   found : DayRows → Sought

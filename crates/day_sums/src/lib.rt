@@ -15,7 +15,7 @@ use checking::tour::check_and_note;
 use day::fields::skip;
 use day::head::head_at;
 use day::walk::{find_day, intervals_of};
-use day::{DayStart, Place, Under};
+use day::{DayStart, Under};
 use format::Refusal;
 use lines::pieces::first_field;
 use sums::add_day;
@@ -41,8 +41,12 @@ fn seek_noted(file: &[u8], day: usize, from: DayStart) -> Result<DayAt, Refusal>
 {
     let place = find_day(file, day, from);
     match place {
-        Place::Missing => Err(Refusal::bare(14)),
-        Place::At(start, end, under) => Ok(DayAt { start, end, under }),
+        None => Err(Refusal::bare(14)),
+        Some(p) => Ok(DayAt {
+            start: p.at,
+            end: p.end,
+            under: p.under,
+        }),
     }
 }
 

@@ -3,6 +3,7 @@ use Prim.Native.Nat.{ℕ, ◌-◌, ◌≤◌}
 use mathlib.Core.Path.{◌≡◌, ap, ◌∙◌}
 use mathlib.Core.Bool.{Bool}
 use mathlib.Core.List.{List}
+use Rattle.std.proofs.Common.{Result}
 use native.Mathlib.Omega.{arith}
 use lib.ListN.{length, take, drop}
 use lib.Seq.{take_at}
@@ -14,7 +15,7 @@ use Rattle.format.specs.Day.{over}
 use Rattle.page.specs.Filled.{Filled}
 use Rattle.page.proofs.Filling.{filled-then}
 use Rattle.replacing.specs.Replace.{Left, left, replaced_as}
-use Rattle.replacing.specs.declared.Replaced.{Replaced}
+use Rattle.format.specs.declared.Refusal.{Refusal}
 use Rattle.answer_lines.specs.Lines.{line_of}
 use Rattle.calls.specs.Kept.{ending}
 use Rattle.calls.specs.Lines.{bytes_in}
@@ -41,7 +42,7 @@ module _ {room copy copied : List ℕ} {i : ℕ} (h : length room ≤ length cop
 -- ---- the answer
 
 -- what the call left, by its meaning l
-module _ {l : Left} {now : List ℕ} (x : Replaced) (e : left (replaced_as x) now ≡ l) where
+module _ {l : Left} {now : List ℕ} (x : Result ℕ Refusal) (e : left (replaced_as x) now ≡ l) where
   pub left-room : now ≡ l.room
   left-room = ap (λ (z : Left). z.room) e
 

@@ -16,7 +16,8 @@ ghost use Rattle.edit_calls.specs.Lines.{shown_in, replace_text};
 use calls::kept::end_line;
 use leaf::bytes::same_bytes;
 use page::texts::{part, put};
-use replacing::{Replaced, replace_day};
+use format::Refusal;
+use replacing::replace_day;
 use text::bytes::put_bytes;
 use whose::find_day;
 
@@ -38,22 +39,22 @@ pub struct Edited {
 }
 
 // The new length of a file that was edited.
-fn new_length(x: Replaced) -> usize
+fn new_length(x: Result<usize, Refusal>) -> usize
     ensures { result ≡ bytes_in (replaced_as x) }
 {
     match x {
-        Replaced::Length(n) => n,
-        Replaced::Refused(_) => 0,
+        Ok(n) => n,
+        Err(_) => 0,
     }
 }
 
 // All of a room of n bytes is answered, where the file in it was edited.
-fn shown(x: Replaced, n: usize) -> usize
+fn shown(x: Result<usize, Refusal>, n: usize) -> usize
     ensures { result ≡ shown_in (replaced_as x) n }
 {
     match x {
-        Replaced::Length(_) => n,
-        Replaced::Refused(_) => 0,
+        Ok(_) => n,
+        Err(_) => 0,
     }
 }
 

@@ -5,43 +5,35 @@ ghost use Rattle.replacing.specs.Replace.{replaced_as};
 ghost use Rattle.answer_lines.specs.Lines.{line_of};
 
 use answer_lines::answers::{accepted, refusal};
-use replacing::Replaced;
+use format::Refusal;
 use whose::DayFound;
 
-pub fn found(page: &mut [u8], at: usize, x: DayFound) -> usize
+pub fn found(page: &mut [u8], at: usize, x: Result<DayFound, Refusal>) -> usize
     ensures { Filled page.old at (line_of (day_found_as x)) result page.new }
 {
     match x {
-        DayFound::At {
-            channel,
-            nmi,
-            suffix,
-            unit,
-            length,
-            start,
-            end,
-        } => accepted(
+        Ok(d) => accepted(
             page,
             at,
             &[
-                channel as u64,
-                nmi as u64,
-                suffix as u64,
-                unit as u64,
-                length as u64,
-                start as u64,
-                end as u64,
+                d.channel as u64,
+                d.nmi as u64,
+                d.suffix as u64,
+                d.unit as u64,
+                d.length as u64,
+                d.start as u64,
+                d.end as u64,
             ],
         ),
-        DayFound::Refused(x) => refusal(page, at, x),
+        Err(x) => refusal(page, at, x),
     }
 }
 
-pub fn replaced(page: &mut [u8], at: usize, x: Replaced) -> usize
+pub fn replaced(page: &mut [u8], at: usize, x: Result<usize, Refusal>) -> usize
     ensures { Filled page.old at (line_of (replaced_as x)) result page.new }
 {
     match x {
-        Replaced::Length(n) => accepted(page, at, &[n as u64]),
-        Replaced::Refused(x) => refusal(page, at, x),
+        Ok(n) => accepted(page, at, &[n as u64]),
+        Err(x) => refusal(page, at, x),
     }
 }

@@ -6,7 +6,6 @@ use answer_lines::answers;
 use answer_lines::days::day_line;
 use checking::check::check;
 use disk::load;
-use format::Checked;
 use leaf::bytes::first_at;
 use machine::{Machine, PAGE};
 use output::write;
@@ -90,14 +89,9 @@ fn answer(rt: &impl Machine, page: &mut [u8], file: &[u8]) {
     let x = check(file);
     let p = answers::checked(page, 0, x);
     say(rt, page, p);
-    if let Checked::Accepted {
-        version: _,
-        channels,
-        days: n,
-    } = x
-    {
-        days(rt, page, file, n);
-        totals(rt, page, file, channels);
+    if let Ok(c) = x {
+        days(rt, page, file, c.days);
+        totals(rt, page, file, c.channels);
     }
 }
 

@@ -3,6 +3,7 @@ use Prim.Native.Nat.{ℕ, zero, suc, ◌+◌}
 use mathlib.Core.Path.{◌≡◌, refl, sym, ◌∙◌}
 use mathlib.Core.List.{List, [], ◌∷◌}
 use mathlib.Core.Bool.{Bool, true, false, not}
+use Rattle.std.specs.Prelude.{Option, Some, None}
 use lib.ListN.{drop}
 use lib.Seq.{drop-drop}
 use borrow.Author.Tests.{leb-true, not-true, not-false}
@@ -16,10 +17,8 @@ use Rattle.passing.specs.Sound.{is_sound, are_sound}
 use Rattle.passing.proofs.Days.{checked-days}
 use Rattle.day.specs.Places.{block_at, day_at, DayAhead, located, inside, Behind}
 use Rattle.format.specs.File.{IsAccepted}
-use Rattle.day.specs.declared.Under.{Under}
 use Rattle.day.specs.declared.DayStart.{DayStart}
 use Rattle.day.specs.declared.Place.{Place}
-use Rattle.day.specs.declared.Place.TheVariants.{At, Missing}
 use Rattle.day.proofs.Find.{room-behind, day-order}
 use Rattle.filling.specs.Fillable.{Here, Fillable, day_into}
 
@@ -54,20 +53,20 @@ module _ (file : List ℕ) (a e n unit : ℕ) (vs : List ℕ) (ms : Five) {b : B
   at-filled r vs₁ ms₁ h q = rw (← eb, not-false b h) q
 
 -- what stands at the place p that the walk to a day answers
-module _ (file : List ℕ) (p : Place) where
-  pub day-here : (a e n unit : ℕ) (u : Under) → p ≡ At a e u → n ≡ intervals_in (fields (part file u.at u.end)) → unit ≡ unit_in (fields (part file u.at u.end))
-      → inside file p → are_sound (located file p) ≡ true → Here file a e n unit
-  day-here a e n unit u h en eu i s =
-      let t : are_sound (located file (At a e u)) ≡ true = rw h at s in
-      record { order = day-order file p a e u h i; within = room-behind file p a e u h i; sound = rw (en, eu) (and-true (is_sound (day_at file a e u).block) _ t).0 }
+module _ (file : List ℕ) (p : Option Place) where
+  pub day-here : (n unit : ℕ) (d : Place) → p ≡ Some d → n ≡ intervals_in (fields (part file d.under.at d.under.end)) → unit ≡ unit_in (fields (part file d.under.at d.under.end))
+      → inside file p → are_sound (located file p) ≡ true → Here file d.at d.end n unit
+  day-here n unit d h en eu i s =
+      let t : are_sound (located file (Some d)) ≡ true = rw h at s in
+      record { order = day-order file p d h i; within = room-behind file p d h i; sound = rw (en, eu) (and-true (is_sound (day_at file d.at d.end d.under).block) _ t).0 }
 
   module _ (vs : List ℕ) (ms : Five) where
-    pub day-missing : (r : Answer) → p ≡ Missing → r ≡ refusal 14 → outcome r vs ms ≡ read_first (located file p) vs ms
+    pub day-missing : (r : Answer) → p ≡ None → r ≡ refusal 14 → outcome r vs ms ≡ read_first (located file p) vs ms
     day-missing r h er = rw (h, er)
 
-    pub day-found : (a e n unit : ℕ) (u : Under) (r : Answer) (vs₁ : List ℕ) (ms₁ : Five) → p ≡ At a e u → n ≡ intervals_in (fields (part file u.at u.end))
-        → unit ≡ unit_in (fields (part file u.at u.end)) → outcome r vs₁ ms₁ ≡ day_into (block_at file a e n unit) vs ms → outcome r vs₁ ms₁ ≡ read_first (located file p) vs ms
-    day-found a e n unit u r vs₁ ms₁ h en eu q = rw h (rw (en, eu) at q)
+    pub day-found : (n unit : ℕ) (d : Place) (r : Answer) (vs₁ : List ℕ) (ms₁ : Five) → p ≡ Some d → n ≡ intervals_in (fields (part file d.under.at d.under.end))
+        → unit ≡ unit_in (fields (part file d.under.at d.under.end)) → outcome r vs₁ ms₁ ≡ day_into (block_at file d.at d.end n unit) vs ms → outcome r vs₁ ms₁ ≡ read_first (located file p) vs ms
+    day-found n unit d r vs₁ ms₁ h en eu q = rw h (rw (en, eu) at q)
 
 -- ---- a file that was accepted
 
@@ -76,7 +75,7 @@ are_sound-drop zero ds h = h
 are_sound-drop (suc k) [] h = refl
 are_sound-drop (suc k) (d ∷ ds) h = are_sound-drop k ds (and-true (is_sound d.block) _ h).1
 
-module _ (file : List ℕ) (day : ℕ) (p : Place) (ep : located file p ≡ drop day (days_of file)) where
+module _ (file : List ℕ) (day : ℕ) (p : Option Place) (ep : located file p ≡ drop day (days_of file)) where
   pub place-sound : IsAccepted file → are_sound (located file p) ≡ true
   place-sound a = rw ep (are_sound-drop day (days_of file) (checked-days file a.0 a.1))
 

@@ -1,7 +1,7 @@
 // Reads the day of a number into six lent lists, where the file was accepted; and day after day.
 #![tactic(auto)]
 
-ghost use Rattle.std.specs.Prelude.{◌≡◌, true, [], ◌∷◌, ◌+◌, drop};
+ghost use Rattle.std.specs.Prelude.{◌≡◌, true, [], ◌∷◌, ◌+◌, drop, Ok};
 ghost use Rattle.format.specs.Answers.{accepted, day_read_as};
 ghost use Rattle.format.specs.Day.{five, outcome, read_into, read_first, read_of, days_of};
 ghost use Rattle.passing.specs.Sound.{are_sound};
@@ -52,7 +52,7 @@ pub fn fill_lists(
     }
 }
 
-// The same, as the answer of a reading.
+// The same, as a reading answers it.
 fn fill_day(
     file: &[u8],
     a: usize,
@@ -67,12 +67,12 @@ fn fill_day(
     lengths: &mut [usize],
 ) -> DayRead
     requires { Fillable file.now a e n unit values.old (five flags.old methods.old reasons.old starts.old lengths.old) }
-    ensures { outcome (day_read_as result) values.new (five flags.new methods.new reasons.new starts.new lengths.new) ≡ read_into (block_at file.now a e n unit) values.old (five flags.old methods.old reasons.old starts.old lengths.old) }
+    ensures { outcome (day_read_as (Ok result)) values.new (five flags.new methods.new reasons.new starts.new lengths.new) ≡ read_into (block_at file.now a e n unit) values.old (five flags.old methods.old reasons.old starts.old lengths.old) }
 {
     let t = fill_lists(
         file, a, e, n, unit, values, flags, methods, reasons, starts, lengths,
     );
-    DayRead::Read {
+    DayRead {
         date: t.date,
         n,
         update: t.update,
@@ -94,7 +94,7 @@ pub fn read_at(
     reasons: &mut [u16],
     starts: &mut [usize],
     lengths: &mut [usize],
-) -> DayRead
+) -> Result<DayRead, Refusal>
     requires { Here file.now a e n unit }
     ensures { outcome (day_read_as result) values.new (five flags.new methods.new reasons.new starts.new lengths.new) ≡ day_into (block_at file.now a e n unit) values.old (five flags.old methods.old reasons.old starts.old lengths.old) }
 {
@@ -107,35 +107,35 @@ pub fn read_at(
         starts.len(),
         lengths.len(),
     ) {
-        return DayRead::Refused(Refusal::bare(15));
+        return Err(Refusal::bare(15));
     }
-    fill_day(
+    Ok(fill_day(
         file, a, e, n, unit, values, flags, methods, reasons, starts, lengths,
-    )
+    ))
 }
 
 // The day at a place, if there is one.
 fn read_place(
     file: &[u8],
-    p: Place,
+    p: Option<Place>,
     values: &mut [u64],
     flags: &mut [u8],
     methods: &mut [u8],
     reasons: &mut [u16],
     starts: &mut [usize],
     lengths: &mut [usize],
-) -> DayRead
+) -> Result<DayRead, Refusal>
     requires { inside file.now p × (are_sound (located file.now p) ≡ true) }
     ensures { outcome (day_read_as result) values.new (five flags.new methods.new reasons.new starts.new lengths.new) ≡ read_first (located file.now p) values.old (five flags.old methods.old reasons.old starts.old lengths.old) }
 {
     match p {
-        Place::Missing => DayRead::Refused(Refusal::bare(14)),
-        Place::At(a, e, under) => read_at(
+        None => Err(Refusal::bare(14)),
+        Some(day) => read_at(
             file,
-            a,
-            e,
-            intervals_of(file, under.at, under.end),
-            unit_of(file, under.at, under.end),
+            day.at,
+            day.end,
+            intervals_of(file, day.under.at, day.under.end),
+            unit_of(file, day.under.at, day.under.end),
             values,
             flags,
             methods,
@@ -149,8 +149,8 @@ fn read_place(
 // What a reading of a day answers, where the day stands, and from where the day behind it is found.
 #[derive(Clone, Copy)]
 pub struct DayTurn {
-    pub answer: DayRead,
-    pub place: Place,
+    pub answer: Result<DayRead, Refusal>,
+    pub place: Option<Place>,
     pub next: DayStart,
 }
 

@@ -4,6 +4,7 @@ use mathlib.Core.Path.{◌≡◌, refl, sym, ◌∙◌}
 use mathlib.Core.Logic.{◌≢◌}
 use mathlib.Core.List.{List, [], ◌∷◌}
 use mathlib.Core.Bool.{Bool, true, false, ◌&&◌}
+use Rattle.std.proofs.Common.{Result, Err}
 use native.Mathlib.Omega.{arith}
 use lib.ListN.{length, drop}
 use lib.Dec.{leb}
@@ -12,7 +13,6 @@ use Rattle.format.specs.File.{check_of, IsAccepted}
 use Rattle.format.specs.Day.{Five, days_of, enough_for}
 use Rattle.format.specs.declared.Refusal.{Refusal}
 use Rattle.format.specs.declared.Checked.{Checked}
-use Rattle.format.specs.declared.Checked.TheVariants.{Refused}
 use Rattle.passing.specs.Sound.{are_sound}
 use Rattle.passing.proofs.Days.{checked-days}
 use Rattle.filling.proofs.Cases.{are_sound-drop}
@@ -57,7 +57,7 @@ module _ (file : List ℕ) (first last : ℕ) (w : Lent) where
   read-so d k v q = rw (← q)
 
   -- the file's own refusal, or the days of a file that is accepted
-  pub file-refused : (c : Checked) → checked_as c ≡ check_of file → (x : Refusal) → c ≡ Refused x → days_left (refused_as x) w ≡ month_of file first last w
+  pub file-refused : (c : Result Checked Refusal) → checked_as c ≡ check_of file → (x : Refusal) → c ≡ Err x → days_left (refused_as x) w ≡ month_of file first last w
   unfolding month_of
   file-refused c e x h = rw (← e, h)
 

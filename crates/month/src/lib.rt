@@ -9,7 +9,7 @@ ghost use Rattle.months.specs.Month.{days_read_as, daily, lent, in_turn, days_le
 
 use checking::tour::check_and_note;
 use day::DayStart;
-use format::{Checked, Refusal};
+use format::Refusal;
 use month_lists::fill_days;
 use month_room::{fault, shortest};
 use months::DaysRead;
@@ -31,15 +31,15 @@ fn read_checked(
     updates: &mut [u64],
     loads: &mut [u64],
     units: &mut [u8],
-) -> DaysRead
+) -> Result<DaysRead, Refusal>
     requires { IsAccepted file.now × DayAhead file.now first from }
     ensures { days_left (days_read_as result) (lent values.new (five flags.new methods.new reasons.new starts.new lengths.new) (daily dates.new counts.new updates.new loads.new units.new)) ≡ wholly (in_turn file.now (last + 1 - first) first (lent values.old (five flags.old methods.old reasons.old starts.old lengths.old) (daily dates.old counts.old updates.old loads.old units.old))) (lent values.old (five flags.old methods.old reasons.old starts.old lengths.old) (daily dates.old counts.old updates.old loads.old units.old)) }
 {
     if last < first {
-        return DaysRead::Read {
+        return Ok(DaysRead {
             days: 0,
             intervals: 0,
-        };
+        });
     }
     let room = shortest(
         values.len(),
@@ -59,16 +59,16 @@ fn read_checked(
     );
     let number = fault(file, first, last, from, room, places);
     if number != 0 {
-        return DaysRead::Refused(Refusal::bare(number));
+        return Err(Refusal::bare(number));
     }
     let f = fill_days(
         file, first, last, from, values, flags, methods, reasons, starts, lengths, dates, counts,
         updates, loads, units,
     );
-    DaysRead::Read {
+    Ok(DaysRead {
         days: f.days,
         intervals: f.intervals,
-    }
+    })
 }
 
 // Reads the days of the numbers from first to last, both from 0, one behind the other: into six lists, one element an interval, as `read_day` has them, and into five
@@ -90,20 +90,13 @@ pub fn read_days(
     updates: &mut [u64],
     loads: &mut [u64],
     units: &mut [u8],
-) -> DaysRead
+) -> Result<DaysRead, Refusal>
     ensures { days_left (days_read_as result) (lent values.new (five flags.new methods.new reasons.new starts.new lengths.new) (daily dates.new counts.new updates.new loads.new units.new)) ≡ month_of file.now first last (lent values.old (five flags.old methods.old reasons.old starts.old lengths.old) (daily dates.old counts.old updates.old loads.old units.old)) }
 {
     let t = check_and_note(file, first, 0);
-    let c = t.answer;
-    match c {
-        Checked::Refused(x) => DaysRead::Refused(x),
-        Checked::Accepted {
-            version: _,
-            channels: _,
-            days: _,
-        } => read_checked(
-            file, first, last, t.day, values, flags, methods, reasons, starts, lengths, dates,
-            counts, updates, loads, units,
-        ),
-    }
+    t.answer?;
+    read_checked(
+        file, first, last, t.day, values, flags, methods, reasons, starts, lengths, dates, counts,
+        updates, loads, units,
+    )
 }

@@ -12,6 +12,7 @@ ghost use Rattle.calls.specs.Lines.{intervals_in};
 ghost use Rattle.months.specs.Month.{daily, lent, days_read_as, days_left, month_of};
 ghost use Rattle.month_calls.specs.Lines.{days_in, days_text, kept_behind};
 
+use format::Refusal;
 use kept::all_kept;
 use month::read_days;
 use months::DaysRead;
@@ -24,21 +25,21 @@ pub struct Begun {
     pub kept: bool,
 }
 
-fn days_in(x: DaysRead) -> usize
+fn days_in(x: Result<DaysRead, Refusal>) -> usize
     ensures { result ≡ days_in (days_read_as x) }
 {
     match x {
-        DaysRead::Read { days, intervals: _ } => days,
-        DaysRead::Refused(_) => 0,
+        Ok(d) => d.days,
+        Err(_) => 0,
     }
 }
 
-fn intervals_in(x: DaysRead) -> usize
+fn intervals_in(x: Result<DaysRead, Refusal>) -> usize
     ensures { result ≡ intervals_in (days_read_as x) }
 {
     match x {
-        DaysRead::Read { days: _, intervals } => intervals,
-        DaysRead::Refused(_) => 0,
+        Ok(d) => d.intervals,
+        Err(_) => 0,
     }
 }
 
@@ -46,7 +47,7 @@ fn intervals_in(x: DaysRead) -> usize
 fn days_shown(
     page: &mut [u8],
     at: usize,
-    x: DaysRead,
+    x: Result<DaysRead, Refusal>,
     values: &[u64],
     flags: &[u8],
     methods: &[u8],

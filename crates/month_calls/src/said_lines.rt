@@ -8,17 +8,16 @@ ghost use Rattle.month_calls.specs.Lines.{day_in};
 
 use answer_lines::answers::{accepted, refusal};
 use answer_lines::numbers::{number_behind, numbers_behind};
+use format::Refusal;
 use months::DaysRead;
 use page::items::{u8_at, u64_at, usize_at};
 
-pub fn days_read(page: &mut [u8], at: usize, x: DaysRead) -> usize
+pub fn days_read(page: &mut [u8], at: usize, x: Result<DaysRead, Refusal>) -> usize
     ensures { Filled page.old at (line_of (days_read_as x)) result page.new }
 {
     match x {
-        DaysRead::Read { days, intervals } => {
-            accepted(page, at, &[days as u64, intervals as u64])
-        }
-        DaysRead::Refused(x) => refusal(page, at, x),
+        Ok(d) => accepted(page, at, &[d.days as u64, d.intervals as u64]),
+        Err(x) => refusal(page, at, x),
     }
 }
 

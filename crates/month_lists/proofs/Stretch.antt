@@ -2,6 +2,7 @@
 use Prim.Native.Nat.{ℕ, ◌+◌, ◌-◌, ◌≤◌}
 use mathlib.Core.Path.{◌≡◌, ap, ◌∙◌}
 use mathlib.Core.List.{List, [], ◌∷◌, map}
+use Rattle.std.proofs.Common.{Option, Some, None}
 use native.Mathlib.Omega.{arith}
 use lib.ListN.{length, take, drop, get_or, length-map, length-drop}
 use lib.Seq.{sets, length-take-le}
@@ -16,9 +17,7 @@ use Rattle.passing.proofs.Sound.{sound-values, sound-each}
 use Rattle.lists.specs.Lists.{stored}
 use Rattle.lists.proofs.Parts.{put-part}
 use Rattle.day.specs.Places.{block_at, located}
-use Rattle.day.specs.declared.Under.{Under}
 use Rattle.day.specs.declared.Place.{Place}
-use Rattle.day.specs.declared.Place.TheVariants.{At, Missing}
 use Rattle.filling.specs.Fillable.{Here, Fillable}
 use Rattle.months.specs.Month.{each_mark, Daily, Lent, lent}
 use Rattle.month_room.specs.Room.{Long}
@@ -90,14 +89,14 @@ number_at i (accepted xs) = get_or xs i 0
 number_at i (refused x p r f) = 0
 
 -- there is none
-module _ (file : List ℕ) (p : Place) (h : p ≡ Missing) where
+module _ (file : List ℕ) (p : Option Place) (h : p ≡ None) where
   pub none-n : 0 ≡ n_first (located file p)
   none-n = rw h
 
   pub none-laid : (k i : ℕ) (w : Lent) → w ≡ laid_first (located file p) k i w
   none-laid k i w = rw h
 
-module _ (file : List ℕ) (p : Place) (a e n unit : ℕ) (u : Under) (h : p ≡ At a e u) (en : n ≡ intervals_in (fields (part file u.at u.end))) where
+module _ (file : List ℕ) (p : Option Place) (n unit : ℕ) (s : Place) (h : p ≡ Some s) (en : n ≡ intervals_in (fields (part file s.under.at s.under.end))) where
   pub first-n : n ≡ n_first (located file p)
   first-n = rw h en
 
@@ -105,8 +104,8 @@ module _ (file : List ℕ) (p : Place) (a e n unit : ℕ) (u : Under) (h : p ≡
     pub reaches : Long (k + n) w.values w.marks
     reaches = rw first-n r.long
 
-    pub day-laid : (d t l : ℕ) (vs₁ : List ℕ) (ms₁ : Five) (ds₁ : Daily) → unit ≡ unit_in (fields (part file u.at u.end))
-        → outcome (accepted (d ∷ n ∷ t ∷ l ∷ unit ∷ [])) vs₁ ms₁ ≡ stretched (block_at file a e n unit) k w.values w.marks
+    pub day-laid : (d t l : ℕ) (vs₁ : List ℕ) (ms₁ : Five) (ds₁ : Daily) → unit ≡ unit_in (fields (part file s.under.at s.under.end))
+        → outcome (accepted (d ∷ n ∷ t ∷ l ∷ unit ∷ [])) vs₁ ms₁ ≡ stretched (block_at file s.at s.end n unit) k w.values w.marks
         → ds₁ ≡ noted i d n t l unit w.days → lent vs₁ ms₁ ds₁ ≡ laid_first (located file p) k i w
     unfolding stretched laid
     day-laid d t l vs₁ ms₁ ds₁ eu q g =

@@ -3,6 +3,7 @@ use Prim.Native.Nat.{ℕ, suc, ◌+◌, ◌-◌, ◌≤◌, ◌<◌}
 use mathlib.Core.Path.{◌≡◌, refl, sym, ap, ◌∙◌}
 use mathlib.Core.List.{List, [], ◌∷◌}
 use mathlib.Core.Bool.{true, ◌&&◌}
+use Rattle.std.proofs.Common.{Option}
 use native.Mathlib.Omega.{arith}
 use lib.ListN.{length, take, drop, length-drop}
 use lib.Seq.{drop-drop, take_at}
@@ -104,7 +105,7 @@ module _ (file : List ℕ) (first last : ℕ) (w₀ : Lent) (at : DayStart) (k i
   left-some : last + 1 - first - i ≡ suc (last - first - i)
   left-some = omega arith
 
-  module _ (p : Place) (ep : located file p ≡ drop (first + i) (days_of file)) where
+  module _ (p : Option Place) (ep : located file p ≡ drop (first + i) (days_of file)) where
     found : HasFirst (last - first - i) (located file p) (behind k i w)
     found = first-day (last - first - i) (located file p) (behind k i w) (rw (left-some, ← ep) at g.room)
 

@@ -74,7 +74,7 @@ fn note_day(
 // The day at a place, where there is one: how many intervals it has.
 fn fill_place(
     file: &[u8],
-    p: Place,
+    p: Option<Place>,
     k: usize,
     i: usize,
     values: &mut [u64],
@@ -94,12 +94,13 @@ fn fill_place(
     ensures lists { lent values.new (five flags.new methods.new reasons.new starts.new lengths.new) (daily dates.new counts.new updates.new loads.new units.new) ≡ laid_first (located file.now p) k i (lent values.old (five flags.old methods.old reasons.old starts.old lengths.old) (daily dates.old counts.old updates.old loads.old units.old)) }
 {
     match p {
-        Place::Missing => 0,
-        Place::At(a, e, under) => {
-            let n = intervals_of(file, under.at, under.end);
-            let unit = unit_of(file, under.at, under.end);
+        None => 0,
+        Some(day) => {
+            let n = intervals_of(file, day.under.at, day.under.end);
+            let unit = unit_of(file, day.under.at, day.under.end);
             let t = fill_stretch(
-                file, a, e, n, unit, k, values, flags, methods, reasons, starts, lengths,
+                file, day.at, day.end, n, unit, k, values, flags, methods, reasons, starts,
+                lengths,
             );
             note_day(t, n, unit, i, dates, counts, updates, loads, units);
             n

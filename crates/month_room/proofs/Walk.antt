@@ -3,6 +3,7 @@ use Prim.Native.Nat.{ℕ, suc, ◌+◌, ◌-◌, ◌≤◌, ◌<◌}
 use mathlib.Core.Path.{◌≡◌, sym, ◌∙◌}
 use mathlib.Core.List.{List}
 use native.Mathlib.Nat.{add-zero, sub-zero}
+use Rattle.std.proofs.Common.{Option, Some, None}
 use native.Mathlib.Omega.{arith}
 use lib.ListN.{drop}
 use lib.Seq.{drop-drop}
@@ -13,9 +14,7 @@ use Rattle.format.specs.Records.{intervals_in}
 use Rattle.format.specs.Day.{days_of}
 use Rattle.day.specs.Places.{DayAhead, located, Behind}
 use Rattle.day.specs.declared.DayStart.{DayStart}
-use Rattle.day.specs.declared.Under.{Under}
 use Rattle.day.specs.declared.Place.{Place}
-use Rattle.day.specs.declared.Place.TheVariants.{At, Missing}
 use Rattle.month_room.specs.Room.{fault_of}
 
 -- before the first day
@@ -26,7 +25,7 @@ pub none_yet_lem : (file : List ℕ) (first last room places : ℕ) → fault_of
     ≡ fault_of (last + 1 - first) (drop first (days_of file)) room places
 none_yet_lem file first last room places = rw (add-zero first, sub-zero places)
 
-module _ (file : List ℕ) (first last i : ℕ) (p : Place) (ep : located file p ≡ drop (first + i) (days_of file)) where
+module _ (file : List ℕ) (first last i : ℕ) (p : Option Place) (ep : located file p ≡ drop (first + i) (days_of file)) where
   -- the day behind it
   pub ahead : (r : DayStart) → Behind file p r → DayAhead file (first + (i + 1)) r
   ahead r b =
@@ -38,11 +37,11 @@ module _ (file : List ℕ) (first last i : ℕ) (p : Place) (ep : located file p
     left-some : last + 1 - (first + i) ≡ suc (last - (first + i))
     left-some = omega arith
 
-    pub fault-missing : p ≡ Missing → 14 ≡ x
+    pub fault-missing : p ≡ None → 14 ≡ x
     unfolding fault_of
     fault-missing e = rw (left-some, ← ep, e) at ex
 
-    module _ (a e n : ℕ) (u : Under) (eu : p ≡ At a e u) (en : n ≡ intervals_in (fields (part file u.at u.end))) where
+    module _ (n : ℕ) (q : Place) (eu : p ≡ Some q) (en : n ≡ intervals_in (fields (part file q.under.at q.under.end))) where
       pub fault-long : room < n → 15 ≡ x
       unfolding fault_of
       fault-long l = rw (left-some, ← ep, eu, ← en, lt-leb n room l) at ex

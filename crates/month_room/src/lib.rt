@@ -8,7 +8,7 @@ ghost use Rattle.day.specs.Places.{DayAhead};
 ghost use Rattle.month_room.specs.Room.{fault_of};
 
 use day::walk::{behind, find_day, intervals_of};
-use day::{DayStart, Place};
+use day::DayStart;
 
 fn shorter(a: usize, b: usize) -> usize
     ensures { (n : ℕ) → leb n result ≡ (leb n a && leb n b) }
@@ -46,10 +46,10 @@ pub fn fault(
         let day = first + i;
         let place = find_day(file, day, at);
         let next = behind(file, place);
-        let Place::At(_, _, under) = place else {
+        let Some(found) = place else {
             return 14;
         };
-        let n = intervals_of(file, under.at, under.end);
+        let n = intervals_of(file, found.under.at, found.under.end);
         if long < n {
             return 15;
         }

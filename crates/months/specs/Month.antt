@@ -1,17 +1,17 @@
 -- 02, 4: "Give it a call for days a to b of one file that fills one long list of each kind, each day lent its own stretch in the middle, without gaps; date, n and
 -- the two times go to lists of one place a day. It must equal the single calls in order. If any single call would refuse, 15 for missing places included, the
 -- lowest such day's refusal is returned. With a greater than b an accepted file gives success and nothing is written." The unit goes into a list of one place a day too.
-use Rattle.std.specs.Prelude.{ℕ, zero, suc, ◌+◌, ◌-◌, List, [], ◌∷◌, ◌++◌, Bool, cond, ◌&&◌, length, take, drop, get_or, leb}
+use Rattle.std.specs.Prelude.{ℕ, zero, suc, ◌+◌, ◌-◌, List, [], ◌∷◌, ◌++◌, Bool, cond, ◌&&◌, length, take, drop, get_or, leb, Result, Ok, Err}
+use Rattle.format.specs.declared.Refusal.{Refusal}
 use Rattle.format.specs.Answers.{Answer, accepted, refused, refusal, refused_as}
 use Rattle.format.specs.File.{check_of}
 use Rattle.format.specs.Day.{Five, five, Outcome, read_of}
 use Rattle.months.specs.declared.DaysRead.{DaysRead}
-use Rattle.months.specs.declared.DaysRead.TheVariants.{Read, Refused}
 
 -- days, intervals
-abbrev pub days_read_as : DaysRead → Answer
-days_read_as (Read d k) = accepted (d ∷ k ∷ [])
-days_read_as (Refused x) = refused_as x
+abbrev pub days_read_as : Result DaysRead Refusal → Answer
+days_read_as (Ok d) = accepted (d.days ∷ d.intervals ∷ [])
+days_read_as (Err x) = refused_as x
 
 -- ---- what is lent
 

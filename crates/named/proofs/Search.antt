@@ -19,7 +19,6 @@ use Rattle.format.specs.Units.{same_letters}
 use Rattle.day.specs.Places.{day_at, located}
 use Rattle.day.specs.declared.Under.{Under}
 use Rattle.day.specs.declared.Place.{Place}
-use Rattle.day.specs.declared.Place.TheVariants.{At, Missing}
 use Rattle.named.specs.Named.{has_key, is_first, first_from, days_up_to, is_dashed, undashed, date_word}
 
 -- a list without its first element, and no more of it than n
@@ -47,7 +46,7 @@ module _ (is : DayRows → Bool) (file : List ℕ) (k end : ℕ) (whole : Option
       rw e at inv
 
   -- b is what `is_wanted` answers
-  module _ (p : Place) (there : located file p ≡ drop k (days_of file)) (l : k < end) {b : Bool} (eb : b ≡ is_first is (located file p)) where
+  module _ (p : Option Place) (there : located file p ≡ drop k (days_of file)) (l : k < end) {b : Bool} (eb : b ≡ is_first is (located file p)) where
     more : end - k ≡ suc (end - (k + 1))
     more = omega arith
 
@@ -61,11 +60,11 @@ module _ (is : DayRows → Bool) (file : List ℕ) (k end : ℕ) (whole : Option
         ap (λ (ds : List DayRows). first_from is (k + 1) (take (end - (k + 1)) ds)) d ∙ sym s ∙ (rw more at inv)
 
 -- the day at a place that the walk answers; b is what `has_key` answers
-module _ (file : List ℕ) (p : Place) where
-  pub wanted-at : (is : DayRows → Bool) (a e : ℕ) (u : Under) → p ≡ At a e u → {b : Bool} → b ≡ is (day_at file a e u) → b ≡ is_first is (located file p)
-  wanted-at is a e u h eb = rw h eb
+module _ (file : List ℕ) (p : Option Place) where
+  pub wanted-at : (is : DayRows → Bool) (d : Place) → p ≡ Some d → {b : Bool} → b ≡ is (day_at file d.at d.end d.under) → b ≡ is_first is (located file p)
+  wanted-at is d h eb = rw h eb
 
-  pub wanted-none : (is : DayRows → Bool) → p ≡ Missing → false ≡ is_first is (located file p)
+  pub wanted-none : (is : DayRows → Bool) → p ≡ None → false ≡ is_first is (located file p)
   wanted-none is h = rw h
 
 -- NMI and suffix of a 200, tested one after the other

@@ -73,13 +73,13 @@ fn has_key(
 }
 
 // The day at a place has the key, if there is one.
-fn is_wanted(file: &[u8], place: Place, nmi: &[u8], suffix: &[u8], date: u64) -> bool
+fn is_wanted(file: &[u8], place: Option<Place>, nmi: &[u8], suffix: &[u8], date: u64) -> bool
     requires { inside file.now place }
     ensures { result ≡ is_first (has_key nmi.now suffix.now date) (located file.now place) }
 {
     match place {
-        Place::At(a, e, under) => has_key(file, a, e, under, nmi, suffix, date),
-        Place::Missing => false,
+        Some(day) => has_key(file, day.at, day.end, day.under, nmi, suffix, date),
+        None => false,
     }
 }
 

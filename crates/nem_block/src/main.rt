@@ -4,7 +4,7 @@
 use day_rows::{minutes, refused};
 use disk::load_word;
 use explain::refused::explained;
-use format::{DayHead, DayRead, Written};
+use format::{DayHead, DayRead, Refusal, Written};
 use machine::{Machine, PAGE};
 use outward::{FAILED, REFUSED, finish, warn, write};
 use page::texts::part;
@@ -21,10 +21,16 @@ const MOST: usize = 288;
 // More than the longest block has.
 const MOST_ROOM: usize = 131072;
 
-fn block_out(rt: &impl Machine, page: &mut [u8], file: &[u8], x: Written, room: &[u8]) -> u8 {
+fn block_out(
+    rt: &impl Machine,
+    page: &mut [u8],
+    file: &[u8],
+    x: Result<Written, Refusal>,
+    room: &[u8],
+) -> u8 {
     match x {
-        Written::Block { bytes, records: _ } => write(rt, room, bytes),
-        Written::Refused(y) => {
+        Ok(w) => write(rt, room, w.bytes),
+        Err(y) => {
             let p = explained(page, 0, file, y);
             warn(rt, page, p);
             REFUSED
@@ -73,7 +79,7 @@ fn answer(
     rt: &impl Machine,
     page: &mut [u8],
     file: &[u8],
-    x: DayRead,
+    x: Result<DayRead, Refusal>,
     values: &[u64],
     flags: &[u8],
     methods: &[u8],
@@ -82,25 +88,19 @@ fn answer(
     lengths: &[usize],
 ) -> u8 {
     match x {
-        DayRead::Read {
-            date,
-            n,
-            update,
-            load,
-            unit,
-        } => {
+        Ok(d) => {
             let day = DayHead {
-                date,
-                length: minutes(n),
-                update,
-                load,
-                unit,
+                date: d.date,
+                length: minutes(d.n),
+                update: d.update,
+                load: d.load,
+                unit: d.unit,
             };
             block(
                 rt, page, file, day, values, flags, methods, reasons, starts, lengths,
             )
         }
-        DayRead::Refused(y) => {
+        Err(y) => {
             let p = refused(page, file, y);
             warn(rt, page, p);
             REFUSED

@@ -13,7 +13,7 @@ use day_rows::refused;
 use disk::load_word;
 use explain::refused::explained;
 use filling::read_noted;
-use format::{Checked, DayRead};
+use format::{DayRead, Refusal};
 use machine::{Machine, PAGE};
 use measures::axis::most_of;
 use outward::{DONE, FAILED, REFUSED, finish, warn, write};
@@ -133,34 +133,28 @@ fn placed(
     rt: &impl Machine,
     page: &mut [u8],
     file: &[u8],
-    place: Place,
-    x: DayRead,
+    place: Option<Place>,
+    x: Result<DayRead, Refusal>,
     sum: u64,
     values: &[u64],
     flags: &[u8],
 ) -> u8 {
     match x {
-        DayRead::Refused(y) => {
+        Err(y) => {
             let p = refused(page, file, y);
             warn(rt, page, p);
             REFUSED
         }
-        DayRead::Read {
-            date,
-            n,
-            update: _,
-            load: _,
-            unit: _,
-        } => {
-            let Place::At(_, _, under) = place else {
+        Ok(d) => {
+            let Some(day) = place else {
                 return REFUSED;
             };
             picture(
                 rt,
                 page,
-                part(file, under.at, under.end),
-                date,
-                n,
+                part(file, day.under.at, day.under.end),
+                d.date,
+                d.n,
                 sum,
                 values,
                 flags,
@@ -223,12 +217,8 @@ fn show_day(rt: &impl Machine, page: &mut [u8], file: &[u8], k: usize) -> u8 {
     let answer = noted.answer;
     let from = noted.day;
     match answer {
-        Checked::Accepted {
-            version: _,
-            channels: _,
-            days: _,
-        } => show_found(rt, page, file, k, from),
-        Checked::Refused(x) => {
+        Ok(_) => show_found(rt, page, file, k, from),
+        Err(x) => {
             let p = explained(page, 0, file, x);
             warn(rt, page, p);
             REFUSED

@@ -41,24 +41,24 @@ fn placed(
     page: &mut [u8],
     at: usize,
     file: &[u8],
-    place: Place,
+    place: Option<Place>,
     sum: u64,
 ) -> Sheet
     requires { inside file.now place }
 {
     match place {
-        Place::At(a, e, under) => {
-            let head = head_at(file, a, e);
+        Some(day) => {
+            let head = head_at(file, day.at, day.end);
             row(
                 rt,
                 page,
                 at,
-                part(file, under.at, under.end),
+                part(file, day.under.at, day.under.end),
                 head.date,
                 sum,
             )
         }
-        Place::Missing => Sheet { at, status: DONE },
+        None => Sheet { at, status: DONE },
     }
 }
 

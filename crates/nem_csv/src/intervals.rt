@@ -9,7 +9,7 @@ use csv_rows::times::day;
 use date_rules::calendar::day_after;
 use day::{DayStart, Place};
 use filling::read_noted;
-use format::DayRead;
+use format::{DayRead, Refusal};
 use machine::Machine;
 use outward::{DONE, write};
 use page::items::{u8_at, u16_at, u64_at, usize_at};
@@ -138,8 +138,8 @@ fn placed(
     page: &mut [u8],
     at: usize,
     file: &[u8],
-    place: Place,
-    x: DayRead,
+    place: Option<Place>,
+    x: Result<DayRead, Refusal>,
     values: &[u64],
     flags: &[u8],
     methods: &[u8],
@@ -147,17 +147,10 @@ fn placed(
     starts: &[usize],
     lengths: &[usize],
 ) -> Sheet {
-    let Place::At(_, _, under) = place else {
+    let Some(day) = place else {
         return Sheet { at, status: DONE };
     };
-    let DayRead::Read {
-        date,
-        n,
-        update: _,
-        load: _,
-        unit: _,
-    } = x
-    else {
+    let Ok(read) = x else {
         return Sheet { at, status: DONE };
     };
     day_rows(
@@ -165,9 +158,9 @@ fn placed(
         page,
         at,
         file,
-        part(file, under.at, under.end),
-        date,
-        n,
+        part(file, day.under.at, day.under.end),
+        read.date,
+        read.n,
         values,
         flags,
         methods,

@@ -9,7 +9,6 @@ mod sheet;
 use checking::tour::check_and_note;
 use disk::load_word;
 use explain::refused::explained;
-use format::Checked;
 use leaf::bytes::same_bytes;
 use machine::{Machine, PAGE, WORD};
 use outward::{FAILED, REFUSED, finish, warn};
@@ -25,20 +24,16 @@ fn table(rt: &impl Machine, page: &mut [u8], file: &[u8], command: &[u8]) -> u8 
     let day = noted.day;
     let channel = noted.channel;
     match answer {
-        Checked::Accepted {
-            version,
-            channels,
-            days,
-        } => {
+        Ok(c) => {
             if same_bytes(command, b"daily") {
-                return days::show(rt, page, file, days, day);
+                return days::show(rt, page, file, c.days, day);
             }
-            if version == 13 {
-                return reads::show(rt, page, file, channels, channel);
+            if c.version == 13 {
+                return reads::show(rt, page, file, c.channels, channel);
             }
-            intervals::show(rt, page, file, days, day)
+            intervals::show(rt, page, file, c.days, day)
         }
-        Checked::Refused(x) => {
+        Err(x) => {
             let p = explained(page, 0, file, x);
             warn(rt, page, p);
             REFUSED

@@ -50,8 +50,8 @@ fn row(rt: &impl Machine, page: &mut [u8], at: usize, record: &[u8]) -> Sheet {
 }
 
 // The channel at a place.
-fn placed(rt: &impl Machine, page: &mut [u8], at: usize, file: &[u8], place: Channel) -> Sheet {
-    let Channel::Quantity(a, e) = place else {
+fn placed(rt: &impl Machine, page: &mut [u8], at: usize, file: &[u8], place: Option<Channel>) -> Sheet {
+    let Some(Channel::Quantity(a, e)) = place else {
         return Sheet { at, status: DONE };
     };
     row(rt, page, at, part(file, a, e))

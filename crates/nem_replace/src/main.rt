@@ -8,7 +8,7 @@ use alone::check_block;
 use day_rows::refused;
 use disk::load_word;
 use explain::refused::explained_as;
-use format::{BlockChecked, Refusal};
+use format::Refusal;
 use machine::{Machine, PAGE};
 use outward::{FAILED, REFUSED, complain, finish, warn, write};
 use page::texts::{number, part, put};
@@ -30,14 +30,8 @@ const FRONT: usize = 1024;
 // The date of a block, behind a 200 of so many minutes and that unit.
 fn date_of(block: &[u8], minutes: u32, unit: u8) -> u64 {
     match check_block(block, 0, minutes, unit) {
-        BlockChecked::Accepted {
-            date,
-            n: _,
-            update: _,
-            load: _,
-            records: _,
-        } => date as u64,
-        BlockChecked::Refused(_) => 0,
+        Ok(c) => c.date as u64,
+        Err(_) => 0,
     }
 }
 
@@ -119,27 +113,19 @@ fn say(
     x: Refusal,
 ) {
     match find_day(file, k) {
-        DayFound::Refused(_) => {
+        Err(_) => {
             let p = refused(page, file, x);
             warn(rt, page, p);
         }
-        DayFound::At {
-            channel: _,
-            nmi,
-            suffix: _,
-            unit,
-            length,
-            start,
-            end: behind,
-        } => {
+        Ok(d) => {
             if x.number == 1 {
                 too_long(rt, page);
             } else if x.number == 8 {
-                let old = date_of(part(file, start, behind), length, unit);
-                let new = date_of(part(blocks, FRONT, end), length, unit);
+                let old = date_of(part(file, d.start, d.end), d.length, d.unit);
+                let new = date_of(part(blocks, FRONT, end), d.length, d.unit);
                 another_date(rt, page, k, old, new);
             } else {
-                of_block(rt, page, file, nmi, blocks, end, x);
+                of_block(rt, page, file, d.nmi, blocks, end, x);
             }
         }
     }
@@ -157,8 +143,8 @@ fn edit(
     end: usize,
 ) -> u8 {
     match replace_day(room, n, k, part(blocks, FRONT, end)) {
-        Replaced::Length(l) => write(rt, room, l),
-        Replaced::Refused(x) => {
+        Ok(l) => write(rt, room, l),
+        Err(x) => {
             say(rt, page, part(room, 0, n), k, blocks, end, x);
             REFUSED
         }

@@ -8,7 +8,7 @@ use day::{DayStart, Place};
 use day_rows::minutes;
 use explain::refused::explained;
 use filling::read_noted;
-use format::{Checked, DayRead};
+use format::{DayRead, Refusal};
 use listing::lines::{headings, row};
 use machine::Machine;
 use measures::counts::counts_of;
@@ -91,35 +91,38 @@ fn placed(
     file: &[u8],
     k: usize,
     before: Under,
-    place: Place,
-    x: DayRead,
+    place: Option<Place>,
+    x: Result<DayRead, Refusal>,
     sum: u64,
     flags: &[u8],
 ) -> Shown {
-    let Place::At(_, _, two_hundred) = place else {
+    let Some(day) = place else {
         return Shown {
             under: before,
             status: DONE,
         };
     };
-    let DayRead::Read {
-        date,
-        n,
-        update: _,
-        load: _,
-        unit: _,
-    } = x
-    else {
+    let Ok(read) = x else {
         return Shown {
             under: before,
             status: DONE,
         };
     };
-    let under = under_at(before, k, two_hundred.at);
-    let record = part(file, two_hundred.at, two_hundred.end);
+    let under = under_at(before, k, day.under.at);
+    let record = part(file, day.under.at, day.under.end);
     Shown {
         under,
-        status: line(rt, page, k, under.channel, record, date, n, sum, flags),
+        status: line(
+            rt,
+            page,
+            k,
+            under.channel,
+            record,
+            read.date,
+            read.n,
+            sum,
+            flags,
+        ),
     }
 }
 
@@ -217,15 +220,11 @@ pub fn show(rt: &impl Machine, page: &mut [u8], file: &[u8]) -> u8 {
     let answer = noted.answer;
     let first = noted.day;
     match answer {
-        Checked::Accepted {
-            version: _,
-            channels: _,
-            days,
-        } => {
+        Ok(c) => {
             headed(rt, page);
-            lines(rt, page, file, days, first)
+            lines(rt, page, file, c.days, first)
         }
-        Checked::Refused(x) => {
+        Err(x) => {
             let p = explained(page, 0, file, x);
             warn(rt, page, p);
             REFUSED

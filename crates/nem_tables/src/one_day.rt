@@ -1,7 +1,7 @@
 // One day as a table, a line for each interval.
 use day_rows::{minutes, refused};
 use day_table::write_table;
-use format::{DayHead, DayRead};
+use format::{DayHead, DayRead, Refusal};
 use machine::Machine;
 use outward::{REFUSED, warn};
 use reading::read_day::read_day;
@@ -14,7 +14,7 @@ pub fn table(
     rt: &impl Machine,
     page: &mut [u8],
     file: &[u8],
-    x: DayRead,
+    x: Result<DayRead, Refusal>,
     values: &[u64],
     flags: &[u8],
     methods: &[u8],
@@ -23,25 +23,19 @@ pub fn table(
     lengths: &[usize],
 ) -> u8 {
     match x {
-        DayRead::Read {
-            date,
-            n,
-            update,
-            load,
-            unit,
-        } => {
+        Ok(d) => {
             let day = DayHead {
-                date,
-                length: minutes(n),
-                update,
-                load,
-                unit,
+                date: d.date,
+                length: minutes(d.n),
+                update: d.update,
+                load: d.load,
+                unit: d.unit,
             };
             write_table(
-                rt, page, file, day, n, values, flags, methods, reasons, starts, lengths,
+                rt, page, file, day, d.n, values, flags, methods, reasons, starts, lengths,
             )
         }
-        DayRead::Refused(y) => {
+        Err(y) => {
             let p = refused(page, file, y);
             warn(rt, page, p);
             REFUSED

@@ -9,7 +9,6 @@ use day::DayStart;
 use day_rows::no_such_day;
 use explain::refused::explained;
 use filling::read_noted;
-use format::Checked;
 use machine::Machine;
 use outward::{DONE, REFUSED, complain, warn, write_line};
 use page::texts::{number, put};
@@ -172,12 +171,8 @@ fn show_days(rt: &impl Machine, page: &mut [u8], file: &[u8], first: usize, last
     let answer = noted.answer;
     let start = noted.day;
     match answer {
-        Checked::Accepted {
-            version: _,
-            channels: _,
-            days,
-        } => show_all(rt, page, file, first, last, days, start),
-        Checked::Refused(x) => {
+        Ok(c) => show_all(rt, page, file, first, last, c.days, start),
+        Err(x) => {
             let p = explained(page, 0, file, x);
             warn(rt, page, p);
             REFUSED

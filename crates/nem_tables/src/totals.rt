@@ -6,7 +6,6 @@ use channel::{ChannelStart, total_noted};
 use channel_rows::{headed, placed};
 use checking::tour::check_and_note;
 use explain::refused::explained;
-use format::{Checked, Totalled};
 use machine::Machine;
 use outward::{DONE, REFUSED, warn, write};
 
@@ -20,7 +19,7 @@ fn rows(rt: &impl Machine, page: &mut [u8], file: &[u8], channels: usize, first:
         let t = total_noted(file, k, from);
         let place = t.place;
         let answer = t.answer;
-        let Totalled::Total(total) = answer else {
+        let Ok(total) = answer else {
             return DONE;
         };
         let p = placed(page, file, k, place, total);
@@ -39,16 +38,12 @@ pub fn show(rt: &impl Machine, page: &mut [u8], file: &[u8]) -> u8 {
     let answer = noted.answer;
     let first = noted.channel;
     match answer {
-        Checked::Accepted {
-            version: _,
-            channels,
-            days: _,
-        } => {
+        Ok(c) => {
             let p = headed(page);
             write(rt, page, p);
-            rows(rt, page, file, channels, first)
+            rows(rt, page, file, c.channels, first)
         }
-        Checked::Refused(x) => {
+        Err(x) => {
             let p = explained(page, 0, file, x);
             warn(rt, page, p);
             REFUSED

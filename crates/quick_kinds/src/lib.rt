@@ -1,14 +1,13 @@
 // The kinds of records. Those that come often, 100 to 500 and 250, are told by their bytes, and no number is made of digits.
 #![tactic(auto)]
 
-ghost use Rattle.std.specs.Prelude.{◌≡◌, ◌<◌, length};
+ghost use Rattle.std.specs.Prelude.{◌≡◌, ◌<◌, Some, length};
 ghost use Rattle.format.specs.Records.{indicator_of};
-
 
 // The kind that three bytes name, if it is one of these; else 0.
 fn common_kind(f: &[u8]) -> u64
     requires { length f.now ≡ 3 }
-    ensures { 0 < result → indicator_of f.now ≡ Is result }
+    ensures { 0 < result → indicator_of f.now ≡ Some result }
 {
     if f[2] != 48 {
         return 0;

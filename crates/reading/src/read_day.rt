@@ -5,7 +5,7 @@ ghost use Rattle.format.specs.Day.{five, outcome, read_of};
 
 use checking::tour::check_and_note;
 use filling::read_noted;
-use format::{Checked, DayRead};
+use format::{DayRead, Refusal};
 
 // Reads the day of a number from 0 into six lent lists, one element an interval: values in millionths, flags as their letters' bytes, methods (255 if none),
 // reasons (65535 if none), and where in the file each description starts (0 if it is empty) and how long it is. The file's own refusal comes first, then
@@ -19,22 +19,13 @@ pub fn read_day(
     reasons: &mut [u16],
     starts: &mut [usize],
     lengths: &mut [usize],
-) -> DayRead
+) -> Result<DayRead, Refusal>
     ensures { outcome (day_read_as result) values.new (five flags.new methods.new reasons.new starts.new lengths.new) ≡ read_of file.now day values.old (five flags.old methods.old reasons.old starts.old lengths.old) }
 {
     let t = check_and_note(file, day, 0);
-    let c = t.answer;
-    match c {
-        Checked::Refused(x) => DayRead::Refused(x),
-        Checked::Accepted {
-            version: _,
-            channels: _,
-            days: _,
-        } => {
-            let r = read_noted(
-                file, day, t.day, values, flags, methods, reasons, starts, lengths,
-            );
-            r.answer
-        }
-    }
+    t.answer?;
+    let r = read_noted(
+        file, day, t.day, values, flags, methods, reasons, starts, lengths,
+    );
+    r.answer
 }

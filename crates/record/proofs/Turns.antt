@@ -16,7 +16,7 @@ use Rattle.ground.specs.Digits.{is_digit}
 use Rattle.ground.proofs.Tests.{and-true}
 use Rattle.ground.proofs.Spans.{span-le, part_length}
 use Rattle.format.specs.Bytes.{are_all}
-use Rattle.format.specs.Numbers.{number_in, that, number_of}
+use Rattle.format.specs.Numbers.{number_in, number_of}
 use Rattle.format.specs.Units.{decimals_named}
 use Rattle.format.specs.Cut.{fields, field, start_of}
 use Rattle.format.specs.Records.{Scale, scale, scale_for, indicator_of, kind_in, row_of, count_of, rule_of, obeys, quantity_field, quantity_unit_field, quantity_decimals}

@@ -125,7 +125,15 @@ fn is_quantity(kind: u64, i: usize) -> bool
 }
 
 // Field i, which starts at a, held to its rule. A 250's quantity is held to the unit that stands behind it.
-fn held_at(file: &[u8], a: usize, e: usize, kind: u64, n: usize, d: usize, i: usize) -> Option<usize>
+fn held_at(
+    file: &[u8],
+    a: usize,
+    e: usize,
+    kind: u64,
+    n: usize,
+    d: usize,
+    i: usize,
+) -> Option<usize>
     requires { (a ≤ e) × (e ≤ length file.now) × (n ≤ 288) }
     ensures { (fs : List (List ℕ)) → (i ≡ quantity_field → field quantity_unit_field fs ≡ field 1 (fields (part file.now a e))) → result ≡ held_of kind (rule_of kind (scale_for kind n d fs) i) a (part file.now a e) }
 {
@@ -136,7 +144,14 @@ fn held_at(file: &[u8], a: usize, e: usize, kind: u64, n: usize, d: usize, i: us
 }
 
 // The record from at to e, of which the kind and the number of fields are known: an indicator has three bytes, so the walk starts behind it.
-pub fn check_fields(file: &[u8], at: usize, e: usize, kind: u64, n: usize, d: usize) -> Result<Asked, BadField>
+pub fn check_fields(
+    file: &[u8],
+    at: usize,
+    e: usize,
+    kind: u64,
+    n: usize,
+    d: usize,
+) -> Result<Asked, BadField>
     requires { Typed file.now at e kind (scale_at file.now at e kind n d) × (n ≤ 288) }
     ensures { Walks file.now at e kind (scale_at file.now at e kind n d) result }
 {

@@ -3,6 +3,7 @@ use Prim.Native.Nat.{ℕ, ◌-◌, ◌≤◌, ◌<◌}
 use mathlib.Core.Path.{◌≡◌, refl, sym, ap, ◌∙◌}
 use mathlib.Core.Bool.{true, false, true≢false}
 use mathlib.Core.List.{List, [], ◌∷◌}
+use Rattle.std.proofs.Common.{Result, Ok, Err}
 use native.Mathlib.Omega.{arith}
 use lib.ListN.{length, take, drop}
 use lib.Seq.{length-take-le}
@@ -16,7 +17,6 @@ use Rattle.format.specs.Day.{DayRows, days_of}
 use Rattle.format.specs.Total.{total_after}
 use Rattle.format.specs.declared.Refusal.{Refusal}
 use Rattle.format.specs.declared.BlockChecked.{BlockChecked}
-use Rattle.format.specs.declared.BlockChecked.TheVariants as checked
 use Rattle.passing.specs.Passes.{top_date}
 use Rattle.passing.proofs.Alone.{alone}
 use Rattle.passing.proofs.Walk.{not-accepted, file-short}
@@ -25,12 +25,10 @@ use Rattle.lines.specs.Places.{LineEnd}
 use Rattle.moving.specs.Moving.{spliced}
 use Rattle.whose.specs.Whose.{whose_is, day_found_as, find_first, find_of}
 use Rattle.whose.specs.declared.DayFound.{DayFound}
-use Rattle.whose.specs.declared.DayFound.TheVariants as found
 use Rattle.whose.proofs.Ends.{block-end, block_within, top-date}
 use Rattle.replacing.specs.Replace.{Left, left, or_refused, put_of, same_date, replace_first, replace_in, replace_of}
 use Rattle.replacing.specs.Tries.{Found, Fits, Answers}
-use Rattle.replacing.specs.declared.Tried.{Tried}
-use Rattle.replacing.specs.declared.Tried.TheVariants as tried
+use Rattle.replacing.specs.declared.OldBlock.{OldBlock}
 
 -- ---- the day that was found
 
@@ -75,33 +73,36 @@ date-is m y s t n u l k e =
     go (rest x) h = absurd (let z : true ≡ false = cc in true≢false z)
     go (line r ls) h = cc
 
-module _ (file : List ℕ) (day u m a e : ℕ) (f : Found file day u m a e) (block : List ℕ) (c : BlockChecked) (ec : block_checked_as c ≡ block_check_of m u block) where
+module _ (file : List ℕ) (day u m a e : ℕ) (f : Found file day u m a e) (block : List ℕ) (c : Result BlockChecked Refusal) (ec : block_checked_as c ≡ block_check_of m u block) where
   -- the answer for this day
   first : (room : List ℕ) (o : Owned file day u m a e)
       → replace_in file day block room ≡ or_refused (block_checked_as c) room (or_refused (same_date o.d block) room (put_of (spliced file a e block) room))
   unfolding replace_in
   first room o = rw (o.ok, o.is, o.unit, o.minutes, o.start, o.end, ec)
 
-  pub try-refused : (x : Refusal) → c ≡ checked.Refused x → Answers file day block (tried.Refused x)
+  pub try-refused : (x : Refusal) → c ≡ Err x → Answers file day block (Err x)
   try-refused x h room = first room (owned file day u m a e f) ∙ rw h
 
-  module _ (t n v l k : ℕ) (h : c ≡ checked.Accepted t n v l k) (z date : ℕ) (lz : LineEnd file a z) (ed : date ≡ date_in (fields (part file a z))) where
+  module _ (b : BlockChecked) (h : c ≡ Ok b) (z date : ℕ) (lz : LineEnd file a z) (ed : date ≡ date_in (fields (part file a z))) where
+    abbrev t : ℕ
+    t = b.date
+
     dates : (o : Owned file day u m a e) → (top_date (lines block) ≡ t) × (date_in o.d.block.top.cells ≡ date)
     unfolding whose_is
     dates o =
         let w = parts file o.xs day o.d o.ds o.ok o.is in
         let p : o.d.block.top.place ≡ a = o.start in
         let q = top-date file day o.d w z (rw p lz) in
-        (date-is m u block t n v l k (sym ec ∙ ap block_checked_as h), sym q ∙ rw p (sym ed))
+        (date-is m u block t b.n b.update b.load b.records (sym ec ∙ ap block_checked_as h), sym q ∙ rw p (sym ed))
 
-    pub try-another : (t ≡ date → ⊥) → (x : Refusal) → refused_as x ≡ refused 8 4 0 2 → Answers file day block (tried.Refused x)
+    pub try-another : (t ≡ date → ⊥) → (x : Refusal) → refused_as x ≡ refused 8 4 0 2 → Answers file day block (Err x)
     unfolding same_date
     try-another g x ex room =
         let o = owned file day u m a e f in
         let w = dates o in
         first room o ∙ rw (h, w.0, w.1, ne_eqb t date g, ex)
 
-    pub try-fits : t ≡ date → Answers file day block (tried.At a e)
+    pub try-fits : t ≡ date → Answers file day block (Ok (record { start = a; end = e }))
     unfolding same_date whose_is
     try-fits g =
         let o = owned file day u m a e f in
@@ -117,8 +118,8 @@ module _ (file : List ℕ) (day u m a e : ℕ) (f : Found file day u m a e) (blo
 
 -- ---- what was found
 
-module _ (file : List ℕ) (day : ℕ) (r : DayFound) (er : day_found_as r ≡ find_of file day) where
-  pub try-none : (block : List ℕ) (x : Refusal) → r ≡ found.Refused x → Answers file day block (tried.Refused x)
+module _ (file : List ℕ) (day : ℕ) (r : Result DayFound Refusal) (er : day_found_as r ≡ find_of file day) where
+  pub try-none : (block : List ℕ) (x : Refusal) → r ≡ Err x → Answers file day block (Err x)
   unfolding replace_in find_of
   try-none block x h room = go (check_of file) (drop day (days_of file)) (sym (rw h at er))
     where
@@ -128,8 +129,8 @@ module _ (file : List ℕ) (day : ℕ) (r : DayFound) (er : day_found_as r ≡ f
       go (accepted xs) [] e = ap (λ (z : Answer). left z room) e
       go (accepted xs) (d ∷ ds) e = not-accepted x.number x.place x.«record» x.field _ (sym e)
 
-  pub found-there : (c n s u m a e : ℕ) → r ≡ found.At c n s u m a e → Found file day u m a e
-  found-there c n s u m a e h = (c, n, s, sym (rw h at er))
+  pub found-there : (d : DayFound) → r ≡ Ok d → Found file day d.unit d.length d.start d.end
+  found-there d h = (d.channel, d.nmi, d.suffix, sym (rw h at er))
 
 -- ---- the room
 
@@ -138,14 +139,20 @@ module _ (room : List ℕ) (n day : ℕ) (block : List ℕ) where
   unfolding replace_of
   replaced-15 h x ex = rw (ex, lt-ltb _ _ h)
 
-  module _ (h : n ≤ length room) (t : Tried) (et : Answers (take n room) day block t) where
-    pub replaced-not : (x : Refusal) → t ≡ tried.Refused x → left (refused_as x) room ≡ replace_of room n day block
+  module _ (h : n ≤ length room) (t : Result OldBlock Refusal) (et : Answers (take n room) day block t) where
+    pub replaced-not : (x : Refusal) → t ≡ Err x → left (refused_as x) room ≡ replace_of room n day block
     unfolding replace_of
     replaced-not x ht =
-        let w : Answers (take n room) day block (tried.Refused x) = rw ht at et in
+        let w : Answers (take n room) day block (Err x) = rw ht at et in
         rw (le-ltb (length room) n h) (sym (w room))
 
-    module _ (a e : ℕ) (ht : t ≡ tried.At a e) where
+    module _ (b : OldBlock) (ht : t ≡ Ok b) where
+      abbrev a : ℕ
+      a = b.start
+
+      abbrev e : ℕ
+      e = b.end
+
       fits : Fits (take n room) day block a e
       fits = rw ht at et
 

@@ -2,7 +2,7 @@
 -- length is at most 1,048,576, the edited file is accepted. [..] bytes outside the block are the old ones; lent bytes past the new end stay. Order: the file's
 -- refusal, 14, the block's refusal with its place in the block, another date (8 at the block's date field), 1, 15." And the tickets of 02: "a length above the
 -- room's is 15 before all else".
-use Rattle.std.specs.Prelude.{ℕ, List, [], ◌∷◌, cond, length, take, drop, ltb, eqb}
+use Rattle.std.specs.Prelude.{ℕ, List, [], ◌∷◌, cond, length, take, drop, ltb, eqb, Result, Ok, Err}
 use Rattle.format.specs.Cut.{lines}
 use Rattle.format.specs.Records.{date_in}
 use Rattle.format.specs.Answers.{Answer, accepted, refused, refusal, refused_as}
@@ -11,8 +11,7 @@ use Rattle.format.specs.Day.{DayRows, days_of, over}
 use Rattle.passing.specs.Passes.{top_date}
 use Rattle.moving.specs.Moving.{spliced}
 use Rattle.whose.specs.Whose.{whose_is}
-use Rattle.replacing.specs.declared.Replaced.{Replaced}
-use Rattle.replacing.specs.declared.Replaced.TheVariants.{Length, Refused}
+use Rattle.format.specs.declared.Refusal.{Refusal}
 
 -- what a call answers, and the room that it leaves
 pub record Left : Type 0 where
@@ -23,9 +22,9 @@ abbrev pub left : Answer → List ℕ → Left
 left a room = record { answer = a; room = room }
 
 -- the file's new length
-abbrev pub replaced_as : Replaced → Answer
-replaced_as (Length n) = accepted (n ∷ [])
-replaced_as (Refused x) = refused_as x
+abbrev pub replaced_as : Result ℕ Refusal → Answer
+replaced_as (Ok n) = accepted (n ∷ [])
+replaced_as (Err x) = refused_as x
 
 -- a refusal leaves every byte of the room
 abbrev pub or_refused : Answer → List ℕ → Left → Left

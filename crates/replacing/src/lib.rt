@@ -10,23 +10,16 @@ ghost use Rattle.replacing.specs.Tries.{Found, Answers};
 
 use alone::check_block;
 use day::head::head_at;
-use format::{BlockChecked, Refusal};
+use format::Refusal;
 use lines::line_end;
 use moving::splice;
-use whose::{DayFound, find_day};
+use whose::find_day;
 
-// What a replacing answers: the file's new length.
+// Where the day's block starts and ends, which the new one may take the place of.
 #[derive(Clone, Copy)]
-pub enum Replaced {
-    Length(usize),
-    Refused(Refusal),
-}
-
-// What comes of a try: where the day's block starts and ends, which the new one may take the place of, or why it may not.
-#[derive(Clone, Copy)]
-pub enum Tried {
-    At(usize, usize),
-    Refused(Refusal),
+pub struct OldBlock {
+    pub start: usize,
+    pub end: usize,
 }
 
 // The block's date is another than the day's.
@@ -50,78 +43,73 @@ fn try_there(
     a: usize,
     e: usize,
     block: &[u8],
-) -> Tried
+) -> Result<OldBlock, Refusal>
     requires { Found file.now day unit minutes a e }
     ensures { Answers file.now day block.now result }
 {
-    let c = check_block(block, 0, minutes, unit);
-    match c {
-        BlockChecked::Refused(x) => Tried::Refused(x),
-        BlockChecked::Accepted {
-            date,
-            n: _,
-            update: _,
-            load: _,
-            records: _,
-        } => {
-            let top = head_at(file, a, line_end(file, a));
-            if date != top.date {
-                return Tried::Refused(another_date());
-            }
-            Tried::At(a, e)
-        }
+    let new = check_block(block, 0, minutes, unit)?;
+    let date = new.date;
+    let top = head_at(file, a, line_end(file, a));
+    if date != top.date {
+        return Err(another_date());
     }
+    Ok(OldBlock { start: a, end: e })
 }
 
 // Whether the block may take the place of the day's, whatever the room.
-fn try_block(file: &[u8], day: usize, block: &[u8]) -> Tried
+fn try_block(file: &[u8], day: usize, block: &[u8]) -> Result<OldBlock, Refusal>
     ensures { Answers file.now day block.now result }
 {
-    let found = find_day(file, day);
-    match found {
-        DayFound::Refused(x) => Tried::Refused(x),
-        DayFound::At {
-            channel: _,
-            nmi: _,
-            suffix: _,
-            unit,
-            length,
-            start,
-            end,
-        } => try_there(file, day, unit, length, start, end, block),
-    }
+    let found = find_day(file, day)?;
+    try_there(
+        file,
+        day,
+        found.unit,
+        found.length,
+        found.start,
+        found.end,
+        block,
+    )
 }
 
 // The block into the place of the bytes from a to e of the file at the room's start, if the edited file is short enough and the room holds it. The lengths are
 // compared by what is left, since a sum of any two could be too large.
-fn put_block(room: &mut [u8], n: usize, a: usize, e: usize, block: &[u8]) -> Replaced
+fn put_block(
+    room: &mut [u8],
+    n: usize,
+    a: usize,
+    e: usize,
+    block: &[u8],
+) -> Result<usize, Refusal>
     requires { (a ≤ e) × (e ≤ n) × (n ≤ most) × (n ≤ length room.old) }
     ensures { left (replaced_as result) room.new ≡ put_of (spliced (take n room.old) a e block.now) room.old }
 {
     let kept = n - (e - a);
     let more = block.len();
     if 1048576 - kept < more {
-        return Replaced::Refused(Refusal::bare(1));
+        return Err(Refusal::bare(1));
     }
     if room.len() - kept < more {
-        return Replaced::Refused(Refusal::bare(15));
+        return Err(Refusal::bare(15));
     }
-    Replaced::Length(splice(room, n, a, e, block))
+    Ok(splice(room, n, a, e, block))
 }
 
 // The file is the first `length` bytes of the room. The block takes the place of that of its day of a number from 0, and the file's new length is answered.
 // 15 comes first if the room is shorter than the length; then the file's own refusal, 14 if there is no such day, the block's own refusal, placed in the block,
 // as of a block behind the day's own 200, 8 if the block's date is another, 1 if the edited file would be too long, 15 if the room would be too short for it.
 // A refusal leaves every byte of the room, and the bytes behind the file's new end stay as they were.
-pub fn replace_day(room: &mut [u8], length: usize, day: usize, block: &[u8]) -> Replaced
+pub fn replace_day(
+    room: &mut [u8],
+    length: usize,
+    day: usize,
+    block: &[u8],
+) -> Result<usize, Refusal>
     ensures { left (replaced_as result) room.new ≡ replace_of room.old «length» day block.now }
 {
     if room.len() < length {
-        return Replaced::Refused(Refusal::bare(15));
+        return Err(Refusal::bare(15));
     }
-    let t = try_block(&room[..length], day, block);
-    match t {
-        Tried::Refused(x) => Replaced::Refused(x),
-        Tried::At(a, e) => put_block(room, length, a, e, block),
-    }
+    let old = try_block(&room[..length], day, block)?;
+    put_block(room, length, old.start, old.end, block)
 }

@@ -69,7 +69,14 @@ fn reasoned(
 }
 
 // From its quality on, behind b.
-fn graded(file: &[u8], at: usize, e: usize, b: usize, from: usize, to: usize) -> Result<Run, BadField>
+fn graded(
+    file: &[u8],
+    at: usize,
+    e: usize,
+    b: usize,
+    from: usize,
+    to: usize,
+) -> Result<Run, BadField>
     requires { Typed file.now at e 400 no_scale × Along file.now at e 400 no_scale 3 b × Spans file.now at e from to }
     ensures { Runs file.now at e result }
 {

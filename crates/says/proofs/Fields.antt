@@ -1,4 +1,6 @@
 -- What a field at a place of the file says of the record that it stands in: a number, a quality with reason and description. Assumes nothing.
+use Rattle.std.specs.Option.{unwrap_or}
+use Rattle.std.proofs.Common.{Some, None}
 use Rattle.std.proofs.Common.{Option, Some, None}
 use Prim.Native.Nat.{ℕ, ◌+◌, ◌-◌, ◌^◌, ◌≤◌, ◌<◌}
 use mathlib.Core.Path.{◌≡◌, refl, sym, ◌∙◌, ap}
@@ -17,7 +19,7 @@ use Rattle.format.specs.Numbers.{number_in, that, number_of, small_of, interval_
 use Rattle.format.specs.Units.{unit_of}
 use Rattle.format.specs.Dates.{is_date, date_of}
 use Rattle.format.specs.Records.{indicator_of, kind_in, millionths}
-use Rattle.format.specs.Quality.{flag_in, method_in, quality_of}
+use Rattle.format.specs.Quality.{flag_in, method_in, quality_of, grade}
 use Rattle.format.specs.Cut.{fields, field, start_of}
 use Rattle.format.specs.Day.{Row, row_at, tag_at}
 use Rattle.format.specs.declared.Tag.{Tag}
@@ -129,6 +131,11 @@ place-eq m n x y e h = by (dec_lt 0 n)
     by : Dec (0 < n) → cond (eqb m 0) 0 x ≡ cond (eqb n 0) 0 y
     by (yes p) = rw (e, h p)
     by (no p) = let z : n ≡ 0 = omega arith in rw (e, z)
+
+-- what is taken of a field that may say no quality
+pub graded : (x : Option Grade) {g : Grade} → g ≡ unwrap_or x (grade 0 255) → (g.flag ≡ flag_in x) × (g.method ≡ method_in x)
+graded (Some y) e = (ap (λ z. z.flag) e, ap (λ z. z.method) e)
+graded None e = (ap (λ z. z.flag) e, ap (λ z. z.method) e)
 
 -- by the three cuts of its fields: g is what `quality` answers of the first
 pub tag_is : (file : List ℕ) (k a e b x b₁ x₁ b₂ x₂ : ℕ) (g : Option Grade) (fl me re st : ℕ) → Cut file a e b x → Cut file x e b₁ x₁ → Cut file x₁ e b₂ x₂

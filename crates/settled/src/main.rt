@@ -6,7 +6,7 @@ ghost use Rattle.std.specs.Prelude.{◌≡◌, length};
 
 use answer_lines::answers;
 use calls::files;
-use format::{DayHead, Written};
+use format::{DayHead, Refusal, Written};
 use machine::Machine;
 use output::write;
 use page::texts::{part, put};
@@ -167,18 +167,21 @@ fn read_back(rt: &impl Machine, block: &[u8]) {
 }
 
 // What a case is called, the answer, and behind its line the block and what is read from it.
-fn block(rt: &impl Machine, page: &mut [u8], name: &[u8], x: Written, room: &[u8]) {
+fn block(
+    rt: &impl Machine,
+    page: &mut [u8],
+    name: &[u8],
+    x: Result<Written, Refusal>,
+    room: &[u8],
+) {
     let p = put(page, 0, name);
     let q = put(page, p, b": ");
     let r = answers::written(page, q, x);
     let s = put(page, r, b"\n");
     write(rt, page, s);
-    match x {
-        Written::Block { bytes, records: _ } => {
-            write(rt, room, bytes);
-            read_back(rt, part(room, 0, bytes));
-        }
-        Written::Refused(_) => {}
+    if let Ok(w) = x {
+        write(rt, room, w.bytes);
+        read_back(rt, part(room, 0, w.bytes));
     }
 }
 

@@ -1,26 +1,26 @@
 -- A value read byte by byte, its digits and its point. Assumes nothing.
 use Rattle.std.proofs.Common.{Some}
 use Prim.Native.Nat.{ℕ, suc, ◌+◌, ◌-◌, ◌*◌, ◌^◌, ◌≤◌, ◌<◌}
-use mathlib.Core.Path.{◌≡◌, refl, sym, ◌∙◌, ap}
+use mathlib.Core.Path.{◌≡◌, sym, ◌∙◌, ap}
 use mathlib.Core.List.{List, [], ◌∷◌, ◌++◌, append-nil}
 use mathlib.Core.Bool.{Bool, true, false, not}
 use native.Mathlib.Nat.{pow-suc, pow-zero, add-mul, mul_assoc, mul_comm}
 use native.Mathlib.Omega.{arith}
 use lib.ListN.{length, get_or, take, drop, length-append, length-drop}
 use lib.Pow.{pow-add}
-use lib.Seq.{take-suc, take-add, drop-drop, get_or-drop, take-append_seam, drop-append_seam, drop-append-add}
+use lib.Seq.{take-suc, take-add, drop-drop, get_or-drop, take-append_seam, drop-append-add}
 use borrow.Author.Tests.{eq-eqb, ne_eqb, not-false}
 use Rattle.ground.specs.Lists.{all, span_of, other, part}
 use Rattle.ground.specs.Digits.{is_digit, decimal_from, decimal}
 use Rattle.ground.proofs.Digits.{all_append, decimal-append, digit-range}
 use Rattle.ground.proofs.Lists.{rest}
-use Rattle.ground.proofs.Spans.{span-block, part_length}
+use Rattle.ground.proofs.Spans.{part_length}
 use Rattle.format.specs.Numbers.{point, before, behind, decimals, fraction_of, value_of}
 use Rattle.format.specs.Records.{millionths}
 use Rattle.format.proofs.Numbers.{value-below}
 use Rattle.format.proofs.NumberText.{digits_are}
 use Rattle.format.proofs.ValueText.{point-behind}
-use Rattle.ground.proofs.Bytes.{digits-plain, holds-none}
+use Rattle.ground.proofs.Bytes.{digits-plain}
 use Rattle.lines.proofs.Commas.{comma-field, comma-whole}
 use Rattle.shorts.specs.Shapes.{Whole, Pointed, Complete, ValueAt}
 

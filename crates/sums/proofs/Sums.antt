@@ -3,6 +3,7 @@ use Prim.Native.Nat.{ℕ, zero, suc, ◌+◌, ◌-◌, ◌*◌, ◌^◌, ◌≤�
 use mathlib.Core.Path.{◌≡◌, refl, sym, ap, ◌∙◌}
 use mathlib.Core.List.{List, [], map}
 use mathlib.Core.Bool.{true}
+use Rattle.std.specs.Prelude.{Option, Some, None}
 use native.Mathlib.Nat.{sub-zero, add-zero, zero-add}
 use native.Mathlib.Numerals.{add-one}
 use native.Mathlib.Omega.{arith}
@@ -29,9 +30,7 @@ use Rattle.lines.proofs.Cuts.{rest-whole, rest-next, rest-on, rest-first}
 use Rattle.lumps.specs.Lumps.{Alike}
 use Rattle.lines.proofs.Commas.{comma-field, comma-cut}
 use Rattle.day.specs.Places.{values_from, located}
-use Rattle.day.specs.declared.Under.{Under}
 use Rattle.day.specs.declared.Place.{Place}
-use Rattle.day.specs.declared.Place.TheVariants.{At, Missing}
 use Rattle.day.proofs.Values.{values-move}
 use Rattle.sums.specs.Sums.{sum_at, sum_first, Adds}
 
@@ -218,10 +217,10 @@ unfolding intervals_in
 few-intervals fs e = rw e (intervals-most _)
 
 -- the day at the place p that the walk to it answers
-module _ (file : List ℕ) (p : Place) where
-  pub sum-there : (a e n y : ℕ) (u : Under) → p ≡ At a e u → n ≡ intervals_in (fields (part file u.at u.end))
-      → y ≡ sum (values_in n (fields (part file a e))) → y ≡ sum_first (located file p)
-  sum-there a e n y u h en ey = rw (h, ← en) ey
+module _ (file : List ℕ) (p : Option Place) where
+  pub sum-there : (n y : ℕ) (d : Place) → p ≡ Some d → n ≡ intervals_in (fields (part file d.under.at d.under.end))
+      → y ≡ sum (values_in n (fields (part file d.at d.end))) → y ≡ sum_first (located file p)
+  sum-there n y d h en ey = rw (h, ← en) ey
 
-  pub sum-none : p ≡ Missing → 0 ≡ sum_first (located file p)
+  pub sum-none : p ≡ None → 0 ≡ sum_first (located file p)
   sum-none h = rw h

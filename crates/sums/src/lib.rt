@@ -102,13 +102,18 @@ pub fn add_day(file: &[u8], a: usize, e: usize, n: usize) -> u64
 }
 
 // What the day at a place adds up to, 0 where there is none.
-pub fn day_sum(file: &[u8], place: Place) -> u64
+pub fn day_sum(file: &[u8], place: Option<Place>) -> u64
     requires { inside file.now place }
     ensures { result ≡ sum_first (located file.now place) }
 {
     match place {
-        Place::At(a, e, under) => add_day(file, a, e, intervals_of(file, under.at, under.end)),
-        Place::Missing => 0,
+        Some(day) => add_day(
+            file,
+            day.at,
+            day.end,
+            intervals_of(file, day.under.at, day.under.end),
+        ),
+        None => 0,
     }
 }
 

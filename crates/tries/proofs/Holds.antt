@@ -7,7 +7,6 @@ use mathlib.Core.Bool.{Bool, true, false, cond}
 use native.Mathlib.Nat.{add-zero}
 use native.Mathlib.Omega.{arith}
 use lib.ListN.{length, get_or, take, drop}
-use lib.Seq.{get_or-take, get_or-drop}
 use lib.Dec.{eqb}
 use borrow.Author.Tests.{eqb-true, eq-eqb, le-leb}
 use Rattle.ground.specs.Lists.{all, span_of, other, part, same}
@@ -15,8 +14,6 @@ use Rattle.ground.specs.Digits.{is_digit}
 use Rattle.ground.specs.Text.{bytes}
 use Rattle.ground.proofs.Lists.{rest}
 use Rattle.ground.proofs.Same.{same-sound}
-use Rattle.ground.proofs.Spans.{span-le, span-block, part_length, part-take}
-use Rattle.ground.proofs.Prefix.{prefix-most}
 use Rattle.ground.proofs.Tests.{or-true}
 use Rattle.format.specs.Bytes.{capital, is_alnum, is_letter, is_capital, are_all, is_text, end_space}
 use Rattle.format.specs.Texts.{is_nmi, is_suffix, is_stream, is_description, is_direction}
@@ -28,7 +25,6 @@ use Rattle.format.specs.Cut.{fields, field}
 use Rattle.format.specs.Records.{obeys}
 use Rattle.format.specs.declared.Rule.{Rule}
 use Rattle.format.specs.declared.Rule.TheVariants as rule
-use Rattle.format.proofs.Cut.{field-here}
 use Rattle.format.proofs.Units.{named_some}
 use Rattle.format.proofs.ValueText.{value-still}
 use Rattle.quick_values.specs.Shapes.{is_thousandths}

@@ -5,7 +5,7 @@ use mathlib.Core.List.{List, [], ◌∷◌}
 use mathlib.Core.Bool.{Bool, true, false}
 use Rattle.format.specs.Answers.{checked_as}
 use Rattle.format.specs.declared.Checked.{Checked}
-use Rattle.format.specs.declared.Checked.TheVariants.{Accepted, Refused}
+use Rattle.std.proofs.Common.{Result, Ok, Err}
 use Rattle.format.specs.declared.Refusal.{Refusal}
 use Rattle.page.specs.Filled.{Filled}
 use Rattle.page.proofs.Filling.{filled-then}
@@ -22,16 +22,16 @@ module _ (several : Bool) (file : List ℕ) (x : Refusal) {p₀ p₁ : List ℕ}
   unfolding refusal_text
   refused-whole h a = rw h a
 
-module _ {x : Checked} where
+module _ {x : Result Checked Refusal} where
   module _ (several : Bool) (file : List ℕ) {p₀ p₁ : List ℕ} {at i : ℕ} where
-    pub said-accepted : (v c d : ℕ) → x ≡ Accepted v c d → Filled p₀ at (accepted_text v c d) i p₁ → Filled p₀ at (check_text several file (checked_as x)) i p₁
-    said-accepted v c d h w = rw h w
+    pub said-accepted : (c : Checked) → x ≡ Ok c → Filled p₀ at (accepted_text c.version c.channels c.days) i p₁ → Filled p₀ at (check_text several file (checked_as x)) i p₁
+    said-accepted c h w = rw h w
 
-    pub said-refused : (y : Refusal) → x ≡ Refused y → Filled p₀ at (refusal_text several file y) i p₁ → Filled p₀ at (check_text several file (checked_as x)) i p₁
+    pub said-refused : (y : Refusal) → x ≡ Err y → Filled p₀ at (refusal_text several file y) i p₁ → Filled p₀ at (check_text several file (checked_as x)) i p₁
     said-refused y h w = rw h w
 
-  pub status-accepted : (v c d : ℕ) → x ≡ Accepted v c d → 0 ≡ status_of (checked_as x)
-  status-accepted v c d h = rw h
+  pub status-accepted : (c : Checked) → x ≡ Ok c → 0 ≡ status_of (checked_as x)
+  status-accepted c h = rw h
 
-  pub status-refused : (y : Refusal) → x ≡ Refused y → 1 ≡ status_of (checked_as x)
+  pub status-refused : (y : Refusal) → x ≡ Err y → 1 ≡ status_of (checked_as x)
   status-refused y h = rw h

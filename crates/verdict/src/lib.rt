@@ -48,20 +48,16 @@ pub struct Verdict {
 }
 
 // The answer of a file's check in words: a line behind its name where there are several files.
-pub fn said(page: &mut [u8], at: usize, file: &[u8], x: Checked, several: bool) -> Verdict
+pub fn said(page: &mut [u8], at: usize, file: &[u8], x: Result<Checked, Refusal>, several: bool) -> Verdict
     ensures says { Filled page.old at (check_text several file.now (checked_as x)) result.next page.new }
     ensures status { result.status ≡ status_of (checked_as x) }
 {
     match x {
-        Checked::Accepted {
-            version,
-            channels,
-            days,
-        } => Verdict {
-            next: accepted(page, at, version, channels, days),
+        Ok(c) => Verdict {
+            next: accepted(page, at, c.version, c.channels, c.days),
             status: 0,
         },
-        Checked::Refused(y) => Verdict {
+        Err(y) => Verdict {
             next: refused(page, at, file, y, several),
             status: 1,
         },

@@ -1,5 +1,5 @@
 -- What the walker hands out at a place: made of what the pass over the record found, and read back by a caller. Assumes nothing.
-use Rattle.std.proofs.Common.{Option, Some, None, ◌×◌}
+use Rattle.std.proofs.Common.{Option, Some, None}
 use Prim.Native.Nat.{ℕ, ◌+◌, ◌-◌, ◌≤◌, ◌<◌}
 use mathlib.Core.Path.{◌≡◌, refl, sym, ◌∙◌, subst}
 use mathlib.Core.List.{List}

@@ -1,5 +1,5 @@
 -- What the walker hands out at a place of the file: the first of the lines from there on, as places of the file.
-use Rattle.std.specs.Prelude.{Option, Some, None, ◌×◌}
+use Rattle.std.specs.Prelude.{Option, Some, None}
 use Rattle.std.specs.Prelude.{ℕ, ◌+◌, ◌-◌, List, length, take, drop}
 use Rattle.ground.specs.Lists.{span_of}
 use Rattle.format.specs.Bytes.{plain}

@@ -1,5 +1,6 @@
 -- What is found of a day, place by place: the fields of its 200, the end of its block, and how many channels stand before it. Assumes nothing.
-use Rattle.std.proofs.Common.{Option, Some, None}
+use Rattle.std.proofs.Common.{Option, Some, None, Result, Err}
+use Rattle.std.proofs.Common as common
 use Prim.Native.Nat.{ℕ, ◌+◌, ◌-◌, ◌≤◌, ◌<◌}
 use mathlib.Core.Path.{◌≡◌, sym, ap, ◌∙◌}
 use mathlib.Core.Bool.{Bool, true, false, not, ◌&&◌, ◌||◌}
@@ -24,7 +25,6 @@ use Rattle.format.specs.Day.{DayRows, days_of}
 use Rattle.format.specs.Total.{totals_from}
 use Rattle.format.specs.declared.Refusal.{Refusal}
 use Rattle.format.specs.declared.Checked.{Checked}
-use Rattle.format.specs.declared.Checked.TheVariants as checked
 use Rattle.format.proofs.Cut.{start-zero}
 use Rattle.passing.proofs.Fit.{Ok, fine-unbroken}
 use Rattle.passing.proofs.Files.{onto, lines-behind}
@@ -35,7 +35,6 @@ use Rattle.lines.proofs.Ends.{line-none, line-more, line-long}
 use Rattle.day.specs.Places.{channel_at, day_at, days_at, located, inside}
 use Rattle.day.specs.declared.Under.{Under}
 use Rattle.day.specs.declared.Place.{Place}
-use Rattle.day.specs.declared.Place.TheVariants.{At, Missing}
 use Rattle.day.proofs.Find.{room-behind, heads-found, line-found}
 use Rattle.channel.specs.Places.{totals_in, totals_at}
 use Rattle.checking.specs.Tour.{ChannelsBefore}
@@ -159,7 +158,16 @@ module _ (file : List ℕ) (day : ℕ) (d : DayRows) (w : Parts file day d) wher
       ap (λ (l : List ℕ). length (totals_from (lines l))) onward-is in
       omega (arith, x, y, count-onto (lines w.before) (lines (w.block ++ w.behind)), w.counted)
 
-module _ (file : List ℕ) (day : ℕ) (p : Place) (a e : ℕ) (u : Under) (h : p ≡ At a e u) (i : inside file p) (l : located file p ≡ drop day (days_of file)) where
+module _ (file : List ℕ) (day : ℕ) (p : Option Place) (q : Place) (h : p ≡ Some q) (i : inside file p) (l : located file p ≡ drop day (days_of file)) where
+  abbrev a : ℕ
+  a = q.at
+
+  abbrev e : ℕ
+  e = q.end
+
+  abbrev u : Under
+  u = q.under
+
   here : drop day (days_of file) ≡ day_at file a e u ∷ days_at file (e + 2) u
   here = sym (rw h at l)
 
@@ -170,9 +178,9 @@ module _ (file : List ℕ) (day : ℕ) (p : Place) (a e : ℕ) (u : Under) (h : 
       let c : before ≡ w.st.channels =
       omega (arith, b x (day_at file a e u) (days_at file (e + 2) u) here, channels-left file day (day_at file a e u) w) in
       record {
-        line = line-found file p a e u h i;
-        room = room-behind file p a e u h i;
-        heads = heads-found file p a e u h i;
+        line = line-found file p q h i;
+        room = room-behind file p q h i;
+        heads = heads-found file p q h i;
         nmi = n.0;
         suffix = n.1;
         channels = c ∙ sym (channels-are file day (day_at file a e u) w);
@@ -182,15 +190,15 @@ module _ (file : List ℕ) (day : ℕ) (p : Place) (a e : ℕ) (u : Under) (h : 
 -- ---- what is answered
 
 module _ (file : List ℕ) (day : ℕ) where
-  pub find-refused : (c : Checked) (x : Refusal) → checked_as c ≡ check_of file → c ≡ checked.Refused x → refused_as x ≡ find_of file day
+  pub find-refused : (c : Result Checked Refusal) (x : Refusal) → checked_as c ≡ check_of file → c ≡ Err x → refused_as x ≡ find_of file day
   unfolding find_of
   find-refused c x e h = rw (← e, h)
 
-  module _ (x : IsAccepted file) (p : Place) (l : located file p ≡ drop day (days_of file)) where
-    pub find_none : p ≡ Missing → (r : Refusal) → refused_as r ≡ refusal 14 → refused_as r ≡ find_of file day
+  module _ (x : IsAccepted file) (p : Option Place) (l : located file p ≡ drop day (days_of file)) where
+    pub find_none : p ≡ None → (r : Refusal) → refused_as r ≡ refusal 14 → refused_as r ≡ find_of file day
     unfolding find_of
     find_none h r er = rw (er, x.1, ← l, h)
 
-    pub find_at : (a e : ℕ) (u : Under) → p ≡ At a e u → (r : DayFound) → day_found_as r ≡ whose_as (whose_is file (day_at file a e u)) → day_found_as r ≡ find_of file day
+    pub find_at : (q : Place) → p ≡ Some q → (r : DayFound) → day_found_as (common.Ok r) ≡ whose_as (whose_is file (day_at file q.at q.end q.under)) → day_found_as (common.Ok r) ≡ find_of file day
     unfolding find_of
-    find_at a e u h r er = rw (er, x.1, ← l, h)
+    find_at q h r er = rw (er, x.1, ← l, h)

@@ -1,6 +1,7 @@
 -- The tickets of 02, Whose day is it: "for day k of a file the channel's number, the places of its NMI and suffix in the file, its unit's number, the interval
 -- length, and where its block starts and ends (behind the CR LF of its last record, 500s included). Refusals as `read_day` up to 14."
-use Rattle.std.specs.Prelude.{ℕ, ◌+◌, ◌-◌, List, [], ◌∷◌, cond, ◌||◌, length, take, drop, eqb}
+use Rattle.std.specs.Prelude.{ℕ, ◌+◌, ◌-◌, List, [], ◌∷◌, cond, ◌||◌, length, take, drop, eqb, Result, Ok, Err}
+use Rattle.format.specs.declared.Refusal.{Refusal}
 use Rattle.format.specs.Numbers.{number_in, length_of}
 use Rattle.format.specs.Cut.{Lines, line, rest, lines, fields, field, start_of}
 use Rattle.format.specs.Records.{kind_in, length_field}
@@ -9,7 +10,6 @@ use Rattle.format.specs.File.{check_of}
 use Rattle.format.specs.Day.{Row, DayRows, days_of}
 use Rattle.format.specs.Total.{totals_from, total_after}
 use Rattle.whose.specs.declared.DayFound.{DayFound}
-use Rattle.whose.specs.declared.DayFound.TheVariants.{At, Refused}
 
 -- ---- the channel
 
@@ -71,9 +71,9 @@ whose_is file d =
 abbrev pub whose_as : Whose → Answer
 whose_as w = accepted (w.channel ∷ w.nmi ∷ w.suffix ∷ w.unit ∷ w.minutes ∷ w.start ∷ w.end ∷ [])
 
-abbrev pub day_found_as : DayFound → Answer
-day_found_as (At c n s u m a e) = accepted (c ∷ n ∷ s ∷ u ∷ m ∷ a ∷ e ∷ [])
-day_found_as (Refused x) = refused_as x
+abbrev pub day_found_as : Result DayFound Refusal → Answer
+day_found_as (Ok d) = accepted (d.channel ∷ d.nmi ∷ d.suffix ∷ d.unit ∷ d.length ∷ d.start ∷ d.end ∷ [])
+day_found_as (Err x) = refused_as x
 
 -- of the days from the one that is asked for, the first: none is 14
 abbrev pub find_first : List ℕ → List DayRows → Answer

@@ -1,7 +1,7 @@
 // Whose day is it: of a day of a file its channel, where NMI and suffix stand, its unit and interval length, and where its block starts and ends.
 #![tactic(auto)]
 
-ghost use Rattle.std.specs.Prelude.{◌≡◌, ◌||◌, ◌≤◌, length, drop, eqb};
+ghost use Rattle.std.specs.Prelude.{◌≡◌, ◌||◌, ◌≤◌, length, drop, eqb, Ok};
 ghost use Rattle.ground.specs.Lists.{part};
 ghost use Rattle.format.specs.Cut.{lines, fields};
 ghost use Rattle.format.specs.File.{IsAccepted};
@@ -13,8 +13,8 @@ ghost use Rattle.whose.specs.Stands.{Stands};
 use checking::tour::check_and_note;
 use day::fields::skip;
 use day::walk::unit_of;
-use day::{DayStart, Place, Under};
-use format::{Checked, Refusal};
+use day::{DayStart, Place};
+use format::Refusal;
 use lines::line_end;
 use lines::pieces::first_field;
 use number_rules::interval_length;
@@ -23,17 +23,14 @@ use says::kind_at;
 // What is found of a day. The channel has its number from 0, NMI and suffix are places in the file, the unit is its number in the table of units, the length
 // is the interval's in minutes. The block starts at its 300 and ends behind the CR LF of its last record.
 #[derive(Clone, Copy)]
-pub enum DayFound {
-    At {
-        channel: usize,
-        nmi: usize,
-        suffix: usize,
-        unit: u8,
-        length: u32,
-        start: usize,
-        end: usize,
-    },
-    Refused(Refusal),
+pub struct DayFound {
+    pub channel: usize,
+    pub nmi: usize,
+    pub suffix: usize,
+    pub unit: u8,
+    pub length: u32,
+    pub start: usize,
+    pub end: usize,
 }
 
 // The interval length of a 200.
@@ -74,50 +71,48 @@ fn behind_under(file: &[u8], from: usize) -> usize
     }
 }
 
-// What is found of the day whose 300 stands from a to e under that 200, with so many channels before it.
-fn found_at(file: &[u8], a: usize, e: usize, under: Under, before: usize) -> DayFound
-    requires { Stands file.now a e under before }
-    ensures { day_found_as result ≡ whose_as (whose_is file.now (day_at file.now a e under)) }
+// What is found of the day at a place, with so many channels before it.
+fn found_at(file: &[u8], p: Place, before: usize) -> DayFound
+    requires { Stands file.now p.at p.end p.under before }
+    ensures { day_found_as (Ok result) ≡ whose_as (whose_is file.now (day_at file.now p.at p.end p.under)) }
 {
-    let at = under.at;
-    let end = under.end;
-    DayFound::At {
+    let at = p.under.at;
+    let end = p.under.end;
+    DayFound {
         channel: before - 1,
         nmi: skip(file, at, end, 1),
         suffix: skip(file, at, end, 4),
         unit: unit_of(file, at, end),
         length: minutes_of(file, at, end),
-        start: a,
-        end: behind_under(file, e + 2),
+        start: p.at,
+        end: behind_under(file, p.end + 2),
     }
 }
 
 // The same of the day of a number from 0, in a file that was accepted, where a walk that came by has noted from where the day is found, and how many channels
 // stand before it.
-fn found_noted(file: &[u8], day: usize, from: DayStart, before: usize) -> DayFound
+fn found_noted(
+    file: &[u8],
+    day: usize,
+    from: DayStart,
+    before: usize,
+) -> Result<DayFound, Refusal>
     requires { IsAccepted file.now × DayAhead file.now day from × ChannelsBefore file.now day before }
     ensures { day_found_as result ≡ find_of file.now day }
 {
     let place = day::walk::find_day(file, day, from);
     match place {
-        Place::Missing => DayFound::Refused(Refusal::bare(14)),
-        Place::At(a, e, under) => found_at(file, a, e, under, before),
+        None => Err(Refusal::bare(14)),
+        Some(p) => Ok(found_at(file, p, before)),
     }
 }
 
 // Of the day of a number from 0 its channel, where its NMI and suffix stand, its unit, its interval length and its block. The file's own refusal comes first,
 // then 14 if there is no such day.
-pub fn find_day(file: &[u8], day: usize) -> DayFound
+pub fn find_day(file: &[u8], day: usize) -> Result<DayFound, Refusal>
     ensures { day_found_as result ≡ find_of file.now day }
 {
     let t = check_and_note(file, day, 0);
-    let c = t.answer;
-    match c {
-        Checked::Refused(x) => DayFound::Refused(x),
-        Checked::Accepted {
-            version: _,
-            channels: _,
-            days: _,
-        } => found_noted(file, day, t.day, t.before),
-    }
+    t.answer?;
+    found_noted(file, day, t.day, t.before)
 }

@@ -19,7 +19,8 @@ use Rattle.format.specs.Day.{Five, five, Day, over, enough_for}
 use Rattle.format.specs.Block.{given, intervals_given, mark_given, day_given, fit_mark, fit_value, fit_day, is_inside, fit_given, values_text, block_of, records_of, enough, write_of, room_of}
 use Rattle.format.specs.declared.DayHead.{DayHead}
 use Rattle.format.specs.declared.Written.{Written}
-use Rattle.format.specs.declared.Written.TheVariants.{Block}
+use Rattle.format.specs.declared.Refusal.{Refusal}
+use Rattle.std.proofs.Common.{Result, Ok}
 use Rattle.format.proofs.Numbers.{intervals-most, intervals-known}
 use Rattle.passing.proofs.Writes.{written-length, written-lists, written-fit, written-room, written-answer}
 use Rattle.text.specs.Inside.{inside}
@@ -33,13 +34,13 @@ use Rattle.writing.specs.Layers.{placed_of, answered_of, measured_of, Writes}
 -- ---- a fit day
 
 module _ (d : Day) {b r : ℕ} (s : Sizes d b r) (room : List ℕ) where
-  pub no_room : {w : Written} → length room < b → written_as w ≡ refusal 15 → Writes placed_of d room w room
+  pub no_room : {w : Result Written Refusal} → length room < b → written_as w ≡ refusal 15 → Writes placed_of d room w room
   unfolding placed_of
   no_room h e =
       let f : leb (length (block_of d)) (length room) ≡ false = lt-leb (length (block_of d)) (length room) (omega (arith, s.bytes-are)) in
       record { answer = rw f e; left = rw f }
 
-  pub placed : {p : ℕ} {after : List ℕ} → b ≤ length room → Put room 0 (block_of d) p after → Writes placed_of d room (Block b r) after
+  pub placed : {p : ℕ} {after : List ℕ} → b ≤ length room → Put room 0 (block_of d) p after → Writes placed_of d room (Ok (record { bytes = b; records = r })) after
   unfolding placed_of
   placed h w =
       let g : length (block_of d) ≤ length room = omega (arith, s.bytes-are) in
@@ -74,7 +75,7 @@ module _ (h : DayHead) (n : ℕ) (vs : List ℕ) (l : Five) (text : List ℕ) {m
   unfolding fit_of
   day-bytes {k} f = (bytes-if (fit_with h n vs l text) (length (values_text vs)) k (sym f ∙ e)).1
 
-  pub unfit : {w : Written} {room : List ℕ} → m ≡ Unfit → written_as w ≡ refusal 16
+  pub unfit : {w : Result Written Refusal} {room : List ℕ} → m ≡ Unfit → written_as w ≡ refusal 16
       → Writes (answered_of (fit_with h n vs l text)) (day_with h n vs l text) room w room
   unfolding answered_of fit_of
   unfit f q =
@@ -85,12 +86,12 @@ module _ (h : DayHead) (n : ℕ) (vs : List ℕ) (l : Five) (text : List ℕ) {m
   unfolding measured_of answered_of fit_of
   unfit-measured f q = rw (unfit-if (fit_with h n vs l text) (length (values_text vs)) (sym f ∙ e)) q
 
-  pub fit-measured : {k b r : ℕ} → m ≡ Bytes k → Sizes (day_with h n vs l text) b r → written_as (Block b r) ≡ measured_of (fit_with h n vs l text) (day_with h n vs l text)
+  pub fit-measured : {k b r : ℕ} → m ≡ Bytes k → Sizes (day_with h n vs l text) b r → written_as (Ok (record { bytes = b; records = r })) ≡ measured_of (fit_with h n vs l text) (day_with h n vs l text)
   unfolding measured_of answered_of placed_of
   fit-measured f s =
       rw (is-fit f, le-leb (length (block_of (day_with h n vs l text))) (length (block_of (day_with h n vs l text))) (omega arith)) (ap₂ (λ (x y : ℕ). accepted (x ∷ y ∷ [])) s.bytes-are s.records-are)
 
-  pub fit_written : {k : ℕ} {w : Written} {room after : List ℕ} → m ≡ Bytes k
+  pub fit_written : {k : ℕ} {w : Result Written Refusal} {room after : List ℕ} → m ≡ Bytes k
       → Writes placed_of (day_with h n vs l text) room w after
       → Writes (answered_of (fit_with h n vs l text)) (day_with h n vs l text) room w after
   unfolding answered_of
@@ -184,7 +185,7 @@ module _ (h : DayHead) (vs fs ms rs ss ls text : List ℕ) {n : ℕ} (e : n ≡ 
       unfolding measured_of
       day-measured q = rw same-day (q ∙ answered _)
 
-      module _ (room : List ℕ) {w : Written} {after : List ℕ}
+      module _ (room : List ℕ) {w : Result Written Refusal} {after : List ℕ}
           (x : Writes (answered_of (fit_with h n (take n vs) (five fs ms rs ss ls) text)) (day_with h n (take n vs) (five fs ms rs ss ls) text) room w after) where
         pub day-answer : written_as w ≡ write_of (given h vs fs ms rs ss ls text) (length room)
         day-answer = x.answer ∙ answered (length room)

@@ -27,7 +27,7 @@ fn write_fit(
     room: &mut [u8],
     n: usize,
     k: usize,
-) -> Written
+) -> Result<Written, Refusal>
     requires { FitDay day n values.now (five flags.now methods.now reasons.now starts.now lengths.now) text.now × (k ≡ length (values_text values.now)) }
     ensures { Writes placed_of (day_with day n values.now (five flags.now methods.now reasons.now starts.now lengths.now) text.now) room.old result room.new }
 {
@@ -37,15 +37,15 @@ fn write_fit(
     let b = size.bytes;
     let r = size.records;
     if room.len() < b {
-        return Written::Refused(Refusal::bare(15));
+        return Err(Refusal::bare(15));
     }
     put_block(
         room, day, values, flags, methods, reasons, starts, lengths, text, n, r,
     );
-    Written::Block {
+    Ok(Written {
         bytes: b,
         records: r,
-    }
+    })
 }
 
 // A day whose lists are long enough.
@@ -60,7 +60,7 @@ fn write_long(
     text: &[u8],
     room: &mut [u8],
     n: usize,
-) -> Written
+) -> Result<Written, Refusal>
     requires { Ready n values.now (five flags.now methods.now reasons.now starts.now lengths.now) }
     ensures { Writes (answered_of (fit_with day n values.now (five flags.now methods.now reasons.now starts.now lengths.now) text.now)) (day_with day n values.now (five flags.now methods.now reasons.now starts.now lengths.now) text.now) room.old result room.new }
 {
@@ -68,7 +68,7 @@ fn write_long(
         day, values, flags, methods, reasons, starts, lengths, text, n,
     );
     match m {
-        Measured::Unfit => Written::Refused(Refusal::bare(16)),
+        Measured::Unfit => Err(Refusal::bare(16)),
         Measured::Bytes(k) => write_fit(
             day, values, flags, methods, reasons, starts, lengths, text, room, n, k,
         ),
@@ -86,13 +86,13 @@ pub fn write_day(
     lengths: &[usize],
     text: &[u8],
     room: &mut [u8],
-) -> Written
+) -> Result<Written, Refusal>
     ensures answer { written_as result ≡ write_of (given day values.now flags.now methods.now reasons.now starts.now lengths.now text.now) (length room.old) }
     ensures left { room.new ≡ room_of (given day values.now flags.now methods.now reasons.now starts.now lengths.now text.now) room.old }
 {
     let n = intervals(day.length as u64);
     if n == 0 {
-        return Written::Refused(Refusal::bare(16));
+        return Err(Refusal::bare(16));
     }
     if !enough(
         n,
@@ -103,7 +103,7 @@ pub fn write_day(
         starts.len(),
         lengths.len(),
     ) {
-        return Written::Refused(Refusal::bare(15));
+        return Err(Refusal::bare(15));
     }
     write_long(
         day,
@@ -130,7 +130,7 @@ fn measure_long(
     lengths: &[usize],
     text: &[u8],
     n: usize,
-) -> Written
+) -> Result<Written, Refusal>
     requires { Ready n values.now (five flags.now methods.now reasons.now starts.now lengths.now) }
     ensures { written_as result ≡ measured_of (fit_with day n values.now (five flags.now methods.now reasons.now starts.now lengths.now) text.now) (day_with day n values.now (five flags.now methods.now reasons.now starts.now lengths.now) text.now) }
 {
@@ -138,15 +138,15 @@ fn measure_long(
         day, values, flags, methods, reasons, starts, lengths, text, n,
     );
     match m {
-        Measured::Unfit => Written::Refused(Refusal::bare(16)),
+        Measured::Unfit => Err(Refusal::bare(16)),
         Measured::Bytes(k) => {
             let size = measure_block(
                 day, values, k, flags, methods, reasons, starts, lengths, text, n,
             );
-            Written::Block {
+            Ok(Written {
                 bytes: size.bytes,
                 records: size.records,
-            }
+            })
         }
     }
 }
@@ -161,12 +161,12 @@ pub fn measure_day(
     starts: &[usize],
     lengths: &[usize],
     text: &[u8],
-) -> Written
+) -> Result<Written, Refusal>
     ensures { written_as result ≡ write_of (given day values.now flags.now methods.now reasons.now starts.now lengths.now text.now) (length (block_of (day_given (given day values.now flags.now methods.now reasons.now starts.now lengths.now text.now)))) }
 {
     let n = intervals(day.length as u64);
     if n == 0 {
-        return Written::Refused(Refusal::bare(16));
+        return Err(Refusal::bare(16));
     }
     if !enough(
         n,
@@ -177,7 +177,7 @@ pub fn measure_day(
         starts.len(),
         lengths.len(),
     ) {
-        return Written::Refused(Refusal::bare(15));
+        return Err(Refusal::bare(15));
     }
     measure_long(
         day,

@@ -5,8 +5,8 @@ use Rattle.alone.proofs.block_date.Goals as goal
 pub head_at-h-requires : goal.head_at-h-requires
 head_at-h-requires c = (search block-order, search block_within)
 
-pub returns-in-Stopped : goal.returns-in-Stopped
-returns-in-Stopped c = search (date-none, date-is)
+pub returns-in-Err : goal.returns-in-Err
+returns-in-Err c = search (date-none, date-is)
 
-pub returns-in-Block : goal.returns-in-Block
-returns-in-Block c = search (date-none, date-is)
+pub returns-in-Ok : goal.returns-in-Ok
+returns-in-Ok c = search (date-none, date-is)

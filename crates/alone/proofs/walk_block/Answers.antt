@@ -1,15 +1,19 @@
 -- `alone::walk_block` meets its contract. Assumes nothing.
-use Rattle.alone.proofs.Walks.{walking-first, stands-first, turned-walking, entire-stopped, entire-on}
+use Rattle.alone.proofs.Walks.{walking-first, stands-first, entire-stopped, entire-on}
+use mathlib.Core.Path.{refl}
+use Rattle.std.proofs.lemmas.Result.{err_from_is_err_and}
 use Rattle.alone.proofs.walk_block.Goals as goal
 
-pub over-turn-requires : goal.over-turn-requires
-over-turn-requires c = (search walking-first, search stands-first)
+pub over-requires : goal.over-requires
+over-requires c = (search walking-first, search stands-first)
 
 pub walk_from-requires : goal.walk_from-requires
-walk_from-requires c = search turned-walking
+walk_from-requires c = c.in_ok-next.ensures.0
 
-pub returns-in-On : goal.returns-in-On
-returns-in-On c = search entire-on
+pub returns : goal.returns
+returns c = entire-on _ _ _ _ _ c.new-t.ensures _ c.in_ok-next.ensures refl _ c.walk_from.ensures
 
-pub returns-in-Stop : goal.returns-in-Stop
-returns-in-Stop c = search entire-stopped
+pub returns-in_err-next : goal.returns-in_err-next
+returns-in_err-next c =
+    let p = err_from_is_err_and c.from_residual.result c.from_residual.ensures.1 in
+    rw (p.1, p.2) (entire-stopped _ _ _ _ _ c.new-t.ensures _ c.in_err-next.ensures refl)

@@ -18,8 +18,8 @@ intervals_of-requires c = (search days-order, search days-end)
 pub add_days-requires : goal.add_days-requires
 add_days-requires c = (search days-room, search rules)
 
-pub returns-in-Missing : goal.returns-in-Missing
-returns-in-Missing c = search channel-missing
+pub returns-in_default : goal.returns-in_default
+returns-in_default c = search channel-missing
 
 pub returns-in-Quantity : goal.returns-in-Quantity
 returns-in-Quantity c = search channel-quantity

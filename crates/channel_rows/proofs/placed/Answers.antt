@@ -18,5 +18,5 @@ returns-in-Days c = search placed-days
 pub returns-in-Quantity : goal.returns-in-Quantity
 returns-in-Quantity c = search placed-quantity
 
-pub returns-in-Missing : goal.returns-in-Missing
-returns-in-Missing c = search placed-missing
+pub returns-in_default : goal.returns-in_default
+returns-in_default c = search placed-missing

@@ -2,8 +2,8 @@
 use Rattle.day_rows.proofs.Showing.{no-day-there, no-day-refused}
 use Rattle.day_rows.proofs.no_day_in.Goals as goal
 
-pub returns-in-Accepted : goal.returns-in-Accepted
-returns-in-Accepted c = search no-day-there
+pub returns-in-Ok : goal.returns-in-Ok
+returns-in-Ok c = search no-day-there
 
-pub returns-in-Refused : goal.returns-in-Refused
-returns-in-Refused c = search no-day-refused
+pub returns-in-Err : goal.returns-in-Err
+returns-in-Err c = search no-day-refused

@@ -12,8 +12,8 @@ unit_of-requires c = (search under-order, search under-within)
 pub read_at-requires : goal.read_at-requires
 read_at-requires c = search day-here
 
-pub returns-in-Missing : goal.returns-in-Missing
-returns-in-Missing c = search day-missing
+pub returns-in-None : goal.returns-in-None
+returns-in-None c = search day-missing
 
-pub returns-in-At : goal.returns-in-At
-returns-in-At c = search day-found
+pub returns-in-Some : goal.returns-in-Some
+returns-in-Some c = search day-found

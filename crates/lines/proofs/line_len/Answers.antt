@@ -1,5 +1,4 @@
 -- `lines::line_len` meets its contract. Assumes nothing.
-use Prim.Native.Nat.{◌+◌}
 use Rattle.ground.proofs.Tests.{and-false}
 use Rattle.lines.proofs.Ends.{line_on, line-stop, line-out}
 use borrow.Author.Tests.{ne_eqb}

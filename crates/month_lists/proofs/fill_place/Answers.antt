@@ -11,13 +11,13 @@ pub unit_of-unit-requires : goal.unit_of-unit-requires
 unit_of-unit-requires c = (search under-order, search under-within)
 
 pub fill_stretch-t-requires : goal.fill_stretch-t-requires
-fill_stretch-t-requires c = (search day-here, reaches _ _ _ _ _ 0 _ c.in-At.is c.intervals_of-n.ensures _ _ _ c.requires.2)
+fill_stretch-t-requires c = (search day-here, reaches _ _ _ 0 _ c.in-Some.is c.intervals_of-n.ensures _ _ _ c.requires.2)
 
 pub note_day-requires : goal.note_day-requires
 note_day-requires c = c.requires.2.daily
 
-pub returns-in-Missing : goal.returns-in-Missing
-returns-in-Missing c = record { n = search none-n; lists = search none-laid }
+pub returns-in-None : goal.returns-in-None
+returns-in-None c = record { n = search none-n; lists = search none-laid }
 
-pub returns-in-At : goal.returns-in-At
-returns-in-At c = record { n = first-n _ _ _ _ _ 0 _ c.in-At.is c.intervals_of-n.ensures; lists = day-laid _ _ _ _ _ _ _ c.in-At.is c.intervals_of-n.ensures _ _ _ c.requires.2 _ _ _ _ _ _ c.unit_of-unit.ensures c.fill_stretch-t.ensures c.note_day.ensures }
+pub returns-in-Some : goal.returns-in-Some
+returns-in-Some c = record { n = first-n _ _ _ 0 _ c.in-Some.is c.intervals_of-n.ensures; lists = day-laid _ _ _ _ _ c.in-Some.is c.intervals_of-n.ensures _ _ _ c.requires.2 _ _ _ _ _ _ c.unit_of-unit.ensures c.fill_stretch-t.ensures c.note_day.ensures }

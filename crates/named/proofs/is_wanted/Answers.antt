@@ -6,8 +6,8 @@ use Rattle.named.proofs.is_wanted.Goals as goal
 pub has_key-requires : goal.has_key-requires
 has_key-requires c = (search day-order, search room-behind, search heads-found)
 
-pub returns-in-At : goal.returns-in-At
-returns-in-At c = search wanted-at
+pub returns-in-Some : goal.returns-in-Some
+returns-in-Some c = search wanted-at
 
-pub returns-in-Missing : goal.returns-in-Missing
-returns-in-Missing c = search wanted-none
+pub returns-in-None : goal.returns-in-None
+returns-in-None c = search wanted-none

@@ -9,8 +9,8 @@ intervals_of-requires c = (search under-order, search under-within)
 pub add_day-requires : goal.add_day-requires
 add_day-requires c = (search day-order, search day-within, search few-intervals)
 
-pub returns-in-At : goal.returns-in-At
-returns-in-At c = search sum-there
+pub returns-in-Some : goal.returns-in-Some
+returns-in-Some c = search sum-there
 
-pub returns-in-Missing : goal.returns-in-Missing
-returns-in-Missing c = search sum-none
+pub returns-in-None : goal.returns-in-None
+returns-in-None c = search sum-none

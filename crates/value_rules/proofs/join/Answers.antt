@@ -13,7 +13,7 @@ pub returns-in_err-whole : goal.returns-in_err-whole
 returns-in_err-whole c = c.from_residual.ensures ∙ none-whole _ c.in_err-whole.was
 
 pub returns-in_err-millionths : goal.returns-in_err-millionths
-returns-in_err-millionths c = c.from_residual-2.ensures ∙ none-behind _ c.in_err-millionths.was
+returns-in_err-millionths c = c.from_residual-in_err-millionths.ensures ∙ none-behind _ c.in_err-millionths.was
 
 pub returns : goal.returns
 returns c = search (join_is, c.in_ok-whole.was, c.in_ok-millionths.was)

@@ -2,8 +2,8 @@
 use Rattle.verdict.proofs.Saying.{said-accepted, said-refused, status-accepted, status-refused}
 use Rattle.verdict.proofs.said.Goals as goal
 
-pub returns-in-Accepted : goal.returns-in-Accepted
-returns-in-Accepted c = record { says = search said-accepted; status = search status-accepted }
+pub returns-in-Ok : goal.returns-in-Ok
+returns-in-Ok c = record { says = search said-accepted; status = search status-accepted }
 
-pub returns-in-Refused : goal.returns-in-Refused
-returns-in-Refused c = record { says = search said-refused; status = search status-refused }
+pub returns-in-Err : goal.returns-in-Err
+returns-in-Err c = record { says = search said-refused; status = search status-refused }

@@ -5,8 +5,8 @@ use Rattle.whose.proofs.found_noted.Goals as goal
 pub found_at-requires : goal.found_at-requires
 found_at-requires c = search stands
 
-pub returns-in-Missing : goal.returns-in-Missing
-returns-in-Missing c = search find_none
+pub returns-in-None : goal.returns-in-None
+returns-in-None c = search find_none
 
-pub returns-in-At : goal.returns-in-At
-returns-in-At c = search find_at
+pub returns-in-Some : goal.returns-in-Some
+returns-in-Some c = search find_at

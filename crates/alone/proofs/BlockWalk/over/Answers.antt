@@ -13,12 +13,12 @@ returns-then-is_foreign c = search turned-4
 
 pub overflow_add-result : goal.overflow_add-result
 overflow_add-result c =
-    let h : c.args.self.at + c.in-Stop.o ≤ c.args.found.end = search stop-within in
+    let h : c.args.self.at + c.in-Err.x.place ≤ c.args.found.end = search stop-within in
     let r = over-room _ _ _ c.requires.0 _ c.requires.1 in
     omega (arith, h, r)
 
-pub returns-in-Stop : goal.returns-in-Stop
-returns-in-Stop c = search turned-stop
+pub returns-in-Err : goal.returns-in-Err
+returns-in-Err c = search turned-stop
 
-pub returns-in-On : goal.returns-in-On
-returns-in-On c = search turned_on
+pub returns-in-Ok : goal.returns-in-Ok
+returns-in-Ok c = search turned_on

@@ -3,8 +3,8 @@ use Rattle.format.specs.Answers.{checked_as}
 use Rattle.answer_lines.proofs.Answered.{line-is}
 use Rattle.answer_lines.proofs.answers.checked.Goals as goal
 
-pub returns-in-Accepted : goal.returns-in-Accepted
-returns-in-Accepted c = search (line-is checked_as)
+pub returns-in-Ok : goal.returns-in-Ok
+returns-in-Ok c = search (line-is checked_as)
 
-pub returns-in-Refused : goal.returns-in-Refused
-returns-in-Refused c = search (line-is checked_as)
+pub returns-in-Err : goal.returns-in-Err
+returns-in-Err c = search (line-is checked_as)

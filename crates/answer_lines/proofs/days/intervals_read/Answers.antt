@@ -3,5 +3,5 @@ use Rattle.answer_lines.proofs.Answered.{read-intervals}
 use borrow.Author.Rules.{rules}
 use Rattle.answer_lines.proofs.days.intervals_read.Goals as goal
 
-pub returns-in-Read : goal.returns-in-Read
-returns-in-Read c = search (read-intervals, rules)
+pub returns-in-Ok : goal.returns-in-Ok
+returns-in-Ok c = search (read-intervals, rules)

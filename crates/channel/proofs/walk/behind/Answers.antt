@@ -17,5 +17,5 @@ returns-in-Days c = search behind-days
 pub returns-in-Quantity : goal.returns-in-Quantity
 returns-in-Quantity c = search behind-quantity
 
-pub returns-in-Missing : goal.returns-in-Missing
-returns-in-Missing c = search behind-none
+pub returns-in_default : goal.returns-in_default
+returns-in_default c = search behind-none

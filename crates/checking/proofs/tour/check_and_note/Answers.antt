@@ -21,32 +21,32 @@ pub step-step-requires : goal.step-step-requires
 step-step-requires c = (search rules, search handed-looked)
 
 pub overflow_add-at : goal.overflow_add-at
-overflow_add-at c = let h : c.loop-st.t.at + c.in-Stop.o ≤ c.in-At.found.end = search stop-within in let r : c.in-At.found.end + 2 ≤ length c.args.file.now = search handed-room in omega (arith, h, r, c.loop-st.invariant.short)
+overflow_add-at c = let h : c.loop-st.t.at + c.in-Err.x.place ≤ c.in-Some.found.end = search stop-within in let r : c.in-Some.found.end + 2 ≤ length c.args.file.now = search handed-room in omega (arith, h, r, c.loop-st.invariant.short)
 
-pub returns-in-Stop : goal.returns-in-Stop
-returns-in-Stop c = record {
-  is = refused-answer _ _ _ _ _ c.refused-in-Stop.ensures
-      (turned-stop _ _ _ c.loop-st.st c.loop-st.t c.loop-st.invariant c.loop-st-test.true _ c.record_at-handed.ensures _ _ c.in-At.is _ c.step-step.ensures.0 _ _ _ c.in-Stop.is _
-      c.place_of-in-Stop.ensures);
+pub returns-in-Err : goal.returns-in-Err
+returns-in-Err c = record {
+  is = refused-answer _ _ _ _ _ c.refused-in-Err.ensures
+      (turned-stop _ _ _ c.loop-st.st c.loop-st.t c.loop-st.invariant c.loop-st-test.true _ c.record_at-handed.ensures _ _ c.in-Some.is _ c.step-step.ensures.0 _ c.in-Err.is _
+      c.place_of-in-Err.ensures);
   day = search refused-day;
-  before = refused-before _ _ _ _ _ c.refused-in-Stop.ensures
-      (turned-stop _ _ _ c.loop-st.st c.loop-st.t c.loop-st.invariant c.loop-st-test.true _ c.record_at-handed.ensures _ _ c.in-At.is _ c.step-step.ensures.0 _ _ _ c.in-Stop.is _
-      c.place_of-in-Stop.ensures);
+  before = refused-before _ _ _ _ _ c.refused-in-Err.ensures
+      (turned-stop _ _ _ c.loop-st.st c.loop-st.t c.loop-st.invariant c.loop-st-test.true _ c.record_at-handed.ensures _ _ c.in-Some.is _ c.step-step.ensures.0 _ c.in-Err.is _
+      c.place_of-in-Err.ensures);
   channel = search refused-channel;
 }
 
 pub overflow_add-e : goal.overflow_add-e
-overflow_add-e c = let r : c.in-At.found.end + 2 ≤ length c.args.file.now = search handed-room in omega (arith, r, c.loop-st.invariant.short)
+overflow_add-e c = let r : c.in-Some.found.end + 2 ≤ length c.args.file.now = search handed-room in omega (arith, r, c.loop-st.invariant.short)
 
 pub turn-t-requires : goal.turn-t-requires
 turn-t-requires c = search turn-few
 
 pub loop-st-smaller : goal.loop-st-smaller
-loop-st-smaller c = turn-less _ _ _ c.loop-st.st c.loop-st.t c.loop-st.invariant c.loop-st-test.true _ c.record_at-handed.ensures _ _ c.in-At.is _ c.in-On.s c.turn-t.ensures
+loop-st-smaller c = turn-less _ _ _ c.loop-st.st c.loop-st.t c.loop-st.invariant c.loop-st-test.true _ c.record_at-handed.ensures _ _ c.in-Some.is _ c.in-Ok.s c.turn-t.ensures
 
 pub loop-st-preserved : goal.loop-st-preserved
 loop-st-preserved c =
-    turn-touring _ _ _ c.loop-st.st c.loop-st.t c.loop-st.invariant c.loop-st-test.true _ c.record_at-handed.ensures _ _ c.in-At.is _ c.step-step.ensures.0 c.step-step.ensures.1 _ c.in-On.is _
+    turn-touring _ _ _ c.loop-st.st c.loop-st.t c.loop-st.invariant c.loop-st-test.true _ c.record_at-handed.ensures _ _ c.in-Some.is _ c.step-step.ensures.0 c.step-step.ensures.1 _ c.in-Ok.is _
     c.turn-t.ensures
 
 pub returns : goal.returns

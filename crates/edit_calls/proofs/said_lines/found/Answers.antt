@@ -3,8 +3,8 @@ use Rattle.whose.specs.Whose.{day_found_as}
 use Rattle.answer_lines.proofs.Answered.{line-is}
 use Rattle.edit_calls.proofs.said_lines.found.Goals as goal
 
-pub returns-in-At : goal.returns-in-At
-returns-in-At c = search (line-is day_found_as)
+pub returns-in-Ok : goal.returns-in-Ok
+returns-in-Ok c = search (line-is day_found_as)
 
-pub returns-in-Refused : goal.returns-in-Refused
-returns-in-Refused c = search (line-is day_found_as)
+pub returns-in-Err : goal.returns-in-Err
+returns-in-Err c = search (line-is day_found_as)
