@@ -103,7 +103,7 @@ fn put_placed(
     file: &[u8],
     k: usize,
     before: usize,
-    place: Place,
+    place: Option<Place>,
     x: Result<DayRead, Refusal>,
     values: &[u64],
     flags: &[u8],
@@ -112,7 +112,7 @@ fn put_placed(
     starts: &[usize],
     lengths: &[usize],
 ) -> Turned {
-    let Place::At(_, _, two_hundred) = place else {
+    let Some(found) = place else {
         return Turned {
             held: before,
             status: FAILED,
@@ -138,7 +138,7 @@ fn put_placed(
         file,
         k,
         before,
-        part(file, two_hundred.at, two_hundred.end),
+        part(file, found.under.at, found.under.end),
         day,
         values,
         flags,
