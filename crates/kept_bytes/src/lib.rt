@@ -12,10 +12,7 @@ use slots::read_header;
 pub fn made_from(x: Result<usize, Refusal>) -> usize
     ensures { result ≡ kept_from (made_as x) 32 }
 {
-    match x {
-        Ok(_) => 32,
-        Err(_) => 0,
-    }
+    x.map_or(0, |_| 32)
 }
 
 // Where the used bytes end.
