@@ -33,7 +33,15 @@ impl State {
     }
 
     // The own method of any other record; p and q are the places that it asks for.
-    fn on(self, file: &[u8], at: usize, e: usize, kind: u64, p: usize, q: usize) -> Result<State, Stop>
+    fn on(
+        self,
+        file: &[u8],
+        at: usize,
+        e: usize,
+        kind: u64,
+        p: usize,
+        q: usize,
+    ) -> Result<State, Stop>
         requires { Ready file.now at e kind p q self × (kind ≡ 400 → ⊥) }
         ensures { (step_as file.now result ≡ last_of (seen file.now self) kind (cells file.now at e)) × Holds file.now at e result }
     {

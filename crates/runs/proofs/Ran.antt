@@ -97,7 +97,7 @@ module _ (file : List ℕ) (at e : ℕ) (y : Typed file at e 400 no_scale) where
 
       -- g is what the rule of a quality answers
       module _ (ei : Quality ≡ rule_of 400 no_scale i) {g : Option Grade} (q : g ≡ quality_of 400 (take (b + 1 + m - (b + 1)) (drop (b + 1) file))) where
-        pub quality-on : {f v : ℕ} → g ≡ Some (grade f v) → Along file at e 400 no_scale (i + 1) (b + 1 + m)
+        pub quality-on : {y : Grade} → g ≡ Some y → Along file at e 400 no_scale (i + 1) (b + 1 + m)
         unfolding obeys
         quality-on h = run_on Quality ei (sym (ap is_graded (sym q ∙ h))) refl
 
@@ -105,7 +105,7 @@ module _ (file : List ℕ) (at e : ℕ) (y : Typed file at e 400 no_scale) where
         unfolding obeys
         quality-stops h = run-stops Quality ei (sym (ap is_graded (sym q ∙ h))) refl
 
-        quality-is : {f v : ℕ} → g ≡ Some (grade f v) → Some (grade f v) ≡ quality_of 400 (field i fs)
+        quality-is : {y : Grade} → g ≡ Some y → Some (grade y.flag y.method) ≡ quality_of 400 (field i fs)
         quality-is h = sym h ∙ q ∙ ap (quality_of 400) said
 
       module _ (ei : Reason ≡ rule_of 400 no_scale i) {x : Option ℕ} (q : x ≡ reason_of (take (b + 1 + m - (b + 1)) (drop (b + 1) file))) where
@@ -166,8 +166,8 @@ module _ (file : List ℕ) (at e : ℕ) (y : Typed file at e 400 no_scale) where
 
   -- ---- what the next part is told
 
-  pub grades : (b m : ℕ) (l : Along file at e 400 no_scale 3 b) → m ≡ span_of (other 44) (take (e - (b + 1)) (drop (b + 1) file)) → {g : Option Grade} {f v : ℕ}
-      → g ≡ quality_of 400 (take (b + 1 + m - (b + 1)) (drop (b + 1) file)) → g ≡ Some (grade f v) → Grades file at e (b + 1) f v
+  pub grades : (b m : ℕ) (l : Along file at e 400 no_scale 3 b) → m ≡ span_of (other 44) (take (e - (b + 1)) (drop (b + 1) file)) → {g : Option Grade} {y : Grade}
+      → g ≡ quality_of 400 (take (b + 1 + m - (b + 1)) (drop (b + 1) file)) → g ≡ Some y → Grades file at e (b + 1) y.flag y.method
   grades b m l em q h =
       record { place = starts 3 b l (omega arith); is = quality-is 3 b l (omega arith) m em row-quality q h }
 

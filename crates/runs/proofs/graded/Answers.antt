@@ -17,4 +17,4 @@ pub returns-in_default : goal.returns-in_default
 returns-in_default c = quality-stops _ _ _ c.requires.0 3 _ c.requires.1 (omega arith) _ c.field_end.ensures.is row-quality c.quality-g.ensures c.in_default.is
 
 pub reasoned-requires : goal.reasoned-requires
-reasoned-requires c = (c.requires.0, (quality-on _ _ _ c.requires.0 3 _ c.requires.1 (omega arith) _ c.field_end.ensures.is row-quality c.quality-g.ensures c.in-Of.is), c.requires.2, grades _ _ _ c.requires.0 _ _ c.requires.1 c.field_end.ensures.is c.quality-g.ensures c.in-Of.is)
+reasoned-requires c = (c.requires.0, (quality-on _ _ _ c.requires.0 3 _ c.requires.1 (omega arith) _ c.field_end.ensures.is row-quality c.quality-g.ensures c.in-Some.is), c.requires.2, grades _ _ _ c.requires.0 _ _ c.requires.1 c.field_end.ensures.is c.quality-g.ensures c.in-Some.is)

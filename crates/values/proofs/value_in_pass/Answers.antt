@@ -3,8 +3,8 @@ use Rattle.values.proofs.Fields.{taken_is, taken-small, taken-cut}
 use native.Mathlib.Omega.{arith}
 use Rattle.values.proofs.value_in_pass.Goals as goal
 
-pub short_at-t-requires : goal.short_at-t-requires
-short_at-t-requires c = (omega arith, omega arith)
+pub short_at-requires : goal.short_at-requires
+short_at-requires c = (omega arith, omega arith)
 
-pub returns-in-valued : goal.returns-in-Value
-returns-in-valued c = search (taken_is, taken-small, taken-cut)
+pub returns-in-Some : goal.returns-in-Some
+returns-in-Some c = search (taken_is, taken-small, taken-cut)

@@ -1,5 +1,6 @@
 -- `order::State::further` meets its contract. Assumes nothing.
 use Rattle.order.proofs.Chain.{typed-400, further-400, ready, walk-stops, walk-on}
+use Rattle.std.proofs.lemmas.Result.{err_from_is_err_and}
 use borrow.Author.Rules.{rules}
 use Rattle.order.proofs.State.further.Goals as goal
 
@@ -10,10 +11,12 @@ pub returns-then-kind-eq400 : goal.returns-then-kind-eq400
 returns-then-kind-eq400 c = (search further-400, search rules)
 
 pub on-requires : goal.on-requires
-on-requires c = (search ready, c.if-kind-eq400.false)
+on-requires c = (search (ready, c.in_ok-w.was), c.if-kind-eq400.false)
 
-pub returns-in-Broken : goal.returns-in-Broken
-returns-in-Broken c = walk-stops _ _ _ _ c.args.self _ c.check_fields-w.ensures _ _ c.in-Broken.is
+pub returns-in_err-w : goal.returns-in_err-w
+returns-in_err-w c =
+    let p = err_from_is_err_and c.from_residual.result c.from_residual.ensures.1 in
+    rw p.1 (walk-stops _ _ _ _ c.args.self _ c.check_fields-w.ensures c.in_err-w.was p.2)
 
-pub returns-in-Sound : goal.returns-in-Sound
-returns-in-Sound c = (search walk-on, search rules)
+pub returns : goal.returns
+returns c = (search (walk-on, c.in_ok-w.was), search rules)
