@@ -2,7 +2,7 @@
 use Prim.Native.Nat.{ℕ, ◌+◌, ◌-◌, ◌≤◌, ◌<◌}
 use mathlib.Core.Path.{◌≡◌, refl, sym, ◌∙◌}
 use mathlib.Core.List.{List}
-use mathlib.Core.Bool.{Bool, true, false, cond, not, ◌&&◌, true≢false}
+use mathlib.Core.Bool.{Bool, true, false, not, ◌&&◌, true≢false}
 use native.Mathlib.Omega.{arith}
 use Rattle.std.proofs.Common.{Result, Ok, Err}
 use lib.ListN.{length}
@@ -15,7 +15,6 @@ use Rattle.format.specs.Cut.{fields, field}
 use Rattle.format.specs.Records.{Scale, scale, no_scale, scale_for, kind_in, row_of, count_of, qualities_of, quantity_decimals}
 use Rattle.format.specs.Order.{Expected, may_come, Due, on100, on200, after_of}
 use Rattle.format.specs.Faults.{scale_of, is_open, broken_in, is_not_later, is_off, is_alike, is_elsewhere, fault_in, fault_at, fault_of, Fine, Stop}
-use Rattle.format.specs.declared.Tag.{Tag}
 use Rattle.lines.specs.Places.{Looked}
 use Rattle.record.specs.Walk.{first_asked, second_asked, Typed, Sound, Broken, Walks}
 use Rattle.runs.specs.Ran.{Ran, Runs}

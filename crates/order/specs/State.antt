@@ -92,12 +92,9 @@ unfoldable pub last_of : Due → ℕ → List (List ℕ) → Next
 last_of st k fs = or_stop (late_of st k fs) (after_of st k fs)
 
 -- what the code's step says
-abbrev pub stop_at : ℕ → ℕ → ℕ → stop.Stop
-stop_at x o i = record { number = x; place = o; field = i }
-
 -- a field that breaks its rule is 6
 abbrev pub stop_of : BadField → stop.Stop
-stop_of b = stop_at 6 b.place b.field
+stop_of b = record { number = 6; place = b.place; field = b.field }
 
 abbrev pub step_as : List ℕ → Result State stop.Stop → Next
 step_as file (Ok st) = goes (seen file st)

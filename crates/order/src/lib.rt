@@ -5,7 +5,7 @@ pub mod records;
 pub mod steps;
 
 ghost use Rattle.std.specs.Prelude.{◌≡◌};
-ghost use Rattle.order.specs.State.{stop_at, stop_of};
+ghost use Rattle.order.specs.State.{stop_of};
 
 use format::Tag;
 use record::BadField;
@@ -41,23 +41,15 @@ pub struct Stop {
     pub field: usize,
 }
 
-impl Stop {
-    pub fn new(number: u64, place: usize, field: usize) -> Stop
-        ensures { result ≡ stop_at number place field }
-    {
-        Stop {
-            number,
-            place,
-            field,
-        }
-    }
-}
-
 // A field that breaks its rule is 6.
 impl From<BadField> for Stop {
     ghost from_gives = { λ b s. s ≡ stop_of b };
 
     fn from(b: BadField) -> Stop {
-        Stop::new(6, b.place, b.field)
+        Stop {
+            number: 6,
+            place: b.place,
+            field: b.field,
+        }
     }
 }

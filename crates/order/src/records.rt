@@ -123,11 +123,19 @@ impl State {
     {
         let t = tag_at(file, p, e, 300);
         if !across(t.flag, t.reason, t.length) {
-            return Err(Stop::new(7, p - at, self.n + 3));
+            return Err(Stop {
+                number: 7,
+                place: p - at,
+                field: self.n + 3,
+            });
         }
         let d = date_at(file, at + 4, e);
         if d <= self.date {
-            return Err(Stop::new(8, 4, 2));
+            return Err(Stop {
+                number: 8,
+                place: 4,
+                field: 2,
+            });
         }
         Ok(State {
             expect: under(t.flag),
@@ -158,14 +166,26 @@ impl State {
         ensures { (step_as file.now result ≡ last_of (seen file.now self) 400 (cells file.now at e)) × Holds file.now at e result }
     {
         if !across(t.flag, t.reason, t.length) {
-            return Err(Stop::new(7, q - at, 4));
+            return Err(Stop {
+                number: 7,
+                place: q - at,
+                field: 4,
+            });
         }
         if !goes_on(self.next, self.n, from, to) {
-            return Err(Stop::new(9, 4, 2));
+            return Err(Stop {
+                number: 9,
+                place: 4,
+                field: 2,
+            });
         }
         let alike = self.alike_with(file, t);
         if whole(to, self.n, alike) {
-            return Err(Stop::new(11, 0, 0));
+            return Err(Stop {
+                number: 11,
+                place: 0,
+                field: 0,
+            });
         }
         Ok(State {
             expect: 4,
@@ -188,7 +208,11 @@ impl State {
     {
         let t = read_time_at(file, p, e);
         if !on_day(self.date, t) {
-            return Err(Stop::new(12, p - at, 4));
+            return Err(Stop {
+                number: 12,
+                place: p - at,
+                field: 4,
+            });
         }
         Ok(State::closed(
             5,
@@ -206,13 +230,23 @@ impl State {
         requires { Kept file.now at self × Here file.now at e 10 p × Here file.now at e 15 q }
         ensures { (step_as file.now result ≡ last_of (seen file.now self) 250 (cells file.now at e)) × Holds file.now at e result }
     {
+        let previous = p - at;
+        let current = q - at;
         let s = tag_at(file, p, e, 250);
         if !across(s.flag, s.reason, s.length) {
-            return Err(Stop::new(7, p - at, 11));
+            return Err(Stop {
+                number: 7,
+                place: previous,
+                field: 11,
+            });
         }
         let t = tag_at(file, q, e, 250);
         if !across(t.flag, t.reason, t.length) {
-            return Err(Stop::new(7, q - at, 16));
+            return Err(Stop {
+                number: 7,
+                place: current,
+                field: 16,
+            });
         }
         Ok(State::closed(7, self.version, 0, 0, 0, self.channels + 1, self.days))
     }

@@ -75,17 +75,33 @@ impl State {
     {
         let e = found.end;
         if found.bad < e {
-            return Err(Stop::new(3, found.bad - at, 0));
+            return Err(Stop {
+                number: 3,
+                place: found.bad - at,
+                field: 0,
+            });
         }
         let kind = kind_at(file, at, e);
         if is_open(self.expect, self.next, self.n, kind) {
-            return Err(Stop::new(10, 0, 0));
+            return Err(Stop {
+                number: 10,
+                place: 0,
+                field: 0,
+            });
         }
         if !may_come(self.expect, kind) {
-            return Err(Stop::new(4, 0, 0));
+            return Err(Stop {
+                number: 4,
+                place: 0,
+                field: 0,
+            });
         }
         if found.commas + 1 != count_of(kind, self.n) {
-            return Err(Stop::new(5, 0, 0));
+            return Err(Stop {
+                number: 5,
+                place: 0,
+                field: 0,
+            });
         }
         self.further(file, at, e, kind)
     }

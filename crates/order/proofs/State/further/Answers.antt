@@ -16,7 +16,7 @@ on-requires c = (search (ready, c.in_ok-w.was), c.if-kind-eq400.false)
 pub returns-in_err-w : goal.returns-in_err-w
 returns-in_err-w c =
     let p = err_from_is_err_and c.from_residual.result c.from_residual.ensures.1 in
-    rw p.1 (walk-stops _ _ _ _ c.args.self _ c.check_fields-w.ensures c.in_err-w.was p.2)
+    rw p.1 (walk-stops _ _ _ _ c.args.self _ c.check_fields.ensures c.in_err-w.was p.2)
 
 pub returns : goal.returns
 returns c = (search (walk-on, c.in_ok-w.was), search rules)

@@ -10,7 +10,7 @@ on_400-requires c = (search rules, search behind-400, search (ran, c.in_ok-r.was
 pub returns-in_err-r : goal.returns-in_err-r
 returns-in_err-r c =
     let p = err_from_is_err_and c.from_residual.result c.from_residual.ensures.1 in
-    rw p.1 (run-stops _ _ _ _ c.run_at-r.ensures c.args.self c.in_err-r.was p.2)
+    rw p.1 (run-stops _ _ _ _ c.run_at.ensures c.args.self c.in_err-r.was p.2)
 
 pub returns : goal.returns
 returns c = (search (run_on, c.in_ok-r.was), search rules)
