@@ -50,7 +50,12 @@ fn put_copy(memory: &mut [u8], n: u32, k: u32, first: u32)
 }
 
 // A version of 128 entries that adding takes.
-pub fn append_given(memory: &mut [u8], first: u32, keys: &[u8], shares: &[u16]) -> Result<usize, Refusal>
+pub fn append_given(
+    memory: &mut [u8],
+    first: u32,
+    keys: &[u8],
+    shares: &[u16],
+) -> Result<usize, Refusal>
     requires { (is_map memory.old ≡ true) × (1536 ≤ length keys.now) × (128 ≤ length shares.now) }
     ensures { left (versioned_as result) memory.new ≡ append_of memory.old (version first (kept_given keys.now shares.now)) }
 {

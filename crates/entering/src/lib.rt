@@ -7,9 +7,8 @@ ghost use Rattle.entries.specs.Left.{left};
 ghost use Rattle.store.specs.Calls.{kept_as};
 ghost use Rattle.entering.specs.Enters.{Enterable, entered_of};
 
-use format::Refusal;
 use entries::Entry;
-use format::DayHead;
+use format::{DayHead, Refusal};
 use slots::{place, write_entry, write_header};
 use store::Header;
 use used_map::{count, set_used};

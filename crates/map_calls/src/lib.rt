@@ -10,10 +10,10 @@ ghost use Rattle.entries.specs.Left.{left};
 ghost use Rattle.tenants.specs.Calls.{versioned_as, mapped, make_of, add_of, back_of, on_of};
 ghost use Rattle.map_calls.specs.Lines.{left_text, make_text, add_text, on_text, lent_keys, lent_shares};
 
-use format::Refusal;
 use calls::PLACES;
 use calls::files::{BYTE_MARK, HALF_MARK};
 use calls::kept::end_line;
+use format::Refusal;
 use map_kept::{COUNT, are_kept, filled, is_kept_after};
 use page::texts::part;
 use tenant_map::{add_version, back_to, make_map, map_on};
@@ -104,7 +104,13 @@ pub fn back(
 
 // ---- the map on a date
 
-fn shown(page: &mut [u8], at: usize, x: Result<usize, Refusal>, keys: &[u8], shares: &[u16]) -> usize
+fn shown(
+    page: &mut [u8],
+    at: usize,
+    x: Result<usize, Refusal>,
+    keys: &[u8],
+    shares: &[u16],
+) -> usize
     ensures { Filled page.old at (on_text (mapped (versioned_as x) keys.now shares.now)) result page.new }
 {
     let n = filled(x);

@@ -6,9 +6,9 @@ ghost use Rattle.answer_lines.specs.Lines.{line_of};
 ghost use Rattle.tenants.specs.Calls.{versioned_as};
 ghost use Rattle.map_calls.specs.Lines.{key_text, output_text};
 
-use format::Refusal;
 use answer_lines::answers::{accepted, refusal};
 use calls::kept;
+use format::Refusal;
 use page::items::u16_at;
 use page::texts::{number, part, put};
 

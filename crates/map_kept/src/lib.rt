@@ -5,10 +5,10 @@ ghost use Rattle.std.specs.Prelude.{◌≡◌, ◌≤◌};
 ghost use Rattle.tenants.specs.Calls.{versioned_as};
 ghost use Rattle.map_kept.specs.Kept.{kept_but, kept_after, filled_in, lent_kept};
 
-use format::Refusal;
 use calls::files::{BYTE_MARK, HALF_MARK};
 use calls::kept;
 use edit_calls::is_kept;
+use format::Refusal;
 use leaf::bytes::same_bytes;
 use page::texts::part;
 
@@ -26,7 +26,13 @@ fn is_kept_but(memory: &[u8], was: &[u8], from: usize, to: usize) -> bool
 }
 
 // The same behind an accepted call, all of memory behind a refusal.
-pub fn is_kept_after(x: Result<usize, Refusal>, memory: &[u8], was: &[u8], from: usize, to: usize) -> bool
+pub fn is_kept_after(
+    x: Result<usize, Refusal>,
+    memory: &[u8],
+    was: &[u8],
+    from: usize,
+    to: usize,
+) -> bool
     ensures { result ≡ kept_after (versioned_as x) from to memory.now was.now }
 {
     match x {

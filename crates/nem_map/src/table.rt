@@ -58,7 +58,13 @@ fn is_passed_over(line: &[u8], number: u64) -> bool {
     same_bytes(line, b"output,NMI,suffix,share")
 }
 
-fn turn(line: &[u8], number: u64, keys: &mut [u8], shares: &mut [u16], named: &mut [u8]) -> Result<(), Fault> {
+fn turn(
+    line: &[u8],
+    number: u64,
+    keys: &mut [u8],
+    shares: &mut [u16],
+    named: &mut [u8],
+) -> Result<(), Fault> {
     if is_passed_over(line, number) {
         return Ok(());
     }
@@ -78,7 +84,12 @@ fn without_cr(text: &[u8], from: usize, to: usize) -> usize {
 
 // ---- all lines
 
-fn read_lines(text: &[u8], keys: &mut [u8], shares: &mut [u16], named: &mut [u8]) -> Result<(), Wrong> {
+fn read_lines(
+    text: &[u8],
+    keys: &mut [u8],
+    shares: &mut [u16],
+    named: &mut [u8],
+) -> Result<(), Wrong> {
     let mut at: usize = 0;
     let mut line: u64 = 1;
     while at < text.len() {

@@ -1,6 +1,6 @@
 // What a splitting answers, as a table of the outputs on the channel.
-use format::Refusal;
 use super::refused::{no_shares, no_version};
+use format::Refusal;
 use kept_files::no_map;
 use keys::same_capitals;
 use leaf::bytes::same_bytes;

@@ -11,10 +11,10 @@ ghost use Rattle.entries.specs.Left.{left};
 ghost use Rattle.splits.specs.Calls.{split_as, split_of, split_day_of, split_stored_of};
 ghost use Rattle.split_calls.specs.Lines.{set_in, split_text, lent_parts};
 
-use format::Refusal;
 use calls::PLACES;
 use calls::files::WIDE_MARK;
 use calls::kept::{end_line, wide};
+use format::Refusal;
 use splitter::{split, split_day, split_stored};
 
 // How many parts the call has set.

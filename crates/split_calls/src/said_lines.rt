@@ -5,8 +5,8 @@ ghost use Rattle.answer_lines.specs.Lines.{line_of};
 ghost use Rattle.splits.specs.Calls.{split_as};
 ghost use Rattle.split_calls.specs.Lines.{part_text};
 
-use format::Refusal;
 use answer_lines::answers::{accepted, refusal};
+use format::Refusal;
 use page::items::u64_at;
 use page::texts::{number, put};
 

@@ -46,7 +46,13 @@ fn put_channel(nmi: &[u8], suffix: &[u8], channel: &mut [u8])
 }
 
 // Splits over the outputs of a key in capitals, where nothing but the sum of their shares can refuse.
-fn split_known(total: u64, channel: &[u8], keys: &[u8], shares: &[u16], parts: &mut [u64]) -> Result<usize, Refusal>
+fn split_known(
+    total: u64,
+    channel: &[u8],
+    keys: &[u8],
+    shares: &[u16],
+    parts: &mut [u64],
+) -> Result<usize, Refusal>
     requires { Fit total keys.now shares.now parts.old }
     ensures { left (split_as result) parts.new ≡ shared_of total (has_key channel.now) (outputs_given 128 keys.now shares.now) parts.old }
 {
@@ -136,7 +142,12 @@ fn split_on(
 
 // Splits the sum of a day of a file by the map that memory holds, on the day's date. The file's own refusal comes first, then 14 if there is no such day; 21 if the
 // memory is no map, 14 if the date has no version; then as `split`.
-pub fn split_day(file: &[u8], day: usize, memory: &[u8], parts: &mut [u64]) -> Result<usize, Refusal>
+pub fn split_day(
+    file: &[u8],
+    day: usize,
+    memory: &[u8],
+    parts: &mut [u64],
+) -> Result<usize, Refusal>
     ensures { left (split_as result) parts.new ≡ split_day_of file.now day memory.now parts.old }
 {
     let at = seek_day(file, day)?;

@@ -29,7 +29,13 @@ use slot_reading::read_slot;
 use text::bytes::put_bytes;
 
 // The line of a put or a delete.
-fn changed(page: &mut [u8], at: usize, x: Result<usize, Refusal>, memory: &[u8], was: &[u8]) -> usize
+fn changed(
+    page: &mut [u8],
+    at: usize,
+    x: Result<usize, Refusal>,
+    memory: &[u8],
+    was: &[u8],
+) -> usize
     ensures { Filled page.old at (change_text (left (kept_as x) memory.now) was.now) result page.new }
 {
     let p = said_lines::kept(page, at, x);

@@ -43,7 +43,12 @@ fn are_enough(keys: usize, shares: usize) -> bool
 
 // Adds a version of 128 entries that holds from a date on, and answers its number. 21 if the memory is no map; 15 for fewer than 1,536 key bytes or 128 shares; 25
 // for an entry that a map may not have; 24 for a first date that is none or earlier than that of the last version; 23 if there are 32 versions.
-pub fn add_version(memory: &mut [u8], first: u32, keys: &[u8], shares: &[u16]) -> Result<usize, Refusal>
+pub fn add_version(
+    memory: &mut [u8],
+    first: u32,
+    keys: &[u8],
+    shares: &[u16],
+) -> Result<usize, Refusal>
     ensures { left (versioned_as result) memory.new ≡ add_of memory.old first keys.now shares.now }
 {
     if !is_map(memory) {
@@ -89,7 +94,12 @@ fn fill(memory: &[u8], i: u32, keys: &mut [u8], shares: &mut [u16])
 
 // The map on a date: answers the highest version whose first date is not later, and fills 1,536 key bytes and 128 shares. 21 if the memory is no map, 14 if the date
 // is none or has no version, 15 for shorter lists.
-pub fn map_on(memory: &[u8], date: u32, keys: &mut [u8], shares: &mut [u16]) -> Result<usize, Refusal>
+pub fn map_on(
+    memory: &[u8],
+    date: u32,
+    keys: &mut [u8],
+    shares: &mut [u16],
+) -> Result<usize, Refusal>
     ensures { mapped (versioned_as result) keys.new shares.new ≡ on_of memory.now date keys.old shares.old }
 {
     if !is_map(memory) {
