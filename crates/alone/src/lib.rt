@@ -188,7 +188,13 @@ fn walk_from(memory: &[u8], start: usize, first: BlockWalk) -> Result<usize, Ref
 }
 
 // The block from `start` to the memory's end, behind a 200 of n intervals whose values have at most so many decimals, where it has a record, which was looked at.
-fn walk_block(memory: &[u8], start: usize, found: Found, n: usize, decimals: usize) -> Result<usize, Refusal>
+fn walk_block(
+    memory: &[u8],
+    start: usize,
+    found: Found,
+    n: usize,
+    decimals: usize,
+) -> Result<usize, Refusal>
     requires { Stands memory.now start found × (n ≤ 288) × (decimals ≤ 6) }
     ensures { Entire memory.now start n decimals result }
 {
@@ -221,7 +227,12 @@ fn walk_bytes(memory: &[u8], start: usize, minutes: u32, unit: u8) -> Result<Wal
 
 // Whether the bytes from `start` to the memory's end are a day block behind a 200 of so many minutes and that unit: what it says and how many records it has,
 // or its first refusal. An interval length or a unit that is none is 16, before all else.
-pub fn check_block(memory: &[u8], start: usize, minutes: u32, unit: u8) -> Result<BlockChecked, Refusal>
+pub fn check_block(
+    memory: &[u8],
+    start: usize,
+    minutes: u32,
+    unit: u8,
+) -> Result<BlockChecked, Refusal>
     ensures { block_checked_as result ≡ block_check_of minutes unit (drop start memory.now) }
 {
     let block = walk_bytes(memory, start, minutes, unit)?;

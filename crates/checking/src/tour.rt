@@ -203,7 +203,11 @@ pub fn check_and_note(file: &[u8], day: usize, channel: usize) -> Noted
         let step = st.step(file, at, found);
         match step {
             Err(x) => {
-                return refused(place_of(x.number, at + x.place, t.records, x.field), day, channel);
+                return refused(
+                    place_of(x.number, at + x.place, t.records, x.field),
+                    day,
+                    channel,
+                );
             }
             Ok(s) => {
                 t = t.turn(e, e + 2, s, day, channel);

@@ -99,8 +99,7 @@ fn fill_place(
             let n = intervals_of(file, day.under.at, day.under.end);
             let unit = unit_of(file, day.under.at, day.under.end);
             let t = fill_stretch(
-                file, day.at, day.end, n, unit, k, values, flags, methods, reasons, starts,
-                lengths,
+                file, day.at, day.end, n, unit, k, values, flags, methods, reasons, starts, lengths,
             );
             note_day(t, n, unit, i, dates, counts, updates, loads, units);
             n

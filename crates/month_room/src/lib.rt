@@ -7,8 +7,8 @@ ghost use Rattle.format.specs.Day.{days_of, enough_for};
 ghost use Rattle.day.specs.Places.{DayAhead};
 ghost use Rattle.month_room.specs.Room.{fault_of};
 
-use day::walk::{behind, find_day, intervals_of};
 use day::DayStart;
+use day::walk::{behind, find_day, intervals_of};
 
 fn shorter(a: usize, b: usize) -> usize
     ensures { (n : ℕ) → leb n result ≡ (leb n a && leb n b) }

@@ -10,7 +10,7 @@ said_at-s-requires c = (block-order _ _ _ _ c.in_ok-block.ensures refl, block_wi
 pub returns-in_err-block : goal.returns-in_err-block
 returns-in_err-block c =
     let p = err_from_is_err_and c.from_residual.result c.from_residual.ensures.1 in
-    rw (p.1, p.2) (told-stopped c.args.memory.now c.args.start c.args.minutes c.args.unit c.walk_bytes.ensures c.in_err-block.was)
+    rw (p.1, p.2) (told-stopped c.args.memory.now c.args.start c.args.minutes c.args.unit c.in_err-block.ensures refl)
 
 pub returns : goal.returns
 returns c =

@@ -5,8 +5,8 @@ use borrow.Author.Rules.{rules}
 use native.Mathlib.Omega.{arith}
 use Rattle.month_room.proofs.fault.Goals as goal
 
-pub loop-under-init : goal.loop-under-init
-loop-under-init c = (search rules, search at_first, search none_yet_lem)
+pub loop-found-init : goal.loop-found-init
+loop-found-init c = (search rules, search at_first, search none_yet_lem)
 
 pub returns-in_default : goal.returns-in_default
 returns-in_default c = search fault-missing
@@ -23,8 +23,8 @@ returns-then-places-i c = search fault-places
 pub returns-then-day-last : goal.returns-then-day-last
 returns-then-day-last c = search fault-none
 
-pub loop-under-smaller : goal.loop-under-smaller
-loop-under-smaller c = omega arith
+pub loop-found-smaller : goal.loop-found-smaller
+loop-found-smaller c = omega arith
 
-pub loop-under-preserved : goal.loop-under-preserved
-loop-under-preserved c = (omega arith, search ahead, search fault-on)
+pub loop-found-preserved : goal.loop-found-preserved
+loop-found-preserved c = (omega arith, search ahead, search fault-on)
