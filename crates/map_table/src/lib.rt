@@ -125,13 +125,13 @@ pub fn row_of(line: &[u8]) -> Result<Row, Fault>
     if !has_four(line) {
         return Err(Fault::Fields);
     }
-    let Some(output) = number_up_to(field(line, OUTPUT), LAST_OUTPUT) else {
-        return Err(Fault::Output);
-    };
-    with_key(
-        output,
-        field(line, NMI),
-        field(line, SUFFIX),
-        field(line, SHARE),
-    )
+    match number_up_to(field(line, OUTPUT), LAST_OUTPUT) {
+        Some(output) => with_key(
+            output,
+            field(line, NMI),
+            field(line, SUFFIX),
+            field(line, SHARE),
+        ),
+        None => Err(Fault::Output),
+    }
 }
