@@ -2,7 +2,7 @@
 // own name, the file's, and the numbers of the first and the last day.
 #![tactic(auto)]
 
-use disk::{Loaded, load_word};
+use disk::load_word;
 use format::Refusal;
 use leaf::digits::digits;
 use machine::{Machine, PAGE, WORD};
@@ -79,7 +79,7 @@ fn read_into(rt: &impl Machine, page: &mut [u8], file: &[u8], first: usize, last
 }
 
 fn show(rt: &impl Machine, page: &mut [u8], room: &mut [u8]) -> u8 {
-    let Loaded::Bytes(k) = load_word(rt, 1, room) else {
+    let Some(k) = load_word(rt, 1, room) else {
         return FAILED;
     };
     read_into(rt, page, part(room, 0, k), day_word(rt, 2), day_word(rt, 3))

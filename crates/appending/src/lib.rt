@@ -11,27 +11,20 @@ use format::Refusal;
 use little::put_number;
 use moving::move_bytes;
 use output_bytes::put_outputs;
-use tenants::Versioned;
 use versions::{MOST, count, latest_date, may_follow, place};
 
 // Whether a version may be added: behind how many, or the number of the refusal.
-#[derive(Clone, Copy)]
-enum Next {
-    Behind(u32),
-    Refused(u64),
-}
-
-fn next_version(memory: &[u8], first: u32) -> Next
+fn next_version(memory: &[u8], first: u32) -> Result<u32, u64>
     ensures { result ≡ next_of memory.now first }
 {
     if !may_follow(latest_date(memory), first) {
-        return Next::Refused(24);
+        return Err(24);
     }
     let n = count(memory);
     if MOST <= n {
-        return Next::Refused(23);
+        return Err(23);
     }
-    Next::Behind(n)
+    Ok(n)
 }
 
 // The count is written last, so that what lies behind the versions in use is not taken for one before it is whole.
@@ -57,31 +50,26 @@ fn put_copy(memory: &mut [u8], n: u32, k: u32, first: u32)
 }
 
 // A version of 128 entries that adding takes.
-pub fn append_given(memory: &mut [u8], first: u32, keys: &[u8], shares: &[u16]) -> Versioned
+pub fn append_given(
+    memory: &mut [u8],
+    first: u32,
+    keys: &[u8],
+    shares: &[u16],
+) -> Result<usize, Refusal>
     requires { (is_map memory.old ≡ true) × (1536 ≤ length keys.now) × (128 ≤ length shares.now) }
     ensures { left (versioned_as result) memory.new ≡ append_of memory.old (version first (kept_given keys.now shares.now)) }
 {
-    let x = next_version(memory, first);
-    match x {
-        Next::Behind(n) => {
-            put_given(memory, n, first, keys, shares);
-            Versioned::Version(n as usize + 1)
-        }
-        Next::Refused(number) => Versioned::Refused(Refusal::bare(number)),
-    }
+    let n = next_version(memory, first).map_err(Refusal::bare)?;
+    put_given(memory, n, first, keys, shares);
+    Ok(n as usize + 1)
 }
 
 // A version with the entries of the one behind k others.
-pub fn append_copy(memory: &mut [u8], k: u32, first: u32) -> Versioned
+pub fn append_copy(memory: &mut [u8], k: u32, first: u32) -> Result<usize, Refusal>
     requires { (is_map memory.old ≡ true) × (k < count_in memory.old) }
     ensures { left (versioned_as result) memory.new ≡ append_of memory.old (version first (outputs_of (versions_in memory.old) (k + 1))) }
 {
-    let x = next_version(memory, first);
-    match x {
-        Next::Behind(n) => {
-            put_copy(memory, n, k, first);
-            Versioned::Version(n as usize + 1)
-        }
-        Next::Refused(number) => Versioned::Refused(Refusal::bare(number)),
-    }
+    let n = next_version(memory, first).map_err(Refusal::bare)?;
+    put_copy(memory, n, k, first);
+    Ok(n as usize + 1)
 }

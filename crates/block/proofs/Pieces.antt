@@ -1,4 +1,5 @@
 -- A day block by its pieces: the two forms that it takes, how long each is, and the room that each piece has. Assumes nothing.
+use Rattle.std.proofs.Common.{Option, None}
 use Prim.Native.Nat.{ℕ, zero, suc, ◌+◌, ◌-◌, ◌≤◌, ◌<◌}
 use mathlib.Core.Path.{◌≡◌, refl, sym, ap, ◌∙◌}
 use mathlib.Core.Bool.{Bool, true, false, not, ◌&&◌}
@@ -28,8 +29,6 @@ use Rattle.format.proofs.Forms.{uniform-top, uniform-tail, varied-top, varied-ta
 use Rattle.fit.specs.Tags.{tag_from, mark_of, marks_from, fit_tag, fit_marks}
 use Rattle.covers.specs.Cover.{cover_from, count_from, Marked, Sized}
 use Rattle.value_texts.specs.Measure.{measure_of}
-use Rattle.value_texts.specs.declared.Measured.{Measured}
-use Rattle.value_texts.specs.declared.Measured.TheVariants.{Unfit}
 use Rattle.covers.proofs.Covers.{marked-fit}
 use Rattle.heads.specs.Heads.{front_text, times_text, fit_head}
 use Rattle.heads.proofs.Heads.{length_front, length-times}
@@ -39,16 +38,16 @@ use Rattle.block.specs.Pieces.{day_with, fit_with, fit_of, FitDay, Sizes}
 
 module _ (h : DayHead) (n : ℕ) (vs : List ℕ) (l : Five) (text : List ℕ) where
   module _ {a : Bool} (e : a ≡ fit_head h) where
-    pub head-unfit : not a ≡ true → Unfit ≡ fit_of h n vs l text
+    pub head-unfit : not a ≡ true → None ≡ fit_of h n vs l text
     unfolding fit_of fit_with
     head-unfit t = rw (← e, not-true a t)
 
     module _ {b : Bool} (s : not a ≡ false) (f : b ≡ fit_marks l text n) where
-      pub marks-unfit : not b ≡ true → Unfit ≡ fit_of h n vs l text
+      pub marks-unfit : not b ≡ true → None ≡ fit_of h n vs l text
       unfolding fit_of fit_with
       marks-unfit t = rw (← f, not-true b t, and-false)
 
-      pub day-measured : {d : ℕ} {x : Measured} → not b ≡ false → d ≡ decimals_of h.unit → x ≡ measure_of d vs → x ≡ fit_of h n vs l text
+      pub day-measured : {d : ℕ} {x : Option ℕ} → not b ≡ false → d ≡ decimals_of h.unit → x ≡ measure_of d vs → x ≡ fit_of h n vs l text
       unfolding fit_of fit_with measure_of
       day-measured {d} t z q =
           rw (← e, not-false a s, ← f, not-false b t, ← z) (q ∙ by (all (fit_value d) vs) (λ w. rw w) (λ w. rw w))

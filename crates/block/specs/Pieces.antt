@@ -1,5 +1,5 @@
 -- The day that a block says, where the lists are taken together: fit, and how long its block is.
-use Rattle.std.specs.Prelude.{ℕ, ◌≤◌, ◌<◌, ◌≡◌, List, Bool, true, cond, ◌&&◌, length}
+use Rattle.std.specs.Prelude.{ℕ, ◌≤◌, ◌<◌, ◌≡◌, List, Bool, true, cond, ◌&&◌, length, Option, Some, None}
 use Rattle.ground.specs.Lists.{all, from}
 use Rattle.format.specs.Units.{decimals_of}
 use Rattle.format.specs.Day.{Five, Day}
@@ -7,8 +7,6 @@ use Rattle.format.specs.Block.{fit_value, values_text, block_of, records_of}
 use Rattle.format.specs.declared.DayHead.{DayHead}
 use Rattle.fit.specs.Tags.{marks_from, fit_marks, Long}
 use Rattle.heads.specs.Heads.{fit_head}
-use Rattle.value_texts.specs.declared.Measured.{Measured}
-use Rattle.value_texts.specs.declared.Measured.TheVariants.{Bytes, Unfit}
 
 -- the day of n intervals that has these values and the marks of these lists
 unfoldable pub day_with : DayHead → ℕ → List ℕ → Five → List ℕ → Day
@@ -19,8 +17,8 @@ unfoldable pub fit_with : DayHead → ℕ → List ℕ → Five → List ℕ →
 fit_with h n vs l text = fit_head h && all (fit_value (decimals_of h.unit)) vs && fit_marks l text n
 
 -- the bytes of a fit day's values
-unfoldable pub fit_of : DayHead → ℕ → List ℕ → Five → List ℕ → Measured
-fit_of h n vs l text = cond (fit_with h n vs l text) (Bytes (length (values_text vs))) Unfit
+unfoldable pub fit_of : DayHead → ℕ → List ℕ → Five → List ℕ → Option ℕ
+fit_of h n vs l text = cond (fit_with h n vs l text) (Some (length (values_text vs))) None
 
 -- a day whose lists are as long as they should be
 pub record Ready (n : ℕ) (vs : List ℕ) (l : Five) : Type 0 where

@@ -14,7 +14,7 @@ use format::DayHead;
 use heads::{fit_head, put_front, put_uniform, put_varied};
 use marks::mark_len;
 use units::decimals;
-use value_texts::{Measured, measure_values};
+use value_texts::measure_values;
 
 // The bytes of the values, if the day is fit.
 pub fn fit_day(
@@ -27,15 +27,15 @@ pub fn fit_day(
     lengths: &[usize],
     text: &[u8],
     n: usize,
-) -> Measured
+) -> Option<usize>
     requires { Ready n values.now (five flags.now methods.now reasons.now starts.now lengths.now) }
     ensures { result ≡ fit_of day n values.now (five flags.now methods.now reasons.now starts.now lengths.now) text.now }
 {
     if !fit_head(day) {
-        return Measured::Unfit;
+        return None;
     }
     if !fit_marks(flags, methods, reasons, starts, lengths, text, n) {
-        return Measured::Unfit;
+        return None;
     }
     measure_values(values, decimals(day.unit))
 }

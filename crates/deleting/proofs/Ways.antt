@@ -1,4 +1,5 @@
 -- The ways out of a delete. Assumes nothing.
+use Rattle.std.proofs.Common.{Option, Some, None}
 use Prim.Native.Nat.{ℕ, ◌≤◌, ◌<◌}
 use mathlib.Core.Path.{◌≡◌, refl, ◌∙◌}
 use mathlib.Core.List.{List, [], ◌∷◌}
@@ -14,8 +15,6 @@ use Rattle.store.specs.Calls.{seek, delete_from, delete_of}
 use Rattle.store.specs.declared.Header.{Header}
 use Rattle.settling.specs.Settling.{Settles, Settled}
 use Rattle.opening.specs.Opens.{opened_of}
-use Rattle.opening.specs.declared.Opened.{Opened}
-use Rattle.opening.specs.declared.Opened.TheVariants.{Is, Not}
 use Rattle.opening.proofs.Ways.{opened-store, opened-header, opened-not}
 use Rattle.settling.proofs.Blocks.{live-most}
 use Rattle.stored.proofs.Settle.{settles-without}
@@ -30,12 +29,12 @@ pub kept-only : (m : List ℕ) (h : Header) (map : ℕ) {q d : ℕ} {mid new : L
 unfolding delete_from header_with
 kept-only m h map s ed en = rw (en, ed, s.bytes, s.memory)
 
-module _ (m : List ℕ) (x : Key) {o : Opened} (e : o ≡ opened_of m) where
-  pub delete-21 : o ≡ Not → {a : Answer} → a ≡ refusal 21 → left a m ≡ delete_of m x
+module _ (m : List ℕ) (x : Key) {o : Option Header} (e : o ≡ opened_of m) where
+  pub delete-21 : o ≡ None → {a : Answer} → a ≡ refusal 21 → left a m ≡ delete_of m x
   unfolding delete_of
   delete-21 q p = rw (opened-not m e q, p)
 
-  module _ {h : Header} (q : o ≡ Is h) {i : ℕ} (ei : i ≡ seek m h x) where
+  module _ {h : Header} (q : o ≡ Some h) {i : ℕ} (ei : i ≡ seek m h x) where
     is : h ≡ header_of m
     is = opened-header m e q
 

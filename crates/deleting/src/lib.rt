@@ -8,15 +8,15 @@ ghost use Rattle.store.specs.Calls.{kept_as, delete_from, delete_of};
 ghost use Rattle.settling.specs.Settling.{Settles};
 
 use format::Refusal;
-use opening::{Opened, open_store};
+use opening::open_store;
 use seeking::find_slot;
 use settling::settle;
 use slots::write_header;
-use store::{Header, Kept};
+use store::Header;
 use used_map::{count, set_free};
 
 // The blocks of the slots that the map has in use move down, and the header says so.
-fn keep_only(memory: &mut [u8], h: Header, map: u64) -> Kept
+fn keep_only(memory: &mut [u8], h: Header, map: u64) -> Result<usize, Refusal>
     requires { Settles memory.old h map }
     ensures { left (kept_as result) memory.new ≡ delete_from memory.old h map }
 {
@@ -34,23 +34,18 @@ fn keep_only(memory: &mut [u8], h: Header, map: u64) -> Kept
             used: end as u32,
         },
     );
-    Kept::Days(days as usize)
+    Ok(days as usize)
 }
 
 // Deletes the day of a key, and answers the days held then. 21 if the memory is no store, 14 if it has no day of that key. The slot keeps its bytes; the blocks
 // that stay move down over the hole.
-pub fn delete_day(memory: &mut [u8], nmi: &[u8], suffix: &[u8], date: u32) -> Kept
+pub fn delete_day(memory: &mut [u8], nmi: &[u8], suffix: &[u8], date: u32) -> Result<usize, Refusal>
     ensures { left (kept_as result) memory.new ≡ delete_of memory.old (key nmi.now suffix.now date) }
 {
-    let o = open_store(memory);
-    match o {
-        Opened::Not => Kept::Refused(Refusal::bare(21)),
-        Opened::Is(h) => {
-            let i = find_slot(memory, h, nmi, suffix, date);
-            if h.slots <= i {
-                return Kept::Refused(Refusal::bare(14));
-            }
-            keep_only(memory, h, set_free(h.map, i))
-        }
+    let h = open_store(memory).ok_or(Refusal::bare(21))?;
+    let i = find_slot(memory, h, nmi, suffix, date);
+    if h.slots <= i {
+        return Err(Refusal::bare(14));
     }
+    keep_only(memory, h, set_free(h.map, i))
 }

@@ -4,13 +4,6 @@
 use machine::{Machine, WORD};
 use std::io;
 
-// A file's bytes at the start of the room, all of them or as many as the room has; or there are none, as standard error says.
-#[derive(Clone, Copy)]
-pub enum Loaded {
-    Bytes(usize),
-    Failed,
-}
-
 // Standard input is named by a dash.
 fn is_dash(path: &[u8]) -> bool {
     if path.len() != 1 {
@@ -33,15 +26,16 @@ fn cannot_read(rt: &impl Machine, path: &[u8], error: io::Error) {
     rt.fail(path, error);
 }
 
-// The file that a word of the program names; where it can't be read, standard error says why.
-pub fn load_word(rt: &impl Machine, i: usize, room: &mut [u8]) -> Loaded {
+// The file that a word of the program names: how many of its bytes stand at the start of the room, all of them or as many as the room has. Where it can't be read,
+// standard error says why.
+pub fn load_word(rt: &impl Machine, i: usize, room: &mut [u8]) -> Option<usize> {
     let mut path = [0u8; WORD];
     let n = rt.arg(i, &mut path);
     match load(rt, &path[..n], room) {
-        Ok(k) => Loaded::Bytes(k),
+        Ok(k) => Some(k),
         Err(e) => {
             cannot_read(rt, &path[..n], e);
-            Loaded::Failed
+            None
         }
     }
 }

@@ -8,9 +8,9 @@ ghost use Rattle.store.specs.Calls.{kept_as};
 ghost use Rattle.entering.specs.Enters.{Enterable, entered_of};
 
 use entries::Entry;
-use format::DayHead;
+use format::{DayHead, Refusal};
 use slots::{place, write_entry, write_header};
-use store::{Header, Kept};
+use store::Header;
 use used_map::{count, set_used};
 
 // Writes slot s for the day, whose block of so many bytes lies at that offset, and the header.
@@ -24,7 +24,7 @@ pub fn enter_day(
     day: DayHead,
     start: usize,
     size: usize,
-) -> Kept
+) -> Result<usize, Refusal>
     requires { Enterable (length memory.old) h s nmi.now suffix.now day.length start size }
     ensures { left (kept_as result) memory.new ≡ entered_of memory.old h map s (key nmi.now suffix.now day.date) day start size }
 {
@@ -57,5 +57,5 @@ pub fn enter_day(
             used: end as u32,
         },
     );
-    Kept::Days(days as usize)
+    Ok(days as usize)
 }

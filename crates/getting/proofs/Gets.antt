@@ -1,4 +1,5 @@
 -- The ways out of a get. Assumes nothing.
+use Rattle.std.proofs.Common.{Option, Some, None}
 use Prim.Native.Nat.{ℕ, ◌≤◌, ◌<◌}
 use mathlib.Core.Path.{◌≡◌, refl, ◌∙◌}
 use mathlib.Core.Bool.{true}
@@ -16,8 +17,6 @@ use Rattle.store.specs.Store.{is_store}
 use Rattle.store.specs.Calls.{seek, is_there, day_rows, get_from, get_of}
 use Rattle.store.specs.declared.Header.{Header}
 use Rattle.opening.specs.Opens.{opened_of}
-use Rattle.opening.specs.declared.Opened.{Opened}
-use Rattle.opening.specs.declared.Opened.TheVariants.{Is, Not}
 use Rattle.opening.proofs.Ways.{opened-store, opened-header, opened-not}
 use Rattle.stored.proofs.Whole.{whole}
 use Rattle.stored.proofs.Seek.{there}
@@ -33,12 +32,12 @@ readable m x s t =
     let d = accepted-there m h w (seek m h x) u in
     record { within = omega (arith, range-within m h w (seek m h x) u, w.fits, w.inside); numbers = d.0; says = d.1 }
 
-module _ (m : List ℕ) (x : Key) {o : Opened} (e : o ≡ opened_of m) where
-  pub get-21 : (vs : List ℕ) (ms : Five) → o ≡ Not → {a : Answer} → a ≡ refusal 21 → outcome a vs ms ≡ get_of m x vs ms
+module _ (m : List ℕ) (x : Key) {o : Option Header} (e : o ≡ opened_of m) where
+  pub get-21 : (vs : List ℕ) (ms : Five) → o ≡ None → {a : Answer} → a ≡ refusal 21 → outcome a vs ms ≡ get_of m x vs ms
   unfolding get_of
   get-21 vs ms q p = rw (opened-not m e q, p)
 
-  module _ {h : Header} (q : o ≡ Is h) {i : ℕ} (ei : i ≡ seek m h x) where
+  module _ {h : Header} (q : o ≡ Some h) {i : ℕ} (ei : i ≡ seek m h x) where
     is : h ≡ header_of m
     is = opened-header m e q
 

@@ -13,7 +13,7 @@ use filling::read_at;
 use format::{DayRead, Refusal};
 use lines::line_end;
 use number_rules::intervals;
-use opening::{Opened, open_store};
+use opening::open_store;
 use seeking::find_slot;
 use slots::{place, read_entry};
 use store::Header;
@@ -29,7 +29,7 @@ fn read_block(
     reasons: &mut [u16],
     starts: &mut [usize],
     lengths: &mut [usize],
-) -> DayRead
+) -> Result<DayRead, Refusal>
     requires { Readable memory.now h e }
     ensures { outcome (day_read_as result) values.new (five flags.new methods.new reasons.new starts.new lengths.new) ≡ get_from (day_rows memory.now h e) values.old (five flags.old methods.old reasons.old starts.old lengths.old) }
 {
@@ -65,21 +65,16 @@ pub fn get_day(
     reasons: &mut [u16],
     starts: &mut [usize],
     lengths: &mut [usize],
-) -> DayRead
+) -> Result<DayRead, Refusal>
     ensures { outcome (day_read_as result) values.new (five flags.new methods.new reasons.new starts.new lengths.new) ≡ get_of memory.now (key nmi.now suffix.now date) values.old (five flags.old methods.old reasons.old starts.old lengths.old) }
 {
-    let o = open_store(memory);
-    match o {
-        Opened::Not => DayRead::Refused(Refusal::bare(21)),
-        Opened::Is(h) => {
-            let i = find_slot(memory, h, nmi, suffix, date);
-            if h.slots <= i {
-                return DayRead::Refused(Refusal::bare(14));
-            }
-            let e = read_entry(memory, place(h, i));
-            read_block(
-                memory, h, e, values, flags, methods, reasons, starts, lengths,
-            )
-        }
+    let h = open_store(memory).ok_or(Refusal::bare(21))?;
+    let i = find_slot(memory, h, nmi, suffix, date);
+    if h.slots <= i {
+        return Err(Refusal::bare(14));
     }
+    let e = read_entry(memory, place(h, i));
+    read_block(
+        memory, h, e, values, flags, methods, reasons, starts, lengths,
+    )
 }

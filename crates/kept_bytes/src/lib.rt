@@ -5,17 +5,14 @@ ghost use Rattle.std.specs.Prelude.{◌≡◌};
 ghost use Rattle.store.specs.Calls.{made_as, kept_as};
 ghost use Rattle.kept_bytes.specs.Kept.{kept_from, used_end};
 
+use format::Refusal;
 use slots::read_header;
-use store::{Kept, Made};
 
 // Behind a making.
-pub fn made_from(x: Made) -> usize
+pub fn made_from(x: Result<usize, Refusal>) -> usize
     ensures { result ≡ kept_from (made_as x) 32 }
 {
-    match x {
-        Made::Room(_) => 32,
-        Made::Refused(_) => 0,
-    }
+    x.map_or(0, |_| 32)
 }
 
 // Where the used bytes end.
@@ -27,11 +24,11 @@ fn used_end(memory: &[u8]) -> usize
 }
 
 // Behind a put or a delete.
-pub fn changed_from(x: Kept, memory: &[u8]) -> usize
+pub fn changed_from(x: Result<usize, Refusal>, memory: &[u8]) -> usize
     ensures { result ≡ kept_from (kept_as x) (used_end memory.now) }
 {
     match x {
-        Kept::Days(_) => used_end(memory),
-        Kept::Refused(_) => 0,
+        Ok(_) => used_end(memory),
+        Err(_) => 0,
     }
 }

@@ -1,5 +1,5 @@
 -- A slot that holds a day, one law for a return of the code. Assumes nothing.
-use Rattle.std.proofs.Common.{Option, Some, None}
+use Rattle.std.proofs.Common.{Option, Some, None, Result, Ok, Err}
 use Prim.Native.Nat.{ℕ, ◌+◌}
 use mathlib.Core.Path.{◌≡◌, refl, sym, ◌∙◌}
 use mathlib.Core.Bool.{Bool, true, false}
@@ -11,7 +11,6 @@ use Rattle.format.specs.Answers.{Answer, accepted, refused, block_checked_as}
 use Rattle.format.specs.File.{block_check_of}
 use Rattle.format.specs.declared.Refusal.{Refusal}
 use Rattle.format.specs.declared.BlockChecked.{BlockChecked}
-use Rattle.format.specs.declared.BlockChecked.TheVariants.{Accepted, Refused}
 use Rattle.alone.specs.Walk.{date_said}
 use Rattle.entries.specs.Little.{piece, number_at}
 use Rattle.entries.specs.Keys.{key, kept_key}
@@ -49,13 +48,13 @@ module _ (m : List ℕ) (h : Header) (e : Entry) {p : List ℕ} (ep : p ≡ piec
   pub block-undated : x ≡ None → false ≡ is_dated (block_says m h e) date
   block-undated q = undated (block_says m h e) date (sym q ∙ says)
 
-module _ {c : BlockChecked} where
-  module _ {t n u l k : ℕ} (e : c ≡ Accepted t n u l k) where
-    pub update-is : u ≡ update_said (block_checked_as c)
+module _ {c : Result BlockChecked Refusal} where
+  module _ {d : BlockChecked} (e : c ≡ Ok d) where
+    pub update-is : d.update ≡ update_said (block_checked_as c)
     unfolding update_said
     update-is = rw e
 
-  module _ {x : Refusal} (e : c ≡ Refused x) where
+  module _ {x : Refusal} (e : c ≡ Err x) where
     pub no-update : 0 ≡ update_said (block_checked_as c)
     unfolding update_said
     no-update = rw e

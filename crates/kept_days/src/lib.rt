@@ -11,7 +11,7 @@ ghost use Rattle.store.specs.Calls.{update_said};
 
 use alone::{block_date, check_block};
 use entries::Entry;
-use format::BlockChecked;
+use format::{BlockChecked, Refusal};
 use keys::kept_key;
 use little::{piece_at, u32_at};
 use slots::{place, read_entry};
@@ -19,7 +19,7 @@ use store::Header;
 use used_map::is_used;
 
 // What a check of an entry's block on its own answers.
-fn check_entry(memory: &[u8], h: Header, e: Entry) -> BlockChecked
+fn check_entry(memory: &[u8], h: Header, e: Entry) -> Result<BlockChecked, Refusal>
     ensures { block_checked_as result ≡ block_says memory.now h e }
 {
     let start = h.room as usize + e.start as usize;
@@ -31,18 +31,12 @@ fn check_entry(memory: &[u8], h: Header, e: Entry) -> BlockChecked
     )
 }
 
-fn update_said(c: BlockChecked) -> u64
+fn update_said(c: Result<BlockChecked, Refusal>) -> u64
     ensures { result ≡ update_said (block_checked_as c) }
 {
     match c {
-        BlockChecked::Accepted {
-            date: _,
-            n: _,
-            update,
-            load: _,
-            records: _,
-        } => update,
-        BlockChecked::Refused(_) => 0,
+        Ok(day) => day.update,
+        Err(_) => 0,
     }
 }
 

@@ -10,7 +10,7 @@ ghost use Rattle.store.specs.Calls.{made_as, make_of};
 use format::Refusal;
 use frames::is_slotted;
 use slots::write_header;
-use store::{Header, Made};
+use store::Header;
 
 // The most that a room has.
 const MOST: usize = 1048576;
@@ -22,7 +22,7 @@ fn room_of(rest: usize) -> usize
 }
 
 // A slot count that a store may have.
-fn make_slots(memory: &mut [u8], slots: u32) -> Made
+fn make_slots(memory: &mut [u8], slots: u32) -> Result<usize, Refusal>
     requires { (slotted slots ≡ true) × (slots ≤ 64) }
     ensures { left (made_as result) memory.new ≡ make_of memory.old slots }
 {
@@ -30,7 +30,7 @@ fn make_slots(memory: &mut [u8], slots: u32) -> Made
     let before = room as usize;
     let n = memory.len();
     if n < before {
-        return Made::Refused(Refusal::bare(15));
+        return Err(Refusal::bare(15));
     }
     let size = room_of(n - before);
     write_header(
@@ -45,16 +45,16 @@ fn make_slots(memory: &mut [u8], slots: u32) -> Made
             used: 0,
         },
     );
-    Made::Room(size)
+    Ok(size)
 }
 
 // Makes an empty store of so many slots in the memory, and answers its room's length: what is left behind header and slots, up to 1,048,576. 21 for a slot count
 // that is not 1 to 64, 15 for fewer bytes than header and slots have. The header is written, and no other byte.
-pub fn make_store(memory: &mut [u8], slots: u32) -> Made
+pub fn make_store(memory: &mut [u8], slots: u32) -> Result<usize, Refusal>
     ensures { left (made_as result) memory.new ≡ make_of memory.old slots }
 {
     if is_slotted(slots) {
         return make_slots(memory, slots);
     }
-    Made::Refused(Refusal::bare(21))
+    Err(Refusal::bare(21))
 }

@@ -13,10 +13,10 @@ ghost use Rattle.map_calls.specs.Lines.{left_text, make_text, add_text, on_text,
 use calls::PLACES;
 use calls::files::{BYTE_MARK, HALF_MARK};
 use calls::kept::end_line;
+use format::Refusal;
 use map_kept::{COUNT, are_kept, filled, is_kept_after};
 use page::texts::part;
 use tenant_map::{add_version, back_to, make_map, map_on};
-use tenants::Versioned;
 use text::bytes::put_bytes;
 use versions::{count, place};
 
@@ -32,7 +32,7 @@ const VERSION: usize = 1796;
 fn changed(
     page: &mut [u8],
     at: usize,
-    x: Versioned,
+    x: Result<usize, Refusal>,
     memory: &[u8],
     was: &[u8],
     from: usize,
@@ -45,7 +45,7 @@ fn changed(
 }
 
 // The line of a call that may write the count, and a version behind those that there were.
-fn added(page: &mut [u8], at: usize, x: Versioned, memory: &[u8], was: &[u8]) -> usize
+fn added(page: &mut [u8], at: usize, x: Result<usize, Refusal>, memory: &[u8], was: &[u8]) -> usize
     ensures { Filled page.old at (add_text (left (versioned_as x) memory.now) was.now) result page.new }
 {
     let from = place(count(was));
@@ -104,7 +104,13 @@ pub fn back(
 
 // ---- the map on a date
 
-fn shown(page: &mut [u8], at: usize, x: Versioned, keys: &[u8], shares: &[u16]) -> usize
+fn shown(
+    page: &mut [u8],
+    at: usize,
+    x: Result<usize, Refusal>,
+    keys: &[u8],
+    shares: &[u16],
+) -> usize
     ensures { Filled page.old at (on_text (mapped (versioned_as x) keys.now shares.now)) result page.new }
 {
     let n = filled(x);

@@ -8,16 +8,16 @@ ghost use Rattle.map_calls.specs.Lines.{key_text, output_text};
 
 use answer_lines::answers::{accepted, refusal};
 use calls::kept;
+use format::Refusal;
 use page::items::u16_at;
 use page::texts::{number, part, put};
-use tenants::Versioned;
 
-pub fn versioned(page: &mut [u8], at: usize, x: Versioned) -> usize
+pub fn versioned(page: &mut [u8], at: usize, x: Result<usize, Refusal>) -> usize
     ensures { Filled page.old at (line_of (versioned_as x)) result page.new }
 {
     match x {
-        Versioned::Version(v) => accepted(page, at, &[v as u64]),
-        Versioned::Refused(x) => refusal(page, at, x),
+        Ok(v) => accepted(page, at, &[v as u64]),
+        Err(x) => refusal(page, at, x),
     }
 }
 

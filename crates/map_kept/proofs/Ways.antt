@@ -1,4 +1,5 @@
 -- What is kept, by what the code looks at in turn. Assumes nothing.
+use Rattle.std.proofs.Common.{Result, Ok, Err}
 use Prim.Native.Nat.{ℕ, ◌*◌}
 use mathlib.Core.Path.{◌≡◌}
 use mathlib.Core.Bool.{Bool, true, false, not}
@@ -9,8 +10,6 @@ use Rattle.ground.specs.Lists.{part, same}
 use Rattle.format.specs.declared.Refusal.{Refusal}
 use Rattle.calls.specs.Kept.{kept, byte_mark, half_mark}
 use Rattle.tenants.specs.Calls.{versioned_as}
-use Rattle.tenants.specs.declared.Versioned.{Versioned}
-use Rattle.tenants.specs.declared.Versioned.TheVariants as versioned
 use Rattle.map_kept.specs.Kept.{kept_but, kept_after, lent_kept}
 
 -- s and t are the parts behind the count
@@ -23,12 +22,12 @@ module _ (m was : List ℕ) (a e : ℕ) {s t : List ℕ} {b : Bool} (es : s ≡ 
   unfolding kept_but
   but-on h ec = rw (← es, ← et, ← eb, not-false b h, ← ec)
 
-module _ (m was : List ℕ) (a e : ℕ) {x : Versioned} {b : Bool} where
-  pub after-version : {v : ℕ} → x ≡ versioned.Version v → b ≡ kept_but a e m was → b ≡ kept_after (versioned_as x) a e m was
+module _ (m was : List ℕ) (a e : ℕ) {x : Result ℕ Refusal} {b : Bool} where
+  pub after-version : {v : ℕ} → x ≡ Ok v → b ≡ kept_but a e m was → b ≡ kept_after (versioned_as x) a e m was
   unfolding kept_after
   after-version ex eb = rw ex eb
 
-  pub after-refusal : {y : Refusal} → x ≡ versioned.Refused y → b ≡ same m was → b ≡ kept_after (versioned_as x) a e m was
+  pub after-refusal : {y : Refusal} → x ≡ Err y → b ≡ same m was → b ≡ kept_after (versioned_as x) a e m was
   unfolding kept_after
   after-refusal ex eb = rw ex eb
 

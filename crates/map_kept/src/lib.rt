@@ -8,9 +8,9 @@ ghost use Rattle.map_kept.specs.Kept.{kept_but, kept_after, filled_in, lent_kept
 use calls::files::{BYTE_MARK, HALF_MARK};
 use calls::kept;
 use edit_calls::is_kept;
+use format::Refusal;
 use leaf::bytes::same_bytes;
 use page::texts::part;
-use tenants::Versioned;
 
 // The count's bytes.
 pub const COUNT: usize = 4;
@@ -26,23 +26,29 @@ fn is_kept_but(memory: &[u8], was: &[u8], from: usize, to: usize) -> bool
 }
 
 // The same behind an accepted call, all of memory behind a refusal.
-pub fn is_kept_after(x: Versioned, memory: &[u8], was: &[u8], from: usize, to: usize) -> bool
+pub fn is_kept_after(
+    x: Result<usize, Refusal>,
+    memory: &[u8],
+    was: &[u8],
+    from: usize,
+    to: usize,
+) -> bool
     ensures { result ≡ kept_after (versioned_as x) from to memory.now was.now }
 {
     match x {
-        Versioned::Version(_) => is_kept_but(memory, was, from, to),
-        Versioned::Refused(_) => same_bytes(memory, was),
+        Ok(_) => is_kept_but(memory, was, from, to),
+        Err(_) => same_bytes(memory, was),
     }
 }
 
 // How many outputs the lists hold behind the call.
-pub fn filled(x: Versioned) -> usize
+pub fn filled(x: Result<usize, Refusal>) -> usize
     ensures is { result ≡ filled_in (versioned_as x) }
     ensures few { result ≤ 128 }
 {
     match x {
-        Versioned::Version(_) => 128,
-        Versioned::Refused(_) => 0,
+        Ok(_) => 128,
+        Err(_) => 0,
     }
 }
 

@@ -9,31 +9,34 @@ use leaf::digits::digits;
 use measures::counts::count_of;
 use records::field;
 
-// An output and its share, or an output that is unused; else which field is at fault, from 1, or one of the faults below.
+// An output and its share, which is none where the output is unused.
 #[derive(Clone, Copy)]
-pub enum Row {
-    Used(u64, u64),
-    Unused(u64),
-    Wrong(u8),
+pub struct Row {
+    pub output: u64,
+    pub share: Option<u64>,
 }
 
-// The line has not four fields.
-pub const FIELDS: u8 = 0;
+// What is wrong with a line: it has not four fields, which of them is at fault, the output has a line already, which a single line can't tell, or there is a share
+// without NMI and suffix.
+#[derive(Clone, Copy, PartialEq, Eq)]
+pub enum Fault {
+    Fields,
+    Output,
+    Nmi,
+    Suffix,
+    Share,
+    Twice,
+    NoKey,
+}
 
-// The fields.
-pub const OUTPUT: u8 = 1;
+// The fields, by their numbers from 1.
+const OUTPUT: usize = 1;
 
-pub const NMI: u8 = 2;
+pub const NMI: usize = 2;
 
-pub const SUFFIX: u8 = 3;
+pub const SUFFIX: usize = 3;
 
-pub const SHARE: u8 = 4;
-
-// The output has a line already, which a single line can't tell.
-pub const TWICE: u8 = 5;
-
-// A share without NMI and suffix.
-pub const NO_KEY: u8 = 6;
+pub const SHARE: usize = 4;
 
 // How many commas part four fields.
 const COMMAS: usize = 3;
@@ -57,26 +60,32 @@ fn number_up_to(f: &[u8], most: u64) -> Option<u64>
     }
 }
 
-fn with_share(output: u64, share: &[u8]) -> Row
+fn with_share(output: u64, share: &[u8]) -> Result<Row, Fault>
     ensures { result ≡ with_share output (number_up_to 1000 share.now) }
 {
     match number_up_to(share, HIGHEST_SHARE) {
-        Some(n) => Row::Used(output, n),
-        None => Row::Wrong(SHARE),
+        Some(n) => Ok(Row {
+            output,
+            share: Some(n),
+        }),
+        None => Err(Fault::Share),
     }
 }
 
-fn without_key(output: u64, share: &[u8]) -> Row
+fn without_key(output: u64, share: &[u8]) -> Result<Row, Fault>
     ensures { result ≡ without_key output (number_up_to 1000 share.now) }
 {
     match number_up_to(share, HIGHEST_SHARE) {
         Some(n) => {
             if n == 0 {
-                return Row::Unused(output);
+                return Ok(Row {
+                    output,
+                    share: None,
+                });
             }
-            Row::Wrong(NO_KEY)
+            Err(Fault::NoKey)
         }
-        None => Row::Wrong(SHARE),
+        None => Err(Fault::Share),
     }
 }
 
@@ -89,17 +98,17 @@ fn is_keyless(nmi: &[u8], suffix: &[u8]) -> bool
     suffix.len() == 0
 }
 
-fn with_key(output: u64, nmi: &[u8], suffix: &[u8], share: &[u8]) -> Row
+fn with_key(output: u64, nmi: &[u8], suffix: &[u8], share: &[u8]) -> Result<Row, Fault>
     ensures { result ≡ keyed output nmi.now suffix.now share.now }
 {
     if is_keyless(nmi, suffix) {
         return without_key(output, share);
     }
     if !text_rules::nmi(nmi) {
-        return Row::Wrong(NMI);
+        return Err(Fault::Nmi);
     }
     if !text_rules::suffix(suffix) {
-        return Row::Wrong(SUFFIX);
+        return Err(Fault::Suffix);
     }
     with_share(output, share)
 }
@@ -110,19 +119,19 @@ fn has_four(line: &[u8]) -> bool
     count_of(line, line.len(), b',') == COMMAS
 }
 
-pub fn row_of(line: &[u8]) -> Row
+pub fn row_of(line: &[u8]) -> Result<Row, Fault>
     ensures { result ≡ row_of line.now }
 {
     if !has_four(line) {
-        return Row::Wrong(FIELDS);
+        return Err(Fault::Fields);
     }
-    match number_up_to(field(line, OUTPUT as usize), LAST_OUTPUT) {
+    match number_up_to(field(line, OUTPUT), LAST_OUTPUT) {
         Some(output) => with_key(
             output,
-            field(line, NMI as usize),
-            field(line, SUFFIX as usize),
-            field(line, SHARE as usize),
+            field(line, NMI),
+            field(line, SUFFIX),
+            field(line, SHARE),
         ),
-        None => Row::Wrong(OUTPUT),
+        None => Err(Fault::Output),
     }
 }

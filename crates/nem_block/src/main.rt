@@ -2,7 +2,7 @@
 #![tactic(auto)]
 
 use day_rows::{minutes, refused};
-use disk::{Loaded, load_word};
+use disk::load_word;
 use explain::refused::explained;
 use format::{DayHead, DayRead, Refusal, Written};
 use machine::{Machine, PAGE};
@@ -10,7 +10,7 @@ use outward::{FAILED, REFUSED, finish, warn, write};
 use page::texts::part;
 use reading::read_day::read_day;
 use std::alloc::{AllocError, Global};
-use wanted::{Wanted, wanted_day};
+use wanted::wanted_day;
 use writing::write_day;
 
 // A place more than the longest file has, so that a longer one is seen to be one.
@@ -148,13 +148,13 @@ fn show_day(rt: &impl Machine, page: &mut [u8], file: &[u8], k: usize) -> u8 {
 }
 
 fn show(rt: &impl Machine, page: &mut [u8], room: &mut [u8]) -> u8 {
-    let Loaded::Bytes(n) = load_word(rt, 2, room) else {
+    let Some(n) = load_word(rt, 2, room) else {
         return FAILED;
     };
     let file = part(room, 0, n);
     match wanted_day(rt, page, file) {
-        Wanted::Day(k) => show_day(rt, page, file, k),
-        Wanted::Nothing(status) => status,
+        Ok(k) => show_day(rt, page, file, k),
+        Err(status) => status,
     }
 }
 

@@ -10,7 +10,7 @@ use chart::legend::legend;
 use checking::tour::check_and_note;
 use day::{DayStart, Place};
 use day_rows::refused;
-use disk::{Loaded, load_word};
+use disk::load_word;
 use explain::refused::explained;
 use filling::read_noted;
 use format::{DayRead, Refusal};
@@ -22,7 +22,7 @@ use page::texts::part;
 use records::{NMI, SUFFIX, UNIT_OF_200, field};
 use std::alloc::{AllocError, Global};
 use sums::day_sum;
-use wanted::{Wanted, wanted_day};
+use wanted::wanted_day;
 
 // A place more than the longest file has, so that a longer one is seen to be one.
 const ROOM: usize = 1048577;
@@ -227,13 +227,13 @@ fn show_day(rt: &impl Machine, page: &mut [u8], file: &[u8], k: usize) -> u8 {
 }
 
 fn show(rt: &impl Machine, page: &mut [u8], room: &mut [u8]) -> u8 {
-    let Loaded::Bytes(n) = load_word(rt, 2, room) else {
+    let Some(n) = load_word(rt, 2, room) else {
         return FAILED;
     };
     let file = part(room, 0, n);
     match wanted_day(rt, page, file) {
-        Wanted::Day(k) => show_day(rt, page, file, k),
-        Wanted::Nothing(status) => status,
+        Ok(k) => show_day(rt, page, file, k),
+        Err(status) => status,
     }
 }
 

@@ -2,7 +2,7 @@
 #![tactic(auto)]
 
 use checking::check::check;
-use disk::{Loaded, load_word};
+use disk::load_word;
 use machine::{Machine, PAGE, WORD};
 use outward::{DONE, FAILED, finish, graver, write};
 use page::texts::{part, put};
@@ -27,7 +27,7 @@ fn name(rt: &impl Machine, page: &mut [u8], i: usize, several: bool) -> usize {
 }
 
 fn check_file(rt: &impl Machine, page: &mut [u8], room: &mut [u8], i: usize, several: bool) -> u8 {
-    let Loaded::Bytes(k) = load_word(rt, i, room) else {
+    let Some(k) = load_word(rt, i, room) else {
         return FAILED;
     };
     let file = part(room, 0, k);

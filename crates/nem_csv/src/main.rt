@@ -7,7 +7,7 @@ mod reads;
 mod sheet;
 
 use checking::tour::check_and_note;
-use disk::{Loaded, load_word};
+use disk::load_word;
 use explain::refused::explained;
 use leaf::bytes::same_bytes;
 use machine::{Machine, PAGE, WORD};
@@ -44,7 +44,7 @@ fn table(rt: &impl Machine, page: &mut [u8], file: &[u8], command: &[u8]) -> u8 
 fn show(rt: &impl Machine, page: &mut [u8], room: &mut [u8]) -> u8 {
     let mut command = [0u8; WORD];
     let n = rt.arg(1, &mut command);
-    let Loaded::Bytes(k) = load_word(rt, 2, room) else {
+    let Some(k) = load_word(rt, 2, room) else {
         return FAILED;
     };
     table(rt, page, part(room, 0, k), &command[..n])

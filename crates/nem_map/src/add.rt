@@ -1,14 +1,13 @@
 // A version added from a table.
 use super::appended::keep_appended;
-use super::asked::{Asked, FIRST, date};
+use super::asked::{FIRST, date};
 use super::refused::{of_adding, of_table};
-use super::table::{Table, read_table};
-use disk::{Loaded, load_word};
+use super::table::read_table;
+use disk::load_word;
 use machine::{Machine, PAGE};
 use outward::{FAILED, REFUSED, complain};
 use page::texts::{part, put};
 use tenant_map::add_version;
-use tenants::Versioned;
 
 // The word that names the table's file.
 const TABLE: usize = 5;
@@ -31,8 +30,8 @@ fn add_given(
     shares: &[u16],
 ) -> u8 {
     match add_version(map, first, keys, shares) {
-        Versioned::Version(_) => keep_appended(rt, page, map),
-        Versioned::Refused(x) => {
+        Ok(_) => keep_appended(rt, page, map),
+        Err(x) => {
             of_adding(rt, page, x, map);
             REFUSED
         }
@@ -49,14 +48,15 @@ fn add_in(
     shares: &mut [u16],
 ) -> u8 {
     match read_table(text, keys, shares) {
-        Table::Read => add_given(rt, page, map, first, keys, shares),
-        Table::Wrong {
-            line,
-            from,
-            to,
-            fault,
-        } => {
-            of_table(rt, page, line, part(text, from, to), fault);
+        Ok(()) => add_given(rt, page, map, first, keys, shares),
+        Err(wrong) => {
+            of_table(
+                rt,
+                page,
+                wrong.line,
+                part(text, wrong.from, wrong.to),
+                wrong.fault,
+            );
             REFUSED
         }
     }
@@ -76,7 +76,7 @@ fn add_loaded(
     first: u32,
     room: &mut [u8],
 ) -> u8 {
-    let Loaded::Bytes(n) = load_word(rt, TABLE, room) else {
+    let Some(n) = load_word(rt, TABLE, room) else {
         return FAILED;
     };
     if room.len() <= n {
@@ -87,7 +87,7 @@ fn add_loaded(
 }
 
 pub fn add(rt: &impl Machine, page: &mut [u8], map: &mut [u8]) -> u8 {
-    let Asked::Date(first) = date(rt, page, FIRST) else {
+    let Some(first) = date(rt, page, FIRST) else {
         return FAILED;
     };
     let mut room = [0u8; PAGE];

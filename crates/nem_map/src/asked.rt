@@ -15,22 +15,16 @@ pub const FIRST: usize = 4;
 const EIGHT_DIGITS: u64 = 100000000;
 
 // A date, or none where the word is no date, as is said then.
-#[derive(Clone, Copy)]
-pub enum Asked {
-    Date(u32),
-    Nothing,
-}
-
-pub fn date(rt: &impl Machine, page: &mut [u8], i: usize) -> Asked {
+pub fn date(rt: &impl Machine, page: &mut [u8], i: usize) -> Option<u32> {
     let mut word = [0u8; WORD];
     let n = rt.arg(i, &mut word);
     if let Some(day) = date_of(&word[..n]) {
         if is_date(day) {
-            return Asked::Date((day % EIGHT_DIGITS) as u32);
+            return Some((day % EIGHT_DIGITS) as u32);
         }
     }
     no_date(rt, page, &word[..n]);
-    Asked::Nothing
+    None
 }
 
 fn no_version(rt: &impl Machine, page: &mut [u8], word: &[u8]) {

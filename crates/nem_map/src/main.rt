@@ -13,7 +13,7 @@ mod refused;
 mod show;
 mod table;
 
-use disk::{Loaded, load_word};
+use disk::load_word;
 use kept_files::{long_map, no_map};
 use leaf::bytes::same_bytes;
 use machine::{Machine, PAGE, WORD};
@@ -64,7 +64,7 @@ fn act(rt: &impl Machine, page: &mut [u8], memory: &mut [u8]) -> u8 {
     if same_bytes(&what[..n], b"make") {
         return make::make(rt, page, memory);
     }
-    let Loaded::Bytes(k) = load_word(rt, MAP, memory) else {
+    let Some(k) = load_word(rt, MAP, memory) else {
         return FAILED;
     };
     with_sized(rt, page, memory, k, &what[..n])

@@ -5,13 +5,12 @@ use map_lines::out_of;
 use outward::{DONE, REFUSED, keep, write_line};
 use page::texts::{part, put};
 use tenant_map::make_map;
-use tenants::Versioned;
 use versions::BYTES;
 
 // The memory is longer than a map; the file is not.
 pub fn make(rt: &impl Machine, page: &mut [u8], memory: &mut [u8]) -> u8 {
     match make_map(memory) {
-        Versioned::Version(_) => {
+        Ok(_) => {
             let status = keep(rt, part(memory, 0, BYTES));
             if status != DONE {
                 return status;
@@ -20,7 +19,7 @@ pub fn make(rt: &impl Machine, page: &mut [u8], memory: &mut [u8]) -> u8 {
             let q = out_of(page, p, 0, b"32 versions");
             write_line(rt, page, q)
         }
-        Versioned::Refused(x) => {
+        Err(x) => {
             other(rt, page, x);
             REFUSED
         }

@@ -4,7 +4,7 @@ use format::Refusal;
 use kept_files::no_versions;
 use machine::Machine;
 use map_lines::at_fault;
-use map_table::{FIELDS, NO_KEY, SHARE, TWICE};
+use map_table::{Fault, NMI, SHARE, SUFFIX};
 use outward::complain;
 use page::texts::put;
 use phrase::counts::counted;
@@ -91,23 +91,19 @@ pub fn of_going_back(rt: &impl Machine, page: &mut [u8], x: Refusal, map: &[u8])
 // ---- a table
 
 // How many fields stand before the one at fault.
-fn before(fault: u8) -> usize {
-    if fault == FIELDS {
-        return 0;
+fn before(fault: Fault) -> usize {
+    match fault {
+        Fault::Fields | Fault::Output | Fault::Twice => 0,
+        Fault::Nmi => NMI - 1,
+        Fault::Suffix => SUFFIX - 1,
+        Fault::Share | Fault::NoKey => SHARE - 1,
     }
-    if fault == TWICE {
-        return 0;
-    }
-    if fault == NO_KEY {
-        return SHARE as usize - 1;
-    }
-    fault as usize - 1
 }
 
 // The line by its number from 1, what is wrong with it, and a mark under the field.
-pub fn of_table(rt: &impl Machine, page: &mut [u8], number: u64, line: &[u8], fault: u8) {
+pub fn of_table(rt: &impl Machine, page: &mut [u8], number: u64, line: &[u8], fault: Fault) {
     let column = skip(line, 0, line.len(), before(fault));
-    let p = at_fault(page, 0, number, fault);
+    let p = at_fault(page, 0, number, fault as u8);
     let q = put(page, p, b"\n");
     let r = excerpt(page, q, line, column);
     let s = put(page, r, b"\n");

@@ -1,5 +1,5 @@
 // A version as tables: its outputs in use, and its channels.
-use super::asked::{Asked, FIRST, date};
+use super::asked::{FIRST, date};
 use super::refused::of_asking;
 use machine::Machine;
 use map_counts::{OUTPUTS, is_first, is_used, key_at, outputs_on, share_at, shares_on, used};
@@ -136,7 +136,7 @@ pub fn show(rt: &impl Machine, page: &mut [u8], map: &[u8]) -> u8 {
     if rt.arg_count() <= FIRST {
         return show_version(rt, page, map, count(map));
     }
-    let Asked::Date(day) = date(rt, page, FIRST) else {
+    let Some(day) = date(rt, page, FIRST) else {
         return FAILED;
     };
     show_version(rt, page, map, version_on(map, day))

@@ -6,7 +6,7 @@ ghost use Rattle.std.specs.Prelude.{◌≤◌};
 
 use alone::check_block;
 use day_rows::refused;
-use disk::{Loaded, load_word};
+use disk::load_word;
 use explain::refused::explained_as;
 use format::Refusal;
 use machine::{Machine, PAGE};
@@ -16,7 +16,7 @@ use phrase::times::date;
 use records::record_of;
 use replacing::{Replaced, replace_day};
 use std::alloc::{AllocError, Global};
-use wanted::{Wanted, last_word, wanted_before_last};
+use wanted::{last_word, wanted_before_last};
 use whose::{DayFound, find_day};
 
 // A place more than the longest file has, so that a longer one is seen to be one; and as many for the block.
@@ -152,30 +152,28 @@ fn edit(
 }
 
 // The block, behind the room in front of it; answers where it ends.
-fn load_block(rt: &impl Machine, blocks: &mut [u8]) -> Loaded {
+fn load_block(rt: &impl Machine, blocks: &mut [u8]) -> Option<usize> {
     if blocks.len() < FRONT {
-        return Loaded::Failed;
+        return None;
     }
     let most = blocks.len() - FRONT;
-    let Loaded::Bytes(m) = load_word(rt, last_word(rt), &mut blocks[FRONT..]) else {
-        return Loaded::Failed;
-    };
+    let m = load_word(rt, last_word(rt), &mut blocks[FRONT..])?;
     if most < m {
-        return Loaded::Bytes(blocks.len());
+        return Some(blocks.len());
     }
-    Loaded::Bytes(FRONT + m)
+    Some(FRONT + m)
 }
 
 fn replace(rt: &impl Machine, page: &mut [u8], room: &mut [u8], blocks: &mut [u8]) -> u8 {
-    let Loaded::Bytes(n) = load_word(rt, 2, room) else {
+    let Some(n) = load_word(rt, 2, room) else {
         return FAILED;
     };
-    let Loaded::Bytes(end) = load_block(rt, blocks) else {
+    let Some(end) = load_block(rt, blocks) else {
         return FAILED;
     };
     match wanted_before_last(rt, page, part(room, 0, n)) {
-        Wanted::Day(k) => edit(rt, page, room, n, k, blocks, end),
-        Wanted::Nothing(status) => status,
+        Ok(k) => edit(rt, page, room, n, k, blocks, end),
+        Err(status) => status,
     }
 }
 

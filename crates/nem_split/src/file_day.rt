@@ -3,13 +3,13 @@ ghost use Rattle.day_sums.specs.Sought.{Within};
 
 use super::shown::{Day, show};
 use day_rows::refused;
-use day_sums::{DayAt, DaySought, date_of, nmi_of, seek_day, suffix_of, sum_of};
+use day_sums::{DayAt, date_of, nmi_of, seek_day, suffix_of, sum_of};
 use machine::Machine;
 use outward::{REFUSED, warn};
 use page::texts::part;
 use records::{UNIT_OF_200, unit_in};
 use splitter::split_day;
-use wanted::{Wanted, by_number};
+use wanted::by_number;
 
 // The word that says which day it is.
 const NUMBER: usize = 4;
@@ -49,8 +49,8 @@ fn split_found(
 fn split_numbered(rt: &impl Machine, page: &mut [u8], map: &[u8], file: &[u8], k: usize) -> u8 {
     let sought = seek_day(file, k);
     match sought {
-        DaySought::Found(at) => split_found(rt, page, map, file, k, at),
-        DaySought::Refused(x) => {
+        Ok(at) => split_found(rt, page, map, file, k, at),
+        Err(x) => {
             let p = refused(page, file, x);
             warn(rt, page, p);
             REFUSED
@@ -60,7 +60,7 @@ fn split_numbered(rt: &impl Machine, page: &mut [u8], map: &[u8], file: &[u8], k
 
 pub fn split(rt: &impl Machine, page: &mut [u8], map: &[u8], file: &[u8]) -> u8 {
     match by_number(rt, page, NUMBER) {
-        Wanted::Day(k) => split_numbered(rt, page, map, file, k),
-        Wanted::Nothing(status) => status,
+        Ok(k) => split_numbered(rt, page, map, file, k),
+        Err(status) => status,
     }
 }

@@ -8,7 +8,7 @@ mod refused;
 mod shown;
 mod stored_day;
 
-use disk::{Loaded, load_word};
+use disk::load_word;
 use kept_files::{long_map, long_store};
 use machine::{Machine, PAGE};
 use outward::{FAILED, finish};
@@ -37,7 +37,7 @@ fn with_store(rt: &impl Machine, page: &mut [u8], map: &[u8], room: &[u8], bytes
 
 // What holds the day, a store or a file.
 fn with_map(rt: &impl Machine, page: &mut [u8], map: &[u8], room: &mut [u8]) -> u8 {
-    let Loaded::Bytes(n) = load_word(rt, HOLDER, room) else {
+    let Some(n) = load_word(rt, HOLDER, room) else {
         return FAILED;
     };
     if rt.arg_count() == OF_STORE {
@@ -48,7 +48,7 @@ fn with_map(rt: &impl Machine, page: &mut [u8], map: &[u8], room: &mut [u8]) -> 
 
 // The memory has a place more than the longest file of a map.
 fn act(rt: &impl Machine, page: &mut [u8], memory: &mut [u8], room: &mut [u8]) -> u8 {
-    let Loaded::Bytes(n) = load_word(rt, MAP, memory) else {
+    let Some(n) = load_word(rt, MAP, memory) else {
         return FAILED;
     };
     if memory.len() <= n {

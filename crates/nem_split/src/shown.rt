@@ -1,5 +1,6 @@
 // What a splitting answers, as a table of the outputs on the channel.
 use super::refused::{no_shares, no_version};
+use format::Refusal;
 use kept_files::no_map;
 use keys::same_capitals;
 use leaf::bytes::same_bytes;
@@ -9,7 +10,6 @@ use outward::{DONE, REFUSED, write_line};
 use page::items::u64_at;
 use page::texts::{part, put};
 use split_lines::{headings, is_energy, note, part_row, sum_row, title};
-use splits::Split;
 use std::num::wrapping_add_u64;
 use units::Spelling;
 use versions::{entries_at, is_map, version_on};
@@ -162,13 +162,13 @@ fn show_by(
     suffix: &[u8],
     day: Day,
     v: u32,
-    answer: Split,
+    answer: Result<usize, Refusal>,
     parts: &[u64],
 ) -> u8 {
     let key = key_on(entries, nmi, suffix);
     match answer {
-        Split::Done { outputs: _ } => table(rt, page, entries, key, day, v, parts),
-        Split::Refused(_) => {
+        Ok(_) => table(rt, page, entries, key, day, v, parts),
+        Err(_) => {
             no_shares(rt, page, nmi, suffix, day.date, v, key.len());
             REFUSED
         }
@@ -183,7 +183,7 @@ pub fn show(
     nmi: &[u8],
     suffix: &[u8],
     day: Day,
-    answer: Split,
+    answer: Result<usize, Refusal>,
     parts: &[u64],
 ) -> u8 {
     if !is_map(map) {

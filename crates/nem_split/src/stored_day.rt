@@ -1,6 +1,5 @@
 // A day that a store holds, by its key.
 use super::shown::{Day, show};
-use format::Totalled;
 use kept_files::no_day;
 use machine::{Machine, WORD};
 use named::date_of;
@@ -63,8 +62,8 @@ fn split_key(
 ) -> u8 {
     let stored = stored_sum(store, nmi, suffix, date);
     match stored {
-        Totalled::Total(total) => split_held(rt, page, map, store, nmi, suffix, date, total),
-        Totalled::Refused(x) => {
+        Ok(total) => split_held(rt, page, map, store, nmi, suffix, date, total),
+        Err(x) => {
             no_day(rt, page, x, nmi, suffix, date);
             REFUSED
         }

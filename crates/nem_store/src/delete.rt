@@ -3,7 +3,6 @@ use deleting::delete_day;
 use kept_files::no_day;
 use machine::Machine;
 use outward::{DONE, REFUSED, keep, write_line};
-use store::Kept;
 use store_lines::deleted;
 
 pub fn delete(
@@ -15,7 +14,7 @@ pub fn delete(
     date: u32,
 ) -> u8 {
     match delete_day(store, nmi, suffix, date) {
-        Kept::Days(days) => {
+        Ok(days) => {
             let status = keep(rt, store);
             if status != DONE {
                 return status;
@@ -23,7 +22,7 @@ pub fn delete(
             let p = deleted(page, 0, days);
             write_line(rt, page, p)
         }
-        Kept::Refused(x) => {
+        Err(x) => {
             no_day(rt, page, x, nmi, suffix, date);
             REFUSED
         }

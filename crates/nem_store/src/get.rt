@@ -1,7 +1,7 @@
 // The day of a key as a table.
 use day_rows::minutes;
 use day_table::write_table;
-use format::{DayHead, DayRead};
+use format::{DayHead, DayRead, Refusal};
 use getting::get_day;
 use kept_files::no_day;
 use machine::Machine;
@@ -13,7 +13,7 @@ fn table(
     rt: &impl Machine,
     page: &mut [u8],
     store: &[u8],
-    x: DayRead,
+    x: Result<DayRead, Refusal>,
     nmi: &[u8],
     suffix: &[u8],
     asked: u32,
@@ -25,25 +25,19 @@ fn table(
     lengths: &[usize],
 ) -> u8 {
     match x {
-        DayRead::Read {
-            date,
-            n,
-            update,
-            load,
-            unit,
-        } => {
+        Ok(day) => {
             let head = DayHead {
-                date,
-                length: minutes(n),
-                update,
-                load,
-                unit,
+                date: day.date,
+                length: minutes(day.n),
+                update: day.update,
+                load: day.load,
+                unit: day.unit,
             };
             write_table(
-                rt, page, store, head, n, values, flags, methods, reasons, starts, lengths,
+                rt, page, store, head, day.n, values, flags, methods, reasons, starts, lengths,
             )
         }
-        DayRead::Refused(y) => {
+        Err(y) => {
             no_day(rt, page, y, nmi, suffix, asked);
             REFUSED
         }

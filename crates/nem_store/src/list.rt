@@ -2,13 +2,13 @@
 use kept_files::no_store;
 use listing::slots::{headings, held, row};
 use machine::Machine;
-use opening::{Opened, open_store};
+use opening::open_store;
 use outward::{DONE, REFUSED, write_line};
 use page::texts::part;
 use records::text_at;
 use settling::live_bytes;
 use slot_reading::read_slot;
-use store::{Header, SlotRead};
+use store::Header;
 use units::Spelling;
 
 fn headed(rt: &impl Machine, page: &mut [u8]) -> u8 {
@@ -18,32 +18,22 @@ fn headed(rt: &impl Machine, page: &mut [u8]) -> u8 {
 
 // The line of a slot, none where it is free.
 fn line(rt: &impl Machine, page: &mut [u8], store: &[u8], slot: usize) -> u8 {
-    let SlotRead::Used {
-        nmi,
-        suffix,
-        date,
-        length,
-        unit,
-        update,
-        start,
-        end,
-    } = read_slot(store, slot)
-    else {
+    let Ok(Some(day)) = read_slot(store, slot) else {
         return DONE;
     };
-    let s: Spelling = units::name(unit);
+    let s: Spelling = units::name(day.unit);
     let bytes = s.bytes;
     let p = row(
         page,
         0,
         slot,
-        text_at(store, nmi, 10),
-        text_at(store, suffix, 2),
-        date as u64,
-        length as u64,
+        text_at(store, day.nmi, 10),
+        text_at(store, day.suffix, 2),
+        day.date as u64,
+        day.length as u64,
         part(&bytes, 0, s.length),
-        update,
-        part(store, start, end).len(),
+        day.update,
+        part(store, day.start, day.end).len(),
     );
     write_line(rt, page, p)
 }
@@ -82,7 +72,7 @@ fn last_line(rt: &impl Machine, page: &mut [u8], store: &[u8], h: Header) -> u8 
 }
 
 pub fn list(rt: &impl Machine, page: &mut [u8], store: &[u8]) -> u8 {
-    let Opened::Is(h) = open_store(store) else {
+    let Some(h) = open_store(store) else {
         no_store(rt, page);
         return REFUSED;
     };

@@ -9,7 +9,7 @@ mod list;
 mod make;
 mod put;
 
-use disk::{Loaded, load_word};
+use disk::load_word;
 use kept_files::long_store;
 use leaf::bytes::same_bytes;
 use machine::{Machine, PAGE, WORD};
@@ -109,7 +109,7 @@ fn act(rt: &impl Machine, page: &mut [u8], memory: &mut [u8], room: &mut [u8]) -
     if same_bytes(&what[..n], b"make") {
         return make::make(rt, page, memory);
     }
-    let Loaded::Bytes(k) = load_word(rt, STORE, memory) else {
+    let Some(k) = load_word(rt, STORE, memory) else {
         return FAILED;
     };
     with_sized(rt, page, memory, k, room, &what[..n])

@@ -5,7 +5,6 @@ use making::make_store;
 use outward::{DONE, FAILED, REFUSED, complain, keep, write_line};
 use page::texts::{number, put};
 use phrase::counts::{counted, quoted};
-use store::Made;
 use store_lines::made;
 
 // The words that say how many.
@@ -71,7 +70,7 @@ fn slot_count(slots: u64) -> u32 {
 
 fn make_in(rt: &impl Machine, page: &mut [u8], store: &mut [u8], slots: u64) -> u8 {
     match make_store(store, slot_count(slots)) {
-        Made::Room(room) => {
+        Ok(room) => {
             let status = keep(rt, store);
             if status != DONE {
                 return status;
@@ -79,7 +78,7 @@ fn make_in(rt: &impl Machine, page: &mut [u8], store: &mut [u8], slots: u64) -> 
             let p = made(page, 0, slots, room);
             write_line(rt, page, p)
         }
-        Made::Refused(x) => {
+        Err(x) => {
             if x.number == 21 {
                 bad_slots(rt, page, slots);
             } else {

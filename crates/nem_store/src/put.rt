@@ -6,19 +6,18 @@ ghost use Rattle.day.specs.Places.{DayAhead};
 use checking::tour::check_and_note;
 use day::{DayStart, Place};
 use day_rows::minutes;
-use disk::{Loaded, load_word};
+use disk::load_word;
 use explain::refused::explained;
 use filling::read_noted;
-use format::{Checked, DayHead, DayRead, Refusal};
+use format::{DayHead, DayRead, Refusal};
 use kept_files::no_store;
 use machine::Machine;
-use opening::{Opened, open_store};
+use opening::open_store;
 use outward::{DONE, FAILED, REFUSED, graver, keep, warn, write_line};
 use page::texts::part;
 use putting::put_day;
 use records::{NMI, SUFFIX, field};
 use refusals::headline;
-use store::Kept;
 use store_lines::{day as which_day, kept, summary};
 
 // The word that names the file.
@@ -91,8 +90,8 @@ fn put_one(
     match put_day(
         store, nmi, suffix, day, values, flags, methods, reasons, starts, lengths, file,
     ) {
-        Kept::Days(held) => is_kept(rt, page, p, before, held),
-        Kept::Refused(x) => not_kept(rt, page, p, before, x),
+        Ok(held) => is_kept(rt, page, p, before, held),
+        Err(x) => not_kept(rt, page, p, before, x),
     }
 }
 
@@ -104,8 +103,8 @@ fn put_placed(
     file: &[u8],
     k: usize,
     before: usize,
-    place: Place,
-    x: DayRead,
+    place: Option<Place>,
+    x: Result<DayRead, Refusal>,
     values: &[u64],
     flags: &[u8],
     methods: &[u8],
@@ -113,31 +112,24 @@ fn put_placed(
     starts: &[usize],
     lengths: &[usize],
 ) -> Turned {
-    let Place::At(_, _, two_hundred) = place else {
+    let Some(found) = place else {
         return Turned {
             held: before,
             status: FAILED,
         };
     };
-    let DayRead::Read {
-        date,
-        n,
-        update,
-        load,
-        unit,
-    } = x
-    else {
+    let Ok(read) = x else {
         return Turned {
             held: before,
             status: FAILED,
         };
     };
     let day = DayHead {
-        date,
-        length: minutes(n),
-        update,
-        load,
-        unit,
+        date: read.date,
+        length: minutes(read.n),
+        update: read.update,
+        load: read.load,
+        unit: read.unit,
     };
     put_one(
         rt,
@@ -146,7 +138,7 @@ fn put_placed(
         file,
         k,
         before,
-        part(file, two_hundred.at, two_hundred.end),
+        part(file, found.under.at, found.under.end),
         day,
         values,
         flags,
@@ -328,12 +320,8 @@ fn put_file(
     let answer = noted.answer;
     let first = noted.day;
     match answer {
-        Checked::Accepted {
-            version: _,
-            channels: _,
-            days,
-        } => fill(rt, page, store, file, days, first, before),
-        Checked::Refused(x) => {
+        Ok(c) => fill(rt, page, store, file, c.days, first, before),
+        Err(x) => {
             let p = explained(page, 0, file, x);
             warn(rt, page, p);
             REFUSED
@@ -342,11 +330,11 @@ fn put_file(
 }
 
 pub fn put(rt: &impl Machine, page: &mut [u8], store: &mut [u8], room: &mut [u8]) -> u8 {
-    let Opened::Is(h) = open_store(store) else {
+    let Some(h) = open_store(store) else {
         no_store(rt, page);
         return REFUSED;
     };
-    let Loaded::Bytes(n) = load_word(rt, FILE, room) else {
+    let Some(n) = load_word(rt, FILE, room) else {
         return FAILED;
     };
     put_file(rt, page, store, part(room, 0, n), h.days as usize)

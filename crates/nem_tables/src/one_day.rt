@@ -5,7 +5,7 @@ use format::{DayHead, DayRead, Refusal};
 use machine::Machine;
 use outward::{REFUSED, warn};
 use reading::read_day::read_day;
-use wanted::{Wanted, wanted_day};
+use wanted::wanted_day;
 
 const MOST: usize = 288;
 
@@ -84,7 +84,7 @@ fn show_day(rt: &impl Machine, page: &mut [u8], file: &[u8], k: usize) -> u8 {
 
 pub fn show(rt: &impl Machine, page: &mut [u8], file: &[u8]) -> u8 {
     match wanted_day(rt, page, file) {
-        Wanted::Day(k) => show_day(rt, page, file, k),
-        Wanted::Nothing(status) => status,
+        Ok(k) => show_day(rt, page, file, k),
+        Err(status) => status,
     }
 }

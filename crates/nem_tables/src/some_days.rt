@@ -12,7 +12,7 @@ use filling::read_noted;
 use machine::Machine;
 use outward::{DONE, REFUSED, complain, warn, write_line};
 use page::texts::{number, put};
-use wanted::{Wanted, by_number};
+use wanted::by_number;
 
 const MOST: usize = 288;
 
@@ -182,14 +182,14 @@ fn show_days(rt: &impl Machine, page: &mut [u8], file: &[u8], first: usize, last
 
 fn show_from(rt: &impl Machine, page: &mut [u8], file: &[u8], first: usize) -> u8 {
     match by_number(rt, page, LAST) {
-        Wanted::Day(last) => show_days(rt, page, file, first, last),
-        Wanted::Nothing(status) => status,
+        Ok(last) => show_days(rt, page, file, first, last),
+        Err(status) => status,
     }
 }
 
 pub fn show(rt: &impl Machine, page: &mut [u8], file: &[u8]) -> u8 {
     match by_number(rt, page, FIRST) {
-        Wanted::Day(first) => show_from(rt, page, file, first),
-        Wanted::Nothing(status) => status,
+        Ok(first) => show_from(rt, page, file, first),
+        Err(status) => status,
     }
 }

@@ -1,4 +1,5 @@
 -- The ways out of the tests of a store. Assumes nothing.
+use Rattle.std.proofs.Common.{Some, None}
 use Prim.Native.Nat.{ℕ, ◌≤◌, ◌<◌}
 use mathlib.Core.Path.{◌≡◌, refl}
 use mathlib.Core.Bool.{Bool, true, false, ◌&&◌}
@@ -15,7 +16,6 @@ use Rattle.store.specs.Store.{slotted, counted, in_order, used_fit, used_slots, 
 use Rattle.store.specs.declared.Header.{Header}
 use Rattle.frames.specs.Frames.{framed}
 use Rattle.opening.specs.Opens.{opened_of}
-use Rattle.opening.specs.declared.Opened.TheVariants.{Is, Not}
 
 pub ranges-are : (m : List ℕ) (h : Header) {os ns : List ℕ} {b : Bool} → os ≡ starts m h h.map → ns ≡ sizes m h h.map → b ≡ laid h.used os ns → b ≡ ranges_laid m h
 unfolding ranges_laid
@@ -37,15 +37,15 @@ few_slots h n t =
     leb-true h.slots 64 (and-true (leb 1 h.slots) (leb h.slots 64) v.0).1
 
 module _ (m : List ℕ) where
-  pub too_few : length m < 32 → Not ≡ opened_of m
+  pub too_few : length m < 32 → None ≡ opened_of m
   unfolding opened_of is_store
   too_few l = rw (lt-leb 32 (length m) l)
 
   module _ (l : 32 ≤ length m) {h : Header} (eh : h ≡ header_of m) {b : Bool} (e : b ≡ is_store_of m h) where
-    pub opened : b ≡ true → Is h ≡ opened_of m
+    pub opened : b ≡ true → Some h ≡ opened_of m
     unfolding opened_of is_store
     opened t = rw (le-leb 32 (length m) l, ← eh, ← e, t)
 
-    pub not_opened : b ≡ false → Not ≡ opened_of m
+    pub not_opened : b ≡ false → None ≡ opened_of m
     unfolding opened_of is_store
     not_opened t = rw (le-leb 32 (length m) l, ← eh, ← e, t)

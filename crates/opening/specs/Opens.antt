@@ -1,9 +1,8 @@
--- A store with its header, or none.
-use Rattle.std.specs.Prelude.{ℕ, cond, List}
+-- The header of what is a store.
+use Rattle.std.specs.Prelude.{ℕ, cond, List, Option, Some, None}
 use Rattle.store.specs.Head.{header_of}
 use Rattle.store.specs.Store.{is_store}
-use Rattle.opening.specs.declared.Opened.{Opened}
-use Rattle.opening.specs.declared.Opened.TheVariants.{Is, Not}
+use Rattle.store.specs.declared.Header.{Header}
 
-unfoldable pub opened_of : List ℕ → Opened
-opened_of m = cond (is_store m) (Is (header_of m)) Not
+unfoldable pub opened_of : List ℕ → Option Header
+opened_of m = cond (is_store m) (Some (header_of m)) None

@@ -12,13 +12,6 @@ use ranges::laid;
 use slots::{read_header, read_sizes, read_starts};
 use store::Header;
 
-// A store with its header, or none.
-#[derive(Clone, Copy)]
-pub enum Opened {
-    Is(Header),
-    Not,
-}
-
 // The lists are lent to work in.
 fn are_ranges_laid_with(memory: &[u8], h: Header, starts: &mut [u32], sizes: &mut [u32]) -> bool
     requires { (length starts.old ≡ 64) × (length sizes.old ≡ 64) }
@@ -49,15 +42,16 @@ fn is_store(memory: &[u8], h: Header) -> bool
         && all_hold_days(memory, h)
 }
 
-pub fn open_store(memory: &[u8]) -> Opened
+// The header of what is a store.
+pub fn open_store(memory: &[u8]) -> Option<Header>
     ensures { result ≡ opened_of memory.now }
 {
     if memory.len() < 32 {
-        return Opened::Not;
+        return None;
     }
     let h = read_header(memory);
     if is_store(memory, h) {
-        return Opened::Is(h);
+        return Some(h);
     }
-    Opened::Not
+    None
 }

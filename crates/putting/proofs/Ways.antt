@@ -1,4 +1,5 @@
 -- The ways out of a put. Assumes nothing.
+use Rattle.std.proofs.Common.{Result, Ok, Err, Option, Some, None}
 use Prim.Native.Nat.{ℕ, ◌+◌, ◌-◌, ◌≤◌, ◌<◌}
 use mathlib.Core.Path.{◌≡◌, refl, sym, ap, ◌∙◌}
 use mathlib.Core.Bool.{Bool, true, false, cond, not, ◌&&◌}
@@ -16,7 +17,6 @@ use Rattle.format.specs.Answers.{Answer, accepted, refusal, refused_as, written_
 use Rattle.format.specs.Block.{Given}
 use Rattle.format.specs.declared.Refusal.{Refusal}
 use Rattle.format.specs.declared.Written.{Written}
-use Rattle.format.specs.declared.Written.TheVariants as written
 use Rattle.passing.proofs.Writes.{written-length, written-answer}
 use Rattle.entries.specs.Keys.{Key, good_key}
 use Rattle.store.specs.Used.{taken, freed, held, free_from}
@@ -28,8 +28,6 @@ use Rattle.used_map.proofs.Slots.{freed-fewer}
 use Rattle.settling.specs.Settling.{Settles}
 use Rattle.settling.proofs.Blocks.{live-most}
 use Rattle.opening.specs.Opens.{opened_of}
-use Rattle.opening.specs.declared.Opened.{Opened}
-use Rattle.opening.specs.declared.Opened.TheVariants.{Is, Not}
 use Rattle.opening.proofs.Ways.{opened-store, opened-header, opened-not}
 use Rattle.stored.proofs.Keys.{good}
 use Rattle.stored.proofs.Whole.{Whole, whole, slot-within}
@@ -140,16 +138,16 @@ module _ {m : List ℕ} {h : Header} (o : Opens m h) (nmi suffix : List ℕ) (g 
     unfolding put_of
     put-16 t q = rw (o.store, ← eb, not-true b t, q)
 
-    module _ (t : not b ≡ false) {w : Written} (ew : written_as w ≡ write_answer g) where
-      pub put-unfit : {y : Refusal} → w ≡ written.Refused y → left (refused_as y) m ≡ put_of m nmi suffix g
+    module _ (t : not b ≡ false) {w : Result Written Refusal} (ew : written_as w ≡ write_answer g) where
+      pub put-unfit : {y : Refusal} → w ≡ Err y → left (refused_as y) m ≡ put_of m nmi suffix g
       unfolding put_of
       put-unfit q = rw (o.store, ← eb, not-false b t, ← ew, q)
 
-      module _ {n k : ℕ} (q : w ≡ written.Block n k) where
-        is : write_answer g ≡ accepted (n ∷ k ∷ [])
+      module _ {d : Written} (q : w ≡ Ok d) where
+        is : write_answer g ≡ accepted (d.bytes ∷ d.records ∷ [])
         is = sym ew ∙ ap written_as q
 
-        pub puttable : {x : Key} → x ≡ key_given nmi suffix g → Puttable m h x g n k
+        pub puttable : {x : Key} → x ≡ key_given nmi suffix g → Puttable m h x g d.bytes d.records
         puttable ex = record { opens = o; good = rw ex (sym eb ∙ not-false b t); answer = is }
 
         pub put_fit_lem : {x : Key} {r : Left} → x ≡ key_given nmi suffix g → r ≡ put_fit m h x g (block_given g) → r ≡ put_of m nmi suffix g
@@ -158,10 +156,10 @@ module _ {m : List ℕ} {h : Header} (o : Opens m h) (nmi suffix : List ℕ) (g 
 
 -- ---- any memory
 
-module _ (m nmi suffix : List ℕ) (g : Given) {o : Opened} (e : o ≡ opened_of m) where
-  pub put-21 : o ≡ Not → {a : Answer} → a ≡ refusal 21 → left a m ≡ put_of m nmi suffix g
+module _ (m nmi suffix : List ℕ) (g : Given) {o : Option Header} (e : o ≡ opened_of m) where
+  pub put-21 : o ≡ None → {a : Answer} → a ≡ refusal 21 → left a m ≡ put_of m nmi suffix g
   unfolding put_of
   put-21 q p = rw (opened-not m e q, p)
 
-pub opens : (m : List ℕ) {o : Opened} → o ≡ opened_of m → {h : Header} → o ≡ Is h → Opens m h
+pub opens : (m : List ℕ) {o : Option Header} → o ≡ opened_of m → {h : Header} → o ≡ Some h → Opens m h
 opens m e q = record { store = opened-store m e q; header = opened-header m e q }

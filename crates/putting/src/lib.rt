@@ -13,12 +13,12 @@ ghost use Rattle.entering.specs.Enters.{Enterable};
 ghost use Rattle.putting.specs.Steps.{block_given, Addable, Added, Opens, Puttable};
 
 use entering::enter_day;
-use format::{DayHead, Refusal, Written};
+use format::{DayHead, Refusal};
 use keys::good_key;
-use opening::{Opened, open_store};
+use opening::open_store;
 use seeking::find_slot;
 use settling::{live_bytes, settle};
-use store::{Header, Kept};
+use store::Header;
 use taking::{is_kept_since, slot_for};
 use used_map::set_free;
 use writing::{measure_day, write_measured};
@@ -77,7 +77,7 @@ fn put_there(
     text: &[u8],
     bytes: usize,
     records: usize,
-) -> Kept
+) -> Result<usize, Refusal>
     requires { Addable memory.old h map (given day values.now flags.now methods.now reasons.now starts.now lengths.now text.now) records × (bytes ≡ length (block_given (given day values.now flags.now methods.now reasons.now starts.now lengths.now text.now))) × Enterable (length memory.old) h s nmi.now suffix.now day.length (live memory.old h map) bytes }
     ensures { left (kept_as result) memory.new ≡ left (accepted (held (taken map s) ∷ [])) (put_into memory.old h map s (key nmi.now suffix.now day.date) (given day values.now flags.now methods.now reasons.now starts.now lengths.now text.now) (block_given (given day values.now flags.now methods.now reasons.now starts.now lengths.now text.now))) }
 {
@@ -103,23 +103,23 @@ fn put_block(
     text: &[u8],
     bytes: usize,
     records: usize,
-) -> Kept
+) -> Result<usize, Refusal>
     requires { Puttable memory.old h (key nmi.now suffix.now day.date) (given day values.now flags.now methods.now reasons.now starts.now lengths.now text.now) bytes records }
     ensures { left (kept_as result) memory.new ≡ put_fit memory.old h (key nmi.now suffix.now day.date) (given day values.now flags.now methods.now reasons.now starts.now lengths.now text.now) (block_given (given day values.now flags.now methods.now reasons.now starts.now lengths.now text.now)) }
 {
     let i = find_slot(memory, h, nmi, suffix, day.date);
     if is_kept_since(memory, h, i, day.update) {
-        return Kept::Refused(Refusal::bare(18));
+        return Err(Refusal::bare(18));
     }
     let s = slot_for(h, i);
     if h.slots <= s {
-        return Kept::Refused(Refusal::bare(19));
+        return Err(Refusal::bare(19));
     }
     let map = set_free(h.map, i);
     let live = live_bytes(memory, h, map);
     let size = h.size as usize;
     if size - live < bytes {
-        return Kept::Refused(Refusal::bare(20));
+        return Err(Refusal::bare(20));
     }
     put_there(
         memory, h, map, s, nmi, suffix, day, values, flags, methods, reasons, starts, lengths,
@@ -141,21 +141,18 @@ fn put_opened(
     starts: &[usize],
     lengths: &[usize],
     text: &[u8],
-) -> Kept
+) -> Result<usize, Refusal>
     requires { Opens memory.old h }
     ensures { left (kept_as result) memory.new ≡ put_of memory.old nmi.now suffix.now (given day values.now flags.now methods.now reasons.now starts.now lengths.now text.now) }
 {
     if !good_key(nmi, suffix, day.date) {
-        return Kept::Refused(Refusal::bare(16));
+        return Err(Refusal::bare(16));
     }
-    let w = measure_day(day, values, flags, methods, reasons, starts, lengths, text);
-    match w {
-        Written::Refused(x) => Kept::Refused(x),
-        Written::Block { bytes, records } => put_block(
-            memory, h, nmi, suffix, day, values, flags, methods, reasons, starts, lengths, text,
-            bytes, records,
-        ),
-    }
+    let w = measure_day(day, values, flags, methods, reasons, starts, lengths, text)?;
+    put_block(
+        memory, h, nmi, suffix, day, values, flags, methods, reasons, starts, lengths, text,
+        w.bytes, w.records,
+    )
 }
 
 // Puts a day under its key, as its shortest block, and answers the days held then. 21 if the memory is no store; 16 if NMI, suffix and the day's date are no good
@@ -173,14 +170,11 @@ pub fn put_day(
     starts: &[usize],
     lengths: &[usize],
     text: &[u8],
-) -> Kept
+) -> Result<usize, Refusal>
     ensures { left (kept_as result) memory.new ≡ put_of memory.old nmi.now suffix.now (given day values.now flags.now methods.now reasons.now starts.now lengths.now text.now) }
 {
-    let o = open_store(memory);
-    match o {
-        Opened::Not => Kept::Refused(Refusal::bare(21)),
-        Opened::Is(h) => put_opened(
-            memory, h, nmi, suffix, day, values, flags, methods, reasons, starts, lengths, text,
-        ),
-    }
+    let h = open_store(memory).ok_or(Refusal::bare(21))?;
+    put_opened(
+        memory, h, nmi, suffix, day, values, flags, methods, reasons, starts, lengths, text,
+    )
 }

@@ -1,4 +1,5 @@
 -- The ways out of the reading of a slot. Assumes nothing.
+use Rattle.std.proofs.Common.{Option, Some, None}
 use Prim.Native.Nat.{ℕ, ◌+◌, ◌≤◌, ◌<◌}
 use mathlib.Core.Path.{◌≡◌}
 use mathlib.Core.Bool.{Bool, true, false}
@@ -14,8 +15,6 @@ use Rattle.store.specs.Store.{block_says}
 use Rattle.store.specs.Calls.{update_said, slot_says, slot_read_of, read_slot_of}
 use Rattle.store.specs.declared.Header.{Header}
 use Rattle.opening.specs.Opens.{opened_of}
-use Rattle.opening.specs.declared.Opened.{Opened}
-use Rattle.opening.specs.declared.Opened.TheVariants.{Is, Not}
 use Rattle.opening.proofs.Ways.{opened-store, opened-header, opened-not}
 
 pub used-says : (m : List ℕ) (h : Header) (i : ℕ) {a t v : ℕ} {e : Entry} → a ≡ slot_place h i → e ≡ entry_at m a → t ≡ number_at m (a + 12) 4 → v ≡ update_said (block_says m h e)
@@ -37,11 +36,11 @@ module _ (m : List ℕ) (h : Header) (i : ℕ) where
     unfolding slot_read_of
     slot-free t = rw (lt-ltb i h.slots l, ← e, t)
 
-module _ (m : List ℕ) (i : ℕ) {o : Opened} (e : o ≡ opened_of m) where
-  pub not-store : o ≡ Not → {a : Answer} → a ≡ refusal 21 → a ≡ read_slot_of m i
+module _ (m : List ℕ) (i : ℕ) {o : Option Header} (e : o ≡ opened_of m) where
+  pub not-store : o ≡ None → {a : Answer} → a ≡ refusal 21 → a ≡ read_slot_of m i
   unfolding read_slot_of
   not-store q p = rw (opened-not m e q) p
 
-  pub slot_read : {h : Header} → o ≡ Is h → {a : Answer} → a ≡ slot_read_of m h i → a ≡ read_slot_of m i
+  pub slot_read : {h : Header} → o ≡ Some h → {a : Answer} → a ≡ slot_read_of m h i → a ≡ read_slot_of m i
   unfolding read_slot_of
   slot_read q p = rw (opened-store m e q, ← opened-header m e q) p

@@ -1,4 +1,6 @@
 -- The lines of the calls that split a total, from what the calls answered. Assumes nothing.
+use Rattle.format.specs.declared.Refusal.{Refusal}
+use Rattle.std.proofs.Common.{Result}
 use Prim.Native.Nat.{ℕ}
 use mathlib.Core.Path.{◌≡◌, ap}
 use mathlib.Core.Bool.{Bool}
@@ -12,14 +14,13 @@ use Rattle.answer_lines.specs.Lines.{line_of}
 use Rattle.calls.specs.Kept.{kept, wide_mark, ending}
 use Rattle.entries.specs.Left.{Left, left}
 use Rattle.splits.specs.Calls.{split_as}
-use Rattle.splits.specs.declared.Split.{Split}
 use Rattle.split_calls.specs.Lines.{set_in, part_text, split_text}
 
 pub part-put : (ps : List ℕ) (n : ℕ) {p₀ p₁ p₂ : List ℕ} {at i j v : ℕ} → v ≡ get_or ps n 0 → Filled p₀ at (32 ∷ []) i p₁ → Filled p₁ i (dec v) j p₂ → Filled p₀ at (part_text ps n) j p₂
 unfolding part_text
 part-put ps n ev p q = rw (← ev) (filled-then p q)
 
-pub shown-put : (x : Split) (ps : List ℕ) {p₀ p₁ p₂ p₃ : List ℕ} {at i j k n : ℕ} {b : Bool} → n ≡ set_in (split_as x) → b ≡ kept wide_mark n ps
+pub shown-put : (x : Result ℕ Refusal) (ps : List ℕ) {p₀ p₁ p₂ p₃ : List ℕ} {at i j k n : ℕ} {b : Bool} → n ≡ set_in (split_as x) → b ≡ kept wide_mark n ps
     → Filled p₀ at (line_of (split_as x)) i p₁ → Filled p₁ i (texts (part_text ps) n) j p₂ → Filled p₂ j (ending b) k p₃
     → Filled p₀ at (split_text (left (split_as x) ps)) k p₃
 unfolding split_text

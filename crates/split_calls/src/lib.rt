@@ -14,20 +14,20 @@ ghost use Rattle.split_calls.specs.Lines.{set_in, split_text, lent_parts};
 use calls::PLACES;
 use calls::files::WIDE_MARK;
 use calls::kept::{end_line, wide};
-use splits::Split;
+use format::Refusal;
 use splitter::{split, split_day, split_stored};
 
 // How many parts the call has set.
-fn set_parts(x: Split) -> usize
+fn set_parts(x: Result<usize, Refusal>) -> usize
     ensures { result ≡ set_in (split_as x) }
 {
     match x {
-        Split::Done { outputs: _ } => 128,
-        Split::Refused(_) => 0,
+        Ok(_) => 128,
+        Err(_) => 0,
     }
 }
 
-fn shown(page: &mut [u8], at: usize, x: Split, parts: &[u64]) -> usize
+fn shown(page: &mut [u8], at: usize, x: Result<usize, Refusal>, parts: &[u64]) -> usize
     ensures { Filled page.old at (split_text (left (split_as x) parts.now)) result page.new }
 {
     let n = set_parts(x);

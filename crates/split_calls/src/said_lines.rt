@@ -6,16 +6,16 @@ ghost use Rattle.splits.specs.Calls.{split_as};
 ghost use Rattle.split_calls.specs.Lines.{part_text};
 
 use answer_lines::answers::{accepted, refusal};
+use format::Refusal;
 use page::items::u64_at;
 use page::texts::{number, put};
-use splits::Split;
 
-pub fn split(page: &mut [u8], at: usize, x: Split) -> usize
+pub fn split(page: &mut [u8], at: usize, x: Result<usize, Refusal>) -> usize
     ensures { Filled page.old at (line_of (split_as x)) result page.new }
 {
     match x {
-        Split::Done { outputs } => accepted(page, at, &[outputs as u64]),
-        Split::Refused(x) => refusal(page, at, x),
+        Ok(outputs) => accepted(page, at, &[outputs as u64]),
+        Err(x) => refusal(page, at, x),
     }
 }
 

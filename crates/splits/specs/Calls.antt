@@ -1,13 +1,14 @@
 -- 02, 12: "Given a day's total, its channel's key and the map for that date, each output on that channel gets total times share over the channel's sum of shares,
 -- rounded down, with what remains given one each to the largest remainders, lower output first when equal. [..] Order: a total above 2,880,000,000,000,000 (27),
 -- fewer than 128 places lent (15), a map entry that adding would refuse (25), channel shares that add up to 0 (26)."
-use Rattle.std.specs.Prelude.{ℕ, List, [], ◌∷◌, ◌++◌, Bool, not, ◌&&◌, length, leb, eqb}
+use Rattle.std.specs.Prelude.{ℕ, List, [], ◌∷◌, ◌++◌, Bool, not, ◌&&◌, length, leb, eqb, Result, Ok, Err}
 use Rattle.ground.specs.Lists.{all, sum}
 use Rattle.format.specs.Texts.{is_nmi, is_suffix}
 use Rattle.format.specs.Cut.{field}
 use Rattle.format.specs.Records.{date_in}
 use Rattle.format.specs.Answers.{Answer, accepted, refused_as}
 use Rattle.format.specs.Day.{values_of, over}
+use Rattle.format.specs.declared.Refusal.{Refusal}
 use Rattle.entries.specs.Keys.{Key, capitals}
 use Rattle.entries.specs.Left.{Left, left, unless}
 use Rattle.store.specs.Head.{header_of}
@@ -21,13 +22,11 @@ use Rattle.shares.specs.Shares.{count, parts_of}
 use Rattle.channel_shares.specs.OnChannel.{has_key, weights_of}
 use Rattle.day_sums.specs.Sought.{Sought, found, missing, day_in}
 use Rattle.stored_sums.specs.Sums.{sum_at}
-use Rattle.splits.specs.declared.Split.{Split}
-use Rattle.splits.specs.declared.Split.TheVariants.{Done, Refused}
 
 -- how many outputs are on the channel
-abbrev pub split_as : Split → Answer
-split_as (Done n) = accepted (n ∷ [])
-split_as (Refused x) = refused_as x
+abbrev pub split_as : Result ℕ Refusal → Answer
+split_as (Ok n) = accepted (n ∷ [])
+split_as (Err x) = refused_as x
 
 -- ---- a total
 

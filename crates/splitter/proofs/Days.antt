@@ -1,4 +1,5 @@
 -- The ways out of splitting a day: by the map on its date, of a file, and of a store. Assumes nothing.
+use Rattle.std.proofs.Common.{Result, Ok, Err}
 use Prim.Native.Nat.{ℕ, ◌≤◌}
 use mathlib.Core.Path.{◌≡◌, sym, ap, ◌∙◌}
 use mathlib.Core.Bool.{true}
@@ -14,8 +15,6 @@ use Rattle.format.specs.Records.{date_in}
 use Rattle.format.specs.Answers.{Answer, accepted, refused, refused_as, totalled_as}
 use Rattle.format.specs.Day.{values_of, over}
 use Rattle.format.specs.declared.Refusal.{Refusal}
-use Rattle.format.specs.declared.Totalled.{Totalled}
-use Rattle.format.specs.declared.Totalled.TheVariants as totalled
 use Rattle.entries.specs.Keys.{Key, key}
 use Rattle.entries.specs.Left.{Left, left}
 use Rattle.store.specs.Head.{header_of}
@@ -24,14 +23,10 @@ use Rattle.store.specs.Calls.{is_there}
 use Rattle.tenants.specs.Outputs.{keys_of, shares_of}
 use Rattle.tenants.specs.Versions.{versions_in, is_map, version_on}
 use Rattle.tenants.specs.Calls.{versioned_as, enough, outputs_of, Mapped, mapped, fill_of, ask_of, on_of}
-use Rattle.tenants.specs.declared.Versioned.{Versioned}
-use Rattle.tenants.specs.declared.Versioned.TheVariants as versioned
 use Rattle.tenant_map.proofs.Asks.{on-keys-long, on-shares-long}
 use Rattle.whose.specs.Whose.{nmi_field, suffix_field}
 use Rattle.day_sums.specs.Sought.{day_in, rows_of, sought_as, Within, within_as}
 use Rattle.day_sums.specs.declared.DayAt.{DayAt}
-use Rattle.day_sums.specs.declared.DaySought.{DaySought}
-use Rattle.day_sums.specs.declared.DaySought.TheVariants as daySought
 use Rattle.stored_sums.specs.Sums.{sum_at, stored_sum_of}
 use Rattle.splits.specs.Calls.{split_of, split_on, split_day_of, split_stored_of}
 
@@ -87,25 +82,25 @@ module _ (t : ℕ) (nmi suffix m : List ℕ) (date : ℕ) (ps ks ss : List ℕ) 
       (λ b. differs (sym (rw (a, b) at e))))
       (λ a. differs (sym (rw a at e)))
 
-  pub on-refused : {r : Versioned} {x : Refusal} → r ≡ versioned.Refused x → mapped (versioned_as r) ks₁ ss₁ ≡ on_of m date ks ss
+  pub on-refused : {r : Result ℕ Refusal} {x : Refusal} → r ≡ Err x → mapped (versioned_as r) ks₁ ss₁ ≡ on_of m date ks ss
       → left (refused_as x) ps ≡ split_on t nmi suffix date m ps
-  on-refused q e = refused-on (ap (λ (r : Versioned). mapped (versioned_as r) ks₁ ss₁) (sym q) ∙ e)
+  on-refused q e = refused-on (ap (λ (r : Result ℕ Refusal). mapped (versioned_as r) ks₁ ss₁) (sym q) ∙ e)
 
-  pub on-version : {r : Versioned} {n : ℕ} {l : Left} → r ≡ versioned.Version n → mapped (versioned_as r) ks₁ ss₁ ≡ on_of m date ks ss
+  pub on-version : {r : Result ℕ Refusal} {n : ℕ} {l : Left} → r ≡ Ok n → mapped (versioned_as r) ks₁ ss₁ ≡ on_of m date ks ss
       → l ≡ split_of t nmi suffix ks₁ ss₁ ps → l ≡ split_on t nmi suffix date m ps
-  on-version q e w = version-on (ap (λ (r : Versioned). mapped (versioned_as r) ks₁ ss₁) (sym q) ∙ e) w
+  on-version q e w = version-on (ap (λ (r : Result ℕ Refusal). mapped (versioned_as r) ks₁ ss₁) (sym q) ∙ e) w
 
 -- ---- of a file
 
-pub sought-within : (file : List ℕ) {r : DaySought} {d : DayAt} → r ≡ daySought.Found d → within_as file r → Within file d
+pub sought-within : (file : List ℕ) {r : Result DayAt Refusal} {d : DayAt} → r ≡ Ok d → within_as file r → Within file d
 sought-within file h w = rw h at w
 
-module _ (file : List ℕ) (day : ℕ) (m ps : List ℕ) {r : DaySought} (e : sought_as file r ≡ day_in file day) where
-  pub day-refused : {x : Refusal} → r ≡ daySought.Refused x → left (refused_as x) ps ≡ split_day_of file day m ps
+module _ (file : List ℕ) (day : ℕ) (m ps : List ℕ) {r : Result DayAt Refusal} (e : sought_as file r ≡ day_in file day) where
+  pub day-refused : {x : Refusal} → r ≡ Err x → left (refused_as x) ps ≡ split_day_of file day m ps
   unfolding split_day_of
   day-refused h = rw (← e, h)
 
-  pub day-split : {d : DayAt} → r ≡ daySought.Found d → {t date : ℕ} {nmi suffix : List ℕ} → t ≡ sum (values_of (rows_of file d).block)
+  pub day-split : {d : DayAt} → r ≡ Ok d → {t date : ℕ} {nmi suffix : List ℕ} → t ≡ sum (values_of (rows_of file d).block)
       → nmi ≡ field nmi_field (rows_of file d).channel.cells → suffix ≡ field suffix_field (rows_of file d).channel.cells
       → date ≡ date_in (rows_of file d).block.top.cells → {l : Left} → l ≡ split_on t nmi suffix date m ps → l ≡ split_day_of file day m ps
   unfolding split_day_of
@@ -140,9 +135,9 @@ module _ (s nmi suffix : List ℕ) (date : ℕ) (m ps : List ℕ) where
       (λ b. differ (sym (rw (a, b) at e))))
       (λ a. differ (sym (rw a at e)))
 
-  module _ {r : Totalled} (e : totalled_as r ≡ stored_sum_of s asked) where
-    pub stored_refused : {x : Refusal} → r ≡ totalled.Refused x → left (refused_as x) ps ≡ split_stored_of s asked m ps
+  module _ {r : Result ℕ Refusal} (e : totalled_as r ≡ stored_sum_of s asked) where
+    pub stored_refused : {x : Refusal} → r ≡ Err x → left (refused_as x) ps ≡ split_stored_of s asked m ps
     stored_refused h = refused-stored (ap totalled_as (sym h) ∙ e)
 
-    pub stored-split : {v : ℕ} → r ≡ totalled.Total v → {l : Left} → l ≡ split_on v nmi suffix date m ps → l ≡ split_stored_of s asked m ps
+    pub stored-split : {v : ℕ} → r ≡ Ok v → {l : Left} → l ≡ split_on v nmi suffix date m ps → l ≡ split_stored_of s asked m ps
     stored-split h g = g ∙ summed-stored (ap totalled_as (sym h) ∙ e)

@@ -11,15 +11,13 @@ ghost use Rattle.splits.specs.Calls.{split_as, is_on, shared_of, split_of, split
 ghost use Rattle.splitter.specs.Steps.{Fit};
 
 use channel_shares::put_weights;
-use day_sums::{DaySought, date_of, nmi_of, seek_day, suffix_of, sum_of};
-use format::{Refusal, Totalled};
+use day_sums::{date_of, nmi_of, seek_day, suffix_of, sum_of};
+use format::Refusal;
 use keys::put_capitals;
 use outputs::are_fit;
 use shares::share_out;
-use splits::Split;
 use stored_sums::stored_sum;
 use tenant_map::map_on;
-use tenants::Versioned;
 
 // The largest total: 288 values, each below 10^13.
 const LARGEST: u64 = 2880000000000000;
@@ -48,19 +46,23 @@ fn put_channel(nmi: &[u8], suffix: &[u8], channel: &mut [u8])
 }
 
 // Splits over the outputs of a key in capitals, where nothing but the sum of their shares can refuse.
-fn split_known(total: u64, channel: &[u8], keys: &[u8], shares: &[u16], parts: &mut [u64]) -> Split
+fn split_known(
+    total: u64,
+    channel: &[u8],
+    keys: &[u8],
+    shares: &[u16],
+    parts: &mut [u64],
+) -> Result<usize, Refusal>
     requires { Fit total keys.now shares.now parts.old }
     ensures { left (split_as result) parts.new ≡ shared_of total (has_key channel.now) (outputs_given 128 keys.now shares.now) parts.old }
 {
     let mut weights: [u64; 128] = [0; 128];
     let on = put_weights(channel, keys, shares, &mut weights);
     if on.shares == 0 {
-        return Split::Refused(Refusal::bare(26));
+        return Err(Refusal::bare(26));
     }
     share_out(total, on.shares, &weights, parts);
-    Split::Done {
-        outputs: on.outputs,
-    }
+    Ok(on.outputs)
 }
 
 // The same over the outputs on a channel.
@@ -71,12 +73,12 @@ fn split_fit(
     keys: &[u8],
     shares: &[u16],
     parts: &mut [u64],
-) -> Split
+) -> Result<usize, Refusal>
     requires { Fit total keys.now shares.now parts.old }
     ensures { left (split_as result) parts.new ≡ shared_of total (is_on nmi.now suffix.now) (outputs_given 128 keys.now shares.now) parts.old }
 {
     if !is_channel(nmi, suffix) {
-        return Split::Refused(Refusal::bare(26));
+        return Err(Refusal::bare(26));
     }
     let mut channel: [u8; 12] = [0; 12];
     put_channel(nmi, suffix, &mut channel);
@@ -106,17 +108,17 @@ pub fn split(
     keys: &[u8],
     shares: &[u16],
     parts: &mut [u64],
-) -> Split
+) -> Result<usize, Refusal>
     ensures { left (split_as result) parts.new ≡ split_of total nmi.now suffix.now keys.now shares.now parts.old }
 {
     if LARGEST < total {
-        return Split::Refused(Refusal::bare(27));
+        return Err(Refusal::bare(27));
     }
     if !are_enough(parts.len(), keys.len(), shares.len()) {
-        return Split::Refused(Refusal::bare(15));
+        return Err(Refusal::bare(15));
     }
     if !are_fit(keys, shares) {
-        return Split::Refused(Refusal::bare(25));
+        return Err(Refusal::bare(25));
     }
     split_fit(total, nmi, suffix, keys, shares, parts)
 }
@@ -129,35 +131,34 @@ fn split_on(
     date: u32,
     memory: &[u8],
     parts: &mut [u64],
-) -> Split
+) -> Result<usize, Refusal>
     ensures { left (split_as result) parts.new ≡ split_on total nmi.now suffix.now date memory.now parts.old }
 {
     let mut keys: [u8; 1536] = [0; 1536];
     let mut shares: [u16; 128] = [0; 128];
-    let on = map_on(memory, date, &mut keys, &mut shares);
-    match on {
-        Versioned::Refused(x) => Split::Refused(x),
-        Versioned::Version(_) => split(total, nmi, suffix, &keys, &shares, parts),
-    }
+    map_on(memory, date, &mut keys, &mut shares)?;
+    split(total, nmi, suffix, &keys, &shares, parts)
 }
 
 // Splits the sum of a day of a file by the map that memory holds, on the day's date. The file's own refusal comes first, then 14 if there is no such day; 21 if the
 // memory is no map, 14 if the date has no version; then as `split`.
-pub fn split_day(file: &[u8], day: usize, memory: &[u8], parts: &mut [u64]) -> Split
+pub fn split_day(
+    file: &[u8],
+    day: usize,
+    memory: &[u8],
+    parts: &mut [u64],
+) -> Result<usize, Refusal>
     ensures { left (split_as result) parts.new ≡ split_day_of file.now day memory.now parts.old }
 {
-    let sought = seek_day(file, day);
-    match sought {
-        DaySought::Refused(x) => Split::Refused(x),
-        DaySought::Found(at) => split_on(
-            sum_of(file, at),
-            nmi_of(file, at),
-            suffix_of(file, at),
-            date_of(file, at),
-            memory,
-            parts,
-        ),
-    }
+    let at = seek_day(file, day)?;
+    split_on(
+        sum_of(file, at),
+        nmi_of(file, at),
+        suffix_of(file, at),
+        date_of(file, at),
+        memory,
+        parts,
+    )
 }
 
 // Splits the sum of a day that a store holds by the map that memory holds, on the day's date. 21 if the store is none, 14 if it has no day of that key; then as
@@ -169,12 +170,9 @@ pub fn split_stored(
     date: u32,
     memory: &[u8],
     parts: &mut [u64],
-) -> Split
+) -> Result<usize, Refusal>
     ensures { left (split_as result) parts.new ≡ split_stored_of store.now (key nmi.now suffix.now date) memory.now parts.old }
 {
-    let stored = stored_sum(store, nmi, suffix, date);
-    match stored {
-        Totalled::Refused(x) => Split::Refused(x),
-        Totalled::Total(sum) => split_on(sum, nmi, suffix, date, memory, parts),
-    }
+    let sum = stored_sum(store, nmi, suffix, date)?;
+    split_on(sum, nmi, suffix, date, memory, parts)
 }

@@ -1,9 +1,10 @@
 -- 02, 2, call by call: what each answers, and every byte of memory that it leaves.
-use Rattle.std.specs.Prelude.{ℕ, zero, suc, ◌+◌, ◌-◌, ◌*◌, min, List, [], ◌∷◌, Bool, cond, not, ◌&&◌, length, get_or, leb, ltb}
+use Rattle.std.specs.Prelude.{ℕ, zero, suc, ◌+◌, ◌-◌, ◌*◌, min, List, [], ◌∷◌, Bool, cond, not, ◌&&◌, length, get_or, leb, ltb, Result, Ok, Err, Option, Some, None}
 use Rattle.std.proofs.lemmas.List.Edits.{sets}
 use Rattle.format.specs.Numbers.{intervals_of}
 use Rattle.format.specs.Cut.{Lines, line, rest, lines}
 use Rattle.format.specs.Answers.{Answer, accepted, refused, refusal, refused_as}
+use Rattle.format.specs.declared.Refusal.{Refusal}
 use Rattle.format.specs.File.{most}
 use Rattle.format.specs.Day.{row_at, BlockRows, runs_from, Five, Outcome, outcome, room_for, read_into}
 use Rattle.format.specs.Block.{Given, day_given, block_of, write_of}
@@ -17,22 +18,17 @@ use Rattle.store.specs.Ranges.{slot_place, slot_of}
 use Rattle.store.specs.Store.{slotted, slot_key, block_in, block_says, is_store}
 use Rattle.store.specs.Moves.{live, moved_down}
 use Rattle.store.specs.declared.Header.{Header}
-use Rattle.store.specs.declared.Made.{Made}
-use Rattle.store.specs.declared.Made.TheVariants as made
-use Rattle.store.specs.declared.Kept.{Kept}
-use Rattle.store.specs.declared.Kept.TheVariants as kept
-use Rattle.store.specs.declared.SlotRead.{SlotRead}
-use Rattle.store.specs.declared.SlotRead.TheVariants as slotRead
+use Rattle.store.specs.declared.Slot.{Slot}
 
 -- the room's length
-abbrev pub made_as : Made → Answer
-made_as (made.Room n) = accepted (n ∷ [])
-made_as (made.Refused x) = refused_as x
+abbrev pub made_as : Result ℕ Refusal → Answer
+made_as (Ok n) = accepted (n ∷ [])
+made_as (Err x) = refused_as x
 
 -- the days held
-abbrev pub kept_as : Kept → Answer
-kept_as (kept.Days n) = accepted (n ∷ [])
-kept_as (kept.Refused x) = refused_as x
+abbrev pub kept_as : Result ℕ Refusal → Answer
+kept_as (Ok n) = accepted (n ∷ [])
+kept_as (Err x) = refused_as x
 
 -- ---- make
 
@@ -169,10 +165,10 @@ get_of m x vs ms =
 -- ---- one slot
 
 -- nothing for a free slot; else the places of NMI and suffix, date, interval length, unit, update time, where the block starts and ends
-abbrev pub slot_read_as : SlotRead → Answer
-slot_read_as slotRead.Free = accepted []
-slot_read_as (slotRead.Used n s t l u v a e) = accepted (n ∷ s ∷ t ∷ l ∷ u ∷ v ∷ a ∷ e ∷ [])
-slot_read_as (slotRead.Refused x) = refused_as x
+abbrev pub slot_read_as : Result (Option Slot) Refusal → Answer
+slot_read_as (Ok None) = accepted []
+slot_read_as (Ok (Some s)) = accepted (s.nmi ∷ s.suffix ∷ s.date ∷ s.length ∷ s.unit ∷ s.update ∷ s.start ∷ s.end ∷ [])
+slot_read_as (Err x) = refused_as x
 
 unfoldable pub slot_says : List ℕ → Header → ℕ → Entry → Answer
 slot_says m h a e =

@@ -1,7 +1,5 @@
-// The types of a store of days in lent memory: its header, and what its calls answer. What they mean is stated in specs/.
+// The types of a store of days in lent memory: its header, and what a slot holds. What they mean is stated in specs/.
 #![tactic(auto)]
-
-use format::Refusal;
 
 // The counts and offsets that a store opens with.
 #[derive(Clone, Copy)]
@@ -15,33 +13,15 @@ pub struct Header {
     pub used: u32,
 }
 
-// What a making answers: the length of the block room.
+// What a used slot holds: the places of its NMI and its suffix in memory, its date, interval length, unit and update time, and where its block starts and ends.
 #[derive(Clone, Copy)]
-pub enum Made {
-    Room(usize),
-    Refused(Refusal),
-}
-
-// What a put or a delete answers: the days held then.
-#[derive(Clone, Copy)]
-pub enum Kept {
-    Days(usize),
-    Refused(Refusal),
-}
-
-// What a slot holds: the places of its NMI and its suffix in memory, its date, interval length, unit and update time, and where its block starts and ends.
-#[derive(Clone, Copy)]
-pub enum SlotRead {
-    Free,
-    Used {
-        nmi: usize,
-        suffix: usize,
-        date: u32,
-        length: u32,
-        unit: u8,
-        update: u64,
-        start: usize,
-        end: usize,
-    },
-    Refused(Refusal),
+pub struct Slot {
+    pub nmi: usize,
+    pub suffix: usize,
+    pub date: u32,
+    pub length: u32,
+    pub unit: u8,
+    pub update: u64,
+    pub start: usize,
+    pub end: usize,
 }

@@ -19,18 +19,23 @@ use calls::files::{BYTE_MARK, HALF_MARK, SIZE_MARK, WIDE_MARK, day_shown};
 use calls::kept::end_line;
 use deleting::delete_day;
 use edit_calls::is_kept;
-use format::DayHead;
+use format::{DayHead, Refusal};
 use getting::get_day;
 use kept_bytes::{changed_from, made_from};
 use making::make_store;
 use page::texts::part;
 use putting::put_day;
 use slot_reading::read_slot;
-use store::{Kept, Made};
 use text::bytes::put_bytes;
 
 // The line of a put or a delete.
-fn changed(page: &mut [u8], at: usize, x: Kept, memory: &[u8], was: &[u8]) -> usize
+fn changed(
+    page: &mut [u8],
+    at: usize,
+    x: Result<usize, Refusal>,
+    memory: &[u8],
+    was: &[u8],
+) -> usize
     ensures { Filled page.old at (change_text (left (kept_as x) memory.now) was.now) result page.new }
 {
     let p = said_lines::kept(page, at, x);

@@ -5,60 +5,52 @@ ghost use Rattle.store.specs.Calls.{made_as, kept_as, slot_read_as};
 ghost use Rattle.store_calls.specs.Lines.{slot_text};
 
 use answer_lines::answers::{accepted, refusal};
+use format::Refusal;
 use page::texts::put;
-use store::{Kept, Made, SlotRead};
+use store::Slot;
 
-pub fn made(page: &mut [u8], at: usize, x: Made) -> usize
+pub fn made(page: &mut [u8], at: usize, x: Result<usize, Refusal>) -> usize
     ensures { Filled page.old at (line_of (made_as x)) result page.new }
 {
     match x {
-        Made::Room(n) => accepted(page, at, &[n as u64]),
-        Made::Refused(x) => refusal(page, at, x),
+        Ok(n) => accepted(page, at, &[n as u64]),
+        Err(x) => refusal(page, at, x),
     }
 }
 
-pub fn kept(page: &mut [u8], at: usize, x: Kept) -> usize
+pub fn kept(page: &mut [u8], at: usize, x: Result<usize, Refusal>) -> usize
     ensures { Filled page.old at (line_of (kept_as x)) result page.new }
 {
     match x {
-        Kept::Days(n) => accepted(page, at, &[n as u64]),
-        Kept::Refused(x) => refusal(page, at, x),
+        Ok(n) => accepted(page, at, &[n as u64]),
+        Err(x) => refusal(page, at, x),
     }
 }
 
 // With the line's end.
-pub fn slot(page: &mut [u8], at: usize, x: SlotRead) -> usize
+pub fn slot(page: &mut [u8], at: usize, x: Result<Option<Slot>, Refusal>) -> usize
     ensures { Filled page.old at (slot_text (slot_read_as x)) result page.new }
 {
     match x {
-        SlotRead::Free => put(page, at, b"free\n"),
-        SlotRead::Used {
-            nmi,
-            suffix,
-            date,
-            length,
-            unit,
-            update,
-            start,
-            end,
-        } => {
+        Ok(None) => put(page, at, b"free\n"),
+        Ok(Some(day)) => {
             let p = accepted(
                 page,
                 at,
                 &[
-                    nmi as u64,
-                    suffix as u64,
-                    date as u64,
-                    length as u64,
-                    unit as u64,
-                    update,
-                    start as u64,
-                    end as u64,
+                    day.nmi as u64,
+                    day.suffix as u64,
+                    day.date as u64,
+                    day.length as u64,
+                    day.unit as u64,
+                    day.update,
+                    day.start as u64,
+                    day.end as u64,
                 ],
             );
             put(page, p, b"\n")
         }
-        SlotRead::Refused(x) => {
+        Err(x) => {
             let p = refusal(page, at, x);
             put(page, p, b"\n")
         }

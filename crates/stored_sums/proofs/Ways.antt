@@ -1,4 +1,5 @@
 -- The block of an entry added up, and the ways out of looking for a day. Assumes nothing.
+use Rattle.std.proofs.Common.{Option, Some, None}
 use Prim.Native.Nat.{ℕ, ◌+◌, ◌≤◌, ◌<◌}
 use mathlib.Core.Path.{◌≡◌, sym, ap, ◌∙◌}
 use mathlib.Core.Bool.{true}
@@ -19,8 +20,6 @@ use Rattle.store.specs.Ranges.{slot_place, slot_of}
 use Rattle.store.specs.Calls.{seek, is_there, day_rows}
 use Rattle.store.specs.declared.Header.{Header}
 use Rattle.opening.specs.Opens.{opened_of}
-use Rattle.opening.specs.declared.Opened.{Opened}
-use Rattle.opening.specs.declared.Opened.TheVariants.{Is, Not}
 use Rattle.opening.proofs.Ways.{opened-store, opened-header, opened-not}
 use Rattle.lines.specs.Places.{LineEnd}
 use Rattle.getting.specs.Gets.{Readable}
@@ -37,12 +36,12 @@ block-sum m h e r l en es = es ∙ rw (en) (ap (λ (d : BlockRows). sum (values_
 pub few-minutes : (m : ℕ) {n : ℕ} → n ≡ intervals_of m → n ≤ 288
 few-minutes m e = rw e (intervals-most m)
 
-module _ (m : List ℕ) (x : Key) {o : Opened} (e : o ≡ opened_of m) where
-  pub sum-21 : o ≡ Not → {a : Answer} → a ≡ refusal 21 → a ≡ stored_sum_of m x
+module _ (m : List ℕ) (x : Key) {o : Option Header} (e : o ≡ opened_of m) where
+  pub sum-21 : o ≡ None → {a : Answer} → a ≡ refusal 21 → a ≡ stored_sum_of m x
   unfolding stored_sum_of
   sum-21 q p = rw (opened-not m e q) p
 
-  module _ {h : Header} (q : o ≡ Is h) {i : ℕ} (ei : i ≡ seek m h x) where
+  module _ {h : Header} (q : o ≡ Some h) {i : ℕ} (ei : i ≡ seek m h x) where
     pub sum-14 : h.slots ≤ i → {a : Answer} → a ≡ refusal 14 → a ≡ stored_sum_of m x
     unfolding stored_sum_of
     sum-14 l p = rw (opened-store m e q, ← opened-header m e q, le-ltb (seek m h x) h.slots (rw ei at l)) p

@@ -11,10 +11,10 @@ ghost use Rattle.getting.specs.Gets.{Readable};
 ghost use Rattle.stored_sums.specs.Sums.{stored_sum_of};
 
 use entries::Entry;
-use format::{Refusal, Totalled};
+use format::Refusal;
 use lines::line_end;
 use number_rules::intervals;
-use opening::{Opened, open_store};
+use opening::open_store;
 use seeking::find_slot;
 use slots::{place, read_entry};
 use store::Header;
@@ -32,19 +32,14 @@ fn sum_block(memory: &[u8], h: Header, e: Entry) -> u64
 }
 
 // What the values of the day of a key add up to. 21 if the memory is no store, 14 if it has no day of that key.
-pub fn stored_sum(memory: &[u8], nmi: &[u8], suffix: &[u8], date: u32) -> Totalled
+pub fn stored_sum(memory: &[u8], nmi: &[u8], suffix: &[u8], date: u32) -> Result<u64, Refusal>
     ensures { totalled_as result ≡ stored_sum_of memory.now (key nmi.now suffix.now date) }
 {
-    let o = open_store(memory);
-    match o {
-        Opened::Not => Totalled::Refused(Refusal::bare(21)),
-        Opened::Is(h) => {
-            let i = find_slot(memory, h, nmi, suffix, date);
-            if h.slots <= i {
-                return Totalled::Refused(Refusal::bare(14));
-            }
-            let e = read_entry(memory, place(h, i));
-            Totalled::Total(sum_block(memory, h, e))
-        }
+    let h = open_store(memory).ok_or(Refusal::bare(21))?;
+    let i = find_slot(memory, h, nmi, suffix, date);
+    if h.slots <= i {
+        return Err(Refusal::bare(14));
     }
+    let e = read_entry(memory, place(h, i));
+    Ok(sum_block(memory, h, e))
 }

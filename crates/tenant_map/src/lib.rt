@@ -13,7 +13,6 @@ use format::Refusal;
 use little::put_number;
 use output_bytes::{fill_keys, fill_shares};
 use outputs::are_fit;
-use tenants::Versioned;
 use versions::{BYTES, count, entries_at, is_map, version_on};
 
 // Places for the keys and shares of 128 outputs.
@@ -22,14 +21,14 @@ const KEY_BYTES: usize = 1536;
 const SHARES: usize = 128;
 
 // Makes a map without versions, and answers 0. 15 for fewer than 57,476 bytes. The count is written, and no other byte.
-pub fn make_map(memory: &mut [u8]) -> Versioned
+pub fn make_map(memory: &mut [u8]) -> Result<usize, Refusal>
     ensures { left (versioned_as result) memory.new ≡ make_of memory.old }
 {
     if memory.len() < BYTES {
-        return Versioned::Refused(Refusal::bare(15));
+        return Err(Refusal::bare(15));
     }
     put_number(memory, 0, 4, 0);
-    Versioned::Version(0)
+    Ok(0)
 }
 
 // So many key bytes and shares are those of 128 outputs, or more.
@@ -41,35 +40,40 @@ fn are_enough(keys: usize, shares: usize) -> bool
 
 // Adds a version of 128 entries that holds from a date on, and answers its number. 21 if the memory is no map; 15 for fewer than 1,536 key bytes or 128 shares; 25
 // for an entry that a map may not have; 24 for a first date that is none or earlier than that of the last version; 23 if there are 32 versions.
-pub fn add_version(memory: &mut [u8], first: u32, keys: &[u8], shares: &[u16]) -> Versioned
+pub fn add_version(
+    memory: &mut [u8],
+    first: u32,
+    keys: &[u8],
+    shares: &[u16],
+) -> Result<usize, Refusal>
     ensures { left (versioned_as result) memory.new ≡ add_of memory.old first keys.now shares.now }
 {
     if !is_map(memory) {
-        return Versioned::Refused(Refusal::bare(21));
+        return Err(Refusal::bare(21));
     }
     if !are_enough(keys.len(), shares.len()) {
-        return Versioned::Refused(Refusal::bare(15));
+        return Err(Refusal::bare(15));
     }
     if !are_fit(keys, shares) {
-        return Versioned::Refused(Refusal::bare(25));
+        return Err(Refusal::bare(25));
     }
     append_given(memory, first, keys, shares)
 }
 
 // Adds a version with the entries of an earlier one, and answers its number. 21 if the memory is no map, 14 if it has no version of that number, then 24 and 23 as
 // adding has them.
-pub fn back_to(memory: &mut [u8], version: usize, first: u32) -> Versioned
+pub fn back_to(memory: &mut [u8], version: usize, first: u32) -> Result<usize, Refusal>
     ensures { left (versioned_as result) memory.new ≡ back_of memory.old version first }
 {
     if !is_map(memory) {
-        return Versioned::Refused(Refusal::bare(21));
+        return Err(Refusal::bare(21));
     }
     if version == 0 {
-        return Versioned::Refused(Refusal::bare(14));
+        return Err(Refusal::bare(14));
     }
     let n = count(memory);
     if (n as usize) < version {
-        return Versioned::Refused(Refusal::bare(14));
+        return Err(Refusal::bare(14));
     }
     append_copy(memory, (version - 1) as u32, first)
 }
@@ -87,19 +91,24 @@ fn fill(memory: &[u8], i: u32, keys: &mut [u8], shares: &mut [u16])
 
 // The map on a date: answers the highest version whose first date is not later, and fills 1,536 key bytes and 128 shares. 21 if the memory is no map, 14 if the date
 // is none or has no version, 15 for shorter lists.
-pub fn map_on(memory: &[u8], date: u32, keys: &mut [u8], shares: &mut [u16]) -> Versioned
+pub fn map_on(
+    memory: &[u8],
+    date: u32,
+    keys: &mut [u8],
+    shares: &mut [u16],
+) -> Result<usize, Refusal>
     ensures { mapped (versioned_as result) keys.new shares.new ≡ on_of memory.now date keys.old shares.old }
 {
     if !is_map(memory) {
-        return Versioned::Refused(Refusal::bare(21));
+        return Err(Refusal::bare(21));
     }
     let v = version_on(memory, date);
     if v == 0 {
-        return Versioned::Refused(Refusal::bare(14));
+        return Err(Refusal::bare(14));
     }
     if !are_enough(keys.len(), shares.len()) {
-        return Versioned::Refused(Refusal::bare(15));
+        return Err(Refusal::bare(15));
     }
     fill(memory, v - 1, keys, shares);
-    Versioned::Version(v as usize)
+    Ok(v as usize)
 }

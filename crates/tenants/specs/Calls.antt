@@ -1,20 +1,19 @@
 -- 02, 11, call by call: what each answers, and every byte that it leaves.
-use Rattle.std.specs.Prelude.{ℕ, ◌+◌, ◌-◌, List, [], ◌∷◌, map, Bool, cond, ◌&&◌, length, get_or, leb, ltb}
+use Rattle.std.specs.Prelude.{ℕ, ◌+◌, ◌-◌, List, [], ◌∷◌, map, Bool, cond, ◌&&◌, length, get_or, leb, ltb, Result, Ok, Err}
 use Rattle.std.proofs.lemmas.List.Edits.{sets}
 use Rattle.ground.specs.Lists.{all}
 use Rattle.format.specs.Answers.{Answer, accepted, refusal, refused_as}
 use Rattle.format.specs.Day.{over}
+use Rattle.format.specs.declared.Refusal.{Refusal}
 use Rattle.entries.specs.Little.{in_bytes}
 use Rattle.entries.specs.Left.{Left, left, unless}
 use Rattle.tenants.specs.Outputs.{Output, fit_output, kept_output, outputs_given, keys_of, shares_of}
 use Rattle.tenants.specs.Versions.{Version, version, none, version_bytes, version_place, count_in, versions_in, may_follow, is_map, latest, version_on}
-use Rattle.tenants.specs.declared.Versioned.{Versioned}
-use Rattle.tenants.specs.declared.Versioned.TheVariants as versioned
 
 -- the version's number
-abbrev pub versioned_as : Versioned → Answer
-versioned_as (versioned.Version v) = accepted (v ∷ [])
-versioned_as (versioned.Refused x) = refused_as x
+abbrev pub versioned_as : Result ℕ Refusal → Answer
+versioned_as (Ok v) = accepted (v ∷ [])
+versioned_as (Err x) = refused_as x
 
 -- ---- make
 

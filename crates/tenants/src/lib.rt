@@ -1,11 +1,2 @@
-// The type of what the calls of a tenant map answer. What it means is stated in specs/.
+// The meaning of request 11, a tenant map, in `specs`: its bytes and its calls. The version's number, which its calls answer, is 0 for a map that was made.
 #![tactic(auto)]
-
-use format::Refusal;
-
-// What a call answers: the version's number, 0 for a map that was made.
-#[derive(Clone, Copy)]
-pub enum Versioned {
-    Version(usize),
-    Refused(Refusal),
-}

@@ -1,4 +1,5 @@
 -- The values of a day, one after the other: what a turn of each loop goes by. Assumes nothing.
+use Rattle.std.proofs.Common.{Some, None}
 use Prim.Native.Nat.{ℕ, ◌+◌, ◌-◌, ◌*◌, ◌%◌, ◌^◌, ◌≤◌, ◌<◌}
 use mathlib.Core.Path.{◌≡◌, refl, sym, ap, ◌∙◌}
 use mathlib.Core.Bool.{true, false}
@@ -16,7 +17,6 @@ use Rattle.ground.proofs.Room.{put_then, put-kept, Left, left_step, left_end, le
 use Rattle.format.specs.Block.{small_value, fit_value, value_text, comma, values_text}
 use Rattle.format.proofs.ValueText.{value-most}
 use Rattle.value_texts.specs.Measure.{measure_of}
-use Rattle.value_texts.specs.declared.Measured.TheVariants.{Bytes, Unfit}
 
 -- ---- the text of what is left
 
@@ -51,18 +51,18 @@ module _ (d : ℕ) (vs : List ℕ) where
   counted_none = record { within = omega arith; few = omega arith; fits = refl; sum = omega arith }
 
   module _ (bytes i : ℕ) (r : Counted d vs bytes i) where
-    one-unfit : i < length vs → fit_value d (get_or vs i 0) ≡ false → Unfit ≡ measure_of d vs
+    one-unfit : i < length vs → fit_value d (get_or vs i 0) ≡ false → None ≡ measure_of d vs
     unfolding measure_of
     one-unfit h g =
         let e : all (fit_value d) vs ≡ false = sym (rw (rest vs i h, g) at r.fits) in
         rw e
 
-    pub counted-large : i < length vs → 10000000000000 ≤ get_or vs i 0 → Unfit ≡ measure_of d vs
+    pub counted-large : i < length vs → 10000000000000 ≤ get_or vs i 0 → None ≡ measure_of d vs
     unfolding fit_value small_value
     counted-large h g = one-unfit h (rw (le-ltb (get_or vs i 0) (10 ^ 13) g))
 
     module _ {p : ℕ} (h : i < length vs) (g : get_or vs i 0 < 10000000000000) (e : p ≡ 10 ^ (6 - d)) where
-      pub counted-broken : get_or vs i 0 % p ≢ 0 → Unfit ≡ measure_of d vs
+      pub counted-broken : get_or vs i 0 % p ≢ 0 → None ≡ measure_of d vs
       unfolding fit_value
       counted-broken n = one-unfit h (rw (← e, ne_eqb (get_or vs i 0 % p) 0 n, and-false))
 
@@ -77,11 +77,11 @@ module _ (d : ℕ) (vs : List ℕ) where
             sum = omega (arith, r.sum, length_at vs i h);
           }
 
-    pub counted-all : length vs ≤ i → Bytes bytes ≡ measure_of d vs
+    pub counted-all : length vs ≤ i → Some bytes ≡ measure_of d vs
     unfolding measure_of
     counted-all h =
         let e : all (fit_value d) vs ≡ true = sym (rw (drop_of_length-le vs h) at r.fits) in
-        rw e (ap Bytes (omega (arith, r.sum, ap length (values-end vs i h))))
+        rw e (ap Some (omega (arith, r.sum, ap length (values-end vs i h))))
 
 -- ---- writing: what is left behind the first i values
 

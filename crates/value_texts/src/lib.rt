@@ -10,18 +10,11 @@ use field_texts::values::{put_value, value_len};
 use text::bytes::put_byte;
 use value_rules::tens;
 
-// The bytes of a day's values, if each value is fit.
-#[derive(Clone, Copy)]
-pub enum Measured {
-    Bytes(usize),
-    Unfit,
-}
-
 // A value is below this.
 const LIMIT: u64 = 10_000_000_000_000;
 
-// Where values have at most d decimals. More than six are as six: a value has no smaller part.
-pub fn measure_values(values: &[u64], d: usize) -> Measured
+// The bytes of a day's values, if each value is fit, where values have at most d decimals. More than six are as six: a value has no smaller part.
+pub fn measure_values(values: &[u64], d: usize) -> Option<usize>
     requires { length values.now ≤ 288 }
     ensures { result ≡ measure_of d values.now }
 {
@@ -29,11 +22,11 @@ pub fn measure_values(values: &[u64], d: usize) -> Measured
     let mut bytes: usize = 0;
     for v in values {
         if LIMIT <= *v || *v % part != 0 {
-            return Measured::Unfit;
+            return None;
         }
         bytes += value_len(*v) + 1;
     }
-    Measured::Bytes(bytes)
+    Some(bytes)
 }
 
 pub fn put_values(room: &mut [u8], at: usize, values: &[u64]) -> usize

@@ -1,4 +1,5 @@
-// The day that a program's words ask for, behind the file: by its number, or by NMI, suffix and date. What decides has contracts in `named` and `reading`; no
+// The day that a program's words ask for, behind the file: by its number, or by NMI, suffix and date. Its number is answered, or the status of a call that asks for
+// none. What decides has contracts in `named` and `reading`; no
 // contract can say what the words are or what is written, so these functions are proved safe, and have none.
 #![tactic(auto)]
 
@@ -18,13 +19,6 @@ const FIRST: usize = 3;
 // How many words there are where NMI, suffix and date are given, the program's name, the command and the file among them.
 const BY_KEY: usize = 6;
 
-// The day's number, or the status of a call that asks for none.
-#[derive(Clone, Copy)]
-pub enum Wanted {
-    Day(usize),
-    Nothing(u8),
-}
-
 // ---- by its number
 
 fn no_number(rt: &impl Machine, page: &mut [u8], word: &[u8]) {
@@ -35,14 +29,14 @@ fn no_number(rt: &impl Machine, page: &mut [u8], word: &[u8]) {
 }
 
 // The day whose number a word is.
-pub fn by_number(rt: &impl Machine, page: &mut [u8], i: usize) -> Wanted {
+pub fn by_number(rt: &impl Machine, page: &mut [u8], i: usize) -> Result<usize, u8> {
     let mut word = [0u8; WORD];
     let n = rt.arg(i, &mut word);
     match digits(&word[..n], 1, 14) {
-        Some(k) => Wanted::Day(k as usize),
+        Some(k) => Ok(k as usize),
         None => {
             no_number(rt, page, &word[..n]);
-            Wanted::Nothing(FAILED)
+            Err(FAILED)
         }
     }
 }
@@ -87,17 +81,17 @@ fn single(
     nmi: &[u8],
     suffix: &[u8],
     day: u64,
-) -> Wanted {
+) -> Result<usize, u8> {
     if days as u64 <= first {
-        return Wanted::Day(days);
+        return Ok(days);
     }
     let next = first as usize + 1;
     let noted = check_and_note(file, next, 0);
     match day_named(file, next, days, noted.day, nmi, suffix, day) {
-        None => Wanted::Day(first as usize),
+        None => Ok(first as usize),
         Some(second) => {
             twice(rt, page, first, second);
-            Wanted::Nothing(REFUSED)
+            Err(REFUSED)
         }
     }
 }
@@ -109,7 +103,7 @@ fn in_file(
     nmi: &[u8],
     suffix: &[u8],
     day: u64,
-) -> Wanted {
+) -> Result<usize, u8> {
     let noted = check_and_note(file, 0, 0);
     let answer = noted.answer;
     let start = noted.day;
@@ -117,19 +111,19 @@ fn in_file(
         Err(x) => {
             let p = explained(page, 0, file, x);
             warn(rt, page, p);
-            Wanted::Nothing(REFUSED)
+            Err(REFUSED)
         }
         Ok(c) => match day_named(file, 0, c.days, start, nmi, suffix, day) {
             Some(first) => single(rt, page, file, first, c.days, nmi, suffix, day),
             None => {
                 not_there(rt, page, nmi, suffix, day);
-                Wanted::Nothing(REFUSED)
+                Err(REFUSED)
             }
         },
     }
 }
 
-fn by_key(rt: &impl Machine, page: &mut [u8], file: &[u8]) -> Wanted {
+fn by_key(rt: &impl Machine, page: &mut [u8], file: &[u8]) -> Result<usize, u8> {
     let mut nmi = [0u8; WORD];
     let n = rt.arg(FIRST, &mut nmi);
     let mut suffix = [0u8; WORD];
@@ -140,25 +134,25 @@ fn by_key(rt: &impl Machine, page: &mut [u8], file: &[u8]) -> Wanted {
         Some(day) => in_file(rt, page, file, &nmi[..n], &suffix[..m], day),
         None => {
             no_date(rt, page, &word[..k]);
-            Wanted::Nothing(FAILED)
+            Err(FAILED)
         }
     }
 }
 
 // The day, of so many words in all.
-fn asked(rt: &impl Machine, page: &mut [u8], file: &[u8], words: usize) -> Wanted {
+fn asked(rt: &impl Machine, page: &mut [u8], file: &[u8], words: usize) -> Result<usize, u8> {
     if words == BY_KEY {
         return by_key(rt, page, file);
     }
     by_number(rt, page, FIRST)
 }
 
-pub fn wanted_day(rt: &impl Machine, page: &mut [u8], file: &[u8]) -> Wanted {
+pub fn wanted_day(rt: &impl Machine, page: &mut [u8], file: &[u8]) -> Result<usize, u8> {
     asked(rt, page, file, rt.arg_count())
 }
 
 // The same where one more word stands behind those of the day.
-pub fn wanted_before_last(rt: &impl Machine, page: &mut [u8], file: &[u8]) -> Wanted {
+pub fn wanted_before_last(rt: &impl Machine, page: &mut [u8], file: &[u8]) -> Result<usize, u8> {
     asked(rt, page, file, last_word(rt))
 }
 

@@ -20,13 +20,11 @@ use Rattle.format.specs.Block.{given, intervals_given, mark_given, day_given, fi
 use Rattle.format.specs.declared.DayHead.{DayHead}
 use Rattle.format.specs.declared.Written.{Written}
 use Rattle.format.specs.declared.Refusal.{Refusal}
-use Rattle.std.proofs.Common.{Result, Ok}
+use Rattle.std.proofs.Common.{Result, Ok, Option, Some, None}
 use Rattle.format.proofs.Numbers.{intervals-most, intervals-known}
 use Rattle.passing.proofs.Writes.{written-length, written-lists, written-fit, written-room, written-answer}
 use Rattle.text.specs.Inside.{inside}
 use Rattle.fit.specs.Tags.{tag_from, mark_of, marks_from, tag_inside, inside_at, fit_marks}
-use Rattle.value_texts.specs.declared.Measured.{Measured}
-use Rattle.value_texts.specs.declared.Measured.TheVariants.{Bytes, Unfit}
 use Rattle.heads.specs.Heads.{fit_head}
 use Rattle.block.specs.Pieces.{day_with, fit_with, fit_of, Ready, FitDay, Sizes}
 use Rattle.writing.specs.Layers.{placed_of, answered_of, measured_of, Writes}
@@ -55,43 +53,43 @@ module _ (d : Day) {b r : ℕ} (s : Sizes d b r) (room : List ℕ) where
 
 -- ---- a day whose lists are long enough
 
-bytes-if : (t : Bool) (j k : ℕ) → Bytes k ≡ cond t (Bytes j) Unfit → (t ≡ true) × (k ≡ j)
+bytes-if : (t : Bool) (j k : ℕ) → Some k ≡ cond t (Some j) None → (t ≡ true) × (k ≡ j)
 bytes-if true j k e = (refl, (cc))
 bytes-if false j k e = let z : ◌≡◌ {A = ℕ} 0 1 = cc in absurd (omega arith)
 
-unfit-if : (t : Bool) (j : ℕ) → Unfit ≡ cond t (Bytes j) Unfit → t ≡ false
+unfit-if : (t : Bool) (j : ℕ) → None ≡ cond t (Some j) None → t ≡ false
 unfit-if true j e = let z : ◌≡◌ {A = ℕ} 0 1 = cc in absurd (omega arith)
 unfit-if false j e = refl
 
-module _ (h : DayHead) (n : ℕ) (vs : List ℕ) (l : Five) (text : List ℕ) {m : Measured} (e : m ≡ fit_of h n vs l text) where
-  is-fit : {k : ℕ} → m ≡ Bytes k → fit_with h n vs l text ≡ true
+module _ (h : DayHead) (n : ℕ) (vs : List ℕ) (l : Five) (text : List ℕ) {m : Option ℕ} (e : m ≡ fit_of h n vs l text) where
+  is-fit : {k : ℕ} → m ≡ Some k → fit_with h n vs l text ≡ true
   unfolding fit_of
   is-fit {k} f = (bytes-if (fit_with h n vs l text) (length (values_text vs)) k (sym f ∙ e)).0
 
-  pub day-fit : {k : ℕ} → m ≡ Bytes k → Ready n vs l → FitDay h n vs l text
+  pub day-fit : {k : ℕ} → m ≡ Some k → Ready n vs l → FitDay h n vs l text
   day-fit f r = record { ready = r; fit = is-fit f }
 
-  pub day-bytes : {k : ℕ} → m ≡ Bytes k → k ≡ length (values_text vs)
+  pub day-bytes : {k : ℕ} → m ≡ Some k → k ≡ length (values_text vs)
   unfolding fit_of
   day-bytes {k} f = (bytes-if (fit_with h n vs l text) (length (values_text vs)) k (sym f ∙ e)).1
 
-  pub unfit : {w : Result Written Refusal} {room : List ℕ} → m ≡ Unfit → written_as w ≡ refusal 16
+  pub unfit : {w : Result Written Refusal} {room : List ℕ} → m ≡ None → written_as w ≡ refusal 16
       → Writes (answered_of (fit_with h n vs l text)) (day_with h n vs l text) room w room
   unfolding answered_of fit_of
   unfit f q =
       let z : fit_with h n vs l text ≡ false = unfit-if (fit_with h n vs l text) (length (values_text vs)) (sym f ∙ e) in
       record { answer = rw z q; left = rw z }
 
-  pub unfit-measured : {a : Answer} → m ≡ Unfit → a ≡ refusal 16 → a ≡ measured_of (fit_with h n vs l text) (day_with h n vs l text)
+  pub unfit-measured : {a : Answer} → m ≡ None → a ≡ refusal 16 → a ≡ measured_of (fit_with h n vs l text) (day_with h n vs l text)
   unfolding measured_of answered_of fit_of
   unfit-measured f q = rw (unfit-if (fit_with h n vs l text) (length (values_text vs)) (sym f ∙ e)) q
 
-  pub fit-measured : {k b r : ℕ} → m ≡ Bytes k → Sizes (day_with h n vs l text) b r → written_as (Ok (record { bytes = b; records = r })) ≡ measured_of (fit_with h n vs l text) (day_with h n vs l text)
+  pub fit-measured : {k b r : ℕ} → m ≡ Some k → Sizes (day_with h n vs l text) b r → written_as (Ok (record { bytes = b; records = r })) ≡ measured_of (fit_with h n vs l text) (day_with h n vs l text)
   unfolding measured_of answered_of placed_of
   fit-measured f s =
       rw (is-fit f, le-leb (length (block_of (day_with h n vs l text))) (length (block_of (day_with h n vs l text))) (omega arith)) (ap₂ (λ (x y : ℕ). accepted (x ∷ y ∷ [])) s.bytes-are s.records-are)
 
-  pub fit_written : {k : ℕ} {w : Result Written Refusal} {room after : List ℕ} → m ≡ Bytes k
+  pub fit_written : {k : ℕ} {w : Result Written Refusal} {room after : List ℕ} → m ≡ Some k
       → Writes placed_of (day_with h n vs l text) room w after
       → Writes (answered_of (fit_with h n vs l text)) (day_with h n vs l text) room w after
   unfolding answered_of

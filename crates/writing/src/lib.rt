@@ -12,7 +12,6 @@ use block::{fit_day, measure_block, put_block};
 use format::{DayHead, Refusal, Written};
 use lists::enough;
 use number_rules::intervals;
-use value_texts::Measured;
 
 // A fit day whose values have k bytes: written where the room is long enough.
 fn write_fit(
@@ -68,8 +67,8 @@ fn write_long(
         day, values, flags, methods, reasons, starts, lengths, text, n,
     );
     match m {
-        Measured::Unfit => Err(Refusal::bare(16)),
-        Measured::Bytes(k) => write_fit(
+        None => Err(Refusal::bare(16)),
+        Some(k) => write_fit(
             day, values, flags, methods, reasons, starts, lengths, text, room, n, k,
         ),
     }
@@ -138,8 +137,8 @@ fn measure_long(
         day, values, flags, methods, reasons, starts, lengths, text, n,
     );
     match m {
-        Measured::Unfit => Err(Refusal::bare(16)),
-        Measured::Bytes(k) => {
+        None => Err(Refusal::bare(16)),
+        Some(k) => {
             let size = measure_block(
                 day, values, k, flags, methods, reasons, starts, lengths, text, n,
             );

@@ -2,8 +2,8 @@
 use Rattle.kept_days.proofs.Holds.{update-is, no-update}
 use Rattle.kept_days.proofs.update_said.Goals as goal
 
-pub returns-in-Accepted : goal.returns-in-Accepted
-returns-in-Accepted c = search (update-is, no-update)
+pub returns-in-Ok : goal.returns-in-Ok
+returns-in-Ok c = search (update-is, no-update)
 
-pub returns-in-Refused : goal.returns-in-Refused
-returns-in-Refused c = search (update-is, no-update)
+pub returns-in-Err : goal.returns-in-Err
+returns-in-Err c = search (update-is, no-update)

@@ -2,8 +2,8 @@
 use Rattle.map_kept.proofs.Ways.{after-version, after-refusal}
 use Rattle.map_kept.proofs.is_kept_after.Goals as goal
 
-pub returns-in-Version : goal.returns-in-Version
-returns-in-Version c = search after-version
+pub returns-in-Ok : goal.returns-in-Ok
+returns-in-Ok c = search after-version
 
-pub returns-in-Refused : goal.returns-in-Refused
-returns-in-Refused c = search after-refusal
+pub returns-in-Err : goal.returns-in-Err
+returns-in-Err c = search after-refusal

@@ -5,8 +5,8 @@ use Rattle.writing.proofs.write_long.Goals as goal
 pub write_fit-requires : goal.write_fit-requires
 write_fit-requires c = (search day-fit, search day-bytes)
 
-pub returns-in-Unfit : goal.returns-in-Unfit
-returns-in-Unfit c = search unfit
+pub returns-in-None : goal.returns-in-None
+returns-in-None c = search unfit
 
-pub returns-in-Bytes : goal.returns-in-Bytes
-returns-in-Bytes c = search fit_written
+pub returns-in-Some : goal.returns-in-Some
+returns-in-Some c = search fit_written

@@ -3,8 +3,8 @@ use Rattle.store.specs.Calls.{kept_as}
 use Rattle.answer_lines.proofs.Answered.{line-is}
 use Rattle.store_calls.proofs.said_lines.kept.Goals as goal
 
-pub returns-in-Days : goal.returns-in-Days
-returns-in-Days c = search (line-is kept_as)
+pub returns-in-Ok : goal.returns-in-Ok
+returns-in-Ok c = search (line-is kept_as)
 
-pub returns-in-Refused : goal.returns-in-Refused
-returns-in-Refused c = search (line-is kept_as)
+pub returns-in-Err : goal.returns-in-Err
+returns-in-Err c = search (line-is kept_as)

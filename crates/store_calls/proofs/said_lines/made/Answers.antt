@@ -3,8 +3,8 @@ use Rattle.store.specs.Calls.{made_as}
 use Rattle.answer_lines.proofs.Answered.{line-is}
 use Rattle.store_calls.proofs.said_lines.made.Goals as goal
 
-pub returns-in-Room : goal.returns-in-Room
-returns-in-Room c = search (line-is made_as)
+pub returns-in-Ok : goal.returns-in-Ok
+returns-in-Ok c = search (line-is made_as)
 
-pub returns-in-Refused : goal.returns-in-Refused
-returns-in-Refused c = search (line-is made_as)
+pub returns-in-Err : goal.returns-in-Err
+returns-in-Err c = search (line-is made_as)

@@ -2,11 +2,11 @@
 use Rattle.store_calls.proofs.Shown.{used-slot, no_slot, free-slot}
 use Rattle.store_calls.proofs.said_lines.slot.Goals as goal
 
-pub returns-in-Free : goal.returns-in-Free
-returns-in-Free c = search (used-slot, no_slot, free-slot)
+pub returns-in-Ok-None : goal.returns-in-Ok-None
+returns-in-Ok-None c = search (used-slot, no_slot, free-slot)
 
-pub returns-in-Used : goal.returns-in-Used
-returns-in-Used c = search (used-slot, no_slot, free-slot)
+pub returns-in-Ok-Some : goal.returns-in-Ok-Some
+returns-in-Ok-Some c = search (used-slot, no_slot, free-slot)
 
-pub returns-in-Refused : goal.returns-in-Refused
-returns-in-Refused c = search (used-slot, no_slot, free-slot)
+pub returns-in-Err : goal.returns-in-Err
+returns-in-Err c = search (used-slot, no_slot, free-slot)
