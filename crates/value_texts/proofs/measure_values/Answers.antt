@@ -9,8 +9,8 @@ nonzero_rem-v c = search some-part
 pub returns-then-v-ge-LIMIT : goal.returns-then-v-ge-LIMIT
 returns-then-v-ge-LIMIT c =
     elim c.then-v-ge-LIMIT.branch [
-      then-v-ge-LIMIT-via-then-v-ge-LIMIT w ↦ search counted-large
-    | then-v-ge-LIMIT-via-else-v-ge-LIMIT+then-v-part-ne0 w ↦ search counted-broken
+      | then-v-ge-LIMIT-via-then-v-ge-LIMIT w ↦ search counted-large
+      | then-v-ge-LIMIT-via-else-v-ge-LIMIT+then-v-part-ne0 w ↦ search counted-broken
     ]
 
 pub loop-v-preserved : goal.loop-v-preserved
