@@ -10,23 +10,15 @@ use phrase::columns::spaces;
 fn shown(b: u8) -> u8
     ensures { result ≡ Excerpts·shown b }
 {
-    if b < 32 {
-        return b'?';
-    }
-    if 126 < b {
-        return b'?';
-    }
-    b
+    if (b' '..=b'~').contains(&b) { b } else { b'?' }
 }
 
 fn put_shown(page: &mut [u8], at: usize, text: &[u8]) -> usize
     ensures { Filled page.old at (shown_text text.now) result page.new }
 {
     let mut p = at;
-    let mut i: usize = 0;
-    while i < text.len() {
-        p = put(page, p, &[shown(text[i])]);
-        i += 1;
+    for b in text {
+        p = put(page, p, &[shown(*b)]);
     }
     p
 }
@@ -36,9 +28,10 @@ fn dots(page: &mut [u8], at: usize, cut: bool) -> usize
     ensures { Filled page.old at (Excerpts·dots cut) result page.new }
 {
     if cut {
-        return put(page, at, b"...");
+        put(page, at, b"...")
+    } else {
+        put(page, at, b"")
     }
-    put(page, at, b"")
 }
 
 // From where the line is shown, so that the column stands among the first 60.
@@ -46,9 +39,10 @@ fn shown_from(column: usize) -> usize
     ensures { result ≡ shown_from column }
 {
     if column < 60 {
-        return 0;
+        0
+    } else {
+        column - 40
     }
-    column - 40
 }
 
 // Up to where, so that what is shown has at most 80 columns with its dots.
@@ -56,12 +50,12 @@ fn shown_to(from: usize, length: usize) -> usize
     ensures { result ≡ shown_to from «length» }
 {
     if length < from {
-        return length;
+        length
+    } else if length - from <= 77 {
+        length
+    } else {
+        from + 74
     }
-    if length - from <= 77 {
-        return length;
-    }
-    from + 74
 }
 
 // What is shown of a record's line, where a column of it matters.
@@ -80,9 +74,10 @@ fn lead(from: usize) -> usize
     ensures { result ≡ Excerpts·lead from }
 {
     if 0 < from {
-        return 3;
+        3
+    } else {
+        0
     }
-    0
 }
 
 // The mark on the line below.

@@ -24,9 +24,10 @@ fn comma_before(page: &mut [u8], at: usize, unit: u8) -> usize
     ensures { Filled page.old at (comma_before unit) result page.new }
 {
     if unit == 0 {
-        return put(page, at, b"");
+        put(page, at, b"")
+    } else {
+        put(page, at, b", ")
     }
-    put(page, at, b", ")
 }
 
 fn listed(page: &mut [u8], at: usize, unit: u8) -> usize
@@ -65,7 +66,7 @@ fn at_most(page: &mut [u8], at: usize, unit: u8) -> usize
     let p = put(page, at, b"a value in ");
     let q = unit_name(page, p, unit);
     let r = put(page, q, b" has at most ");
-    counted(page, r, units::decimals(unit) as u64, b"decimal")
+    counted(page, r, u64::from(units::decimals(unit)), b"decimal")
 }
 
 // How many stand behind the point of a value.
@@ -74,9 +75,10 @@ fn decimals_in(value: &[u8]) -> usize
 {
     let p = first_at(value, b'.');
     if p < value.len() {
-        return value.len() - p - 1;
+        value.len() - p - 1
+    } else {
+        0
     }
-    0
 }
 
 // How many a value in the unit has at most, and how many this one has.

@@ -60,8 +60,8 @@ fn dated(page: &mut [u8], at: usize, day: u64) -> usize
 pub fn title(page: &mut [u8], at: usize, day: DayHead, n: usize) -> usize
     ensures { Filled page.old at (title_text day n) result page.new }
 {
-    let p = dated(page, at, day.date as u64);
-    let q = intervals(page, p, n, day.length as u64);
+    let p = dated(page, at, u64::from(day.date));
+    let q = intervals(page, p, n, u64::from(day.length));
     let r = time(page, q, day.update);
     loaded(page, r, day.load)
 }
@@ -84,9 +84,10 @@ fn end_of(k: u64, n: usize) -> u64
     ensures { result ≡ end_of k n }
 {
     if n == 0 {
-        return 0;
+        0
+    } else {
+        k * 1440 / n as u64
     }
-    k * 1440 / n as u64
 }
 
 fn ends(page: &mut [u8], at: usize, minutes: u64) -> usize
@@ -109,9 +110,10 @@ fn method_digits(page: &mut [u8], at: usize, method: u8) -> usize
     ensures { Filled page.old at (method_text method) result page.new }
 {
     if method == NO_METHOD {
-        return put(page, at, b"");
+        put(page, at, b"")
+    } else {
+        two(page, at, u64::from(method))
     }
-    two(page, at, method as u64)
 }
 
 // A flag and its method, as E52.
@@ -136,16 +138,17 @@ fn reason(page: &mut [u8], at: usize, code: u16) -> usize
         return put(page, at, b"");
     }
     let p = cell(page, at, REASON, b"");
-    number(page, p, code as u64)
+    number(page, p, u64::from(code))
 }
 
 fn description(page: &mut [u8], at: usize, text: &[u8]) -> usize
     ensures { Filled page.old at (description_text text.now at) result page.new }
 {
-    if text.len() == 0 {
-        return put(page, at, b"");
+    if text.is_empty() {
+        put(page, at, b"")
+    } else {
+        cell(page, at, DESCRIPTION, text)
     }
-    cell(page, at, DESCRIPTION, text)
 }
 
 fn mark(page: &mut [u8], at: usize, flag: u8, method: u8, code: u16, text: &[u8]) -> usize

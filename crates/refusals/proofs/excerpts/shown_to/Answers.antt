@@ -11,6 +11,6 @@ pub returns-then-length-from-le77 : goal.returns-then-length-from-le77
 unfolding shown_to
 returns-then-length-from-le77 c = search tests
 
-pub returns : goal.returns
+pub returns-else-length-from-le77 : goal.returns-else-length-from-le77
 unfolding shown_to
-returns c = search tests
+returns-else-length-from-le77 c = search tests

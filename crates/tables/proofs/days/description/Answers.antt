@@ -7,6 +7,6 @@ pub returns-then-text-eq0 : goal.returns-then-text-eq0
 unfolding description_text
 returns-then-text-eq0 c = search tests
 
-pub returns : goal.returns
+pub returns-else-text-eq0 : goal.returns-else-text-eq0
 unfolding description_text
-returns c = search tests
+returns-else-text-eq0 c = search tests
