@@ -10,11 +10,7 @@ use words::lists::text_at;
 pub fn share(whole: u64, n: usize) -> u64
     ensures { result ≡ share_of whole n }
 {
-    if n == 0 {
-        0
-    } else {
-        whole / n as u64
-    }
+    if n == 0 { 0 } else { whole / n as u64 }
 }
 
 // A value and its unit.

@@ -84,10 +84,7 @@ fn without_key(output: u64, share: &[u8]) -> Row
 fn is_keyless(nmi: &[u8], suffix: &[u8]) -> bool
     ensures { result ≡ is_keyless nmi.now suffix.now }
 {
-    if nmi.len() != 0 {
-        return false;
-    }
-    suffix.len() == 0
+    nmi.is_empty() && suffix.is_empty()
 }
 
 fn with_key(output: u64, nmi: &[u8], suffix: &[u8], share: &[u8]) -> Row
@@ -117,12 +114,12 @@ pub fn row_of(line: &[u8]) -> Row
     if !has_four(line) {
         return Row::Wrong(FIELDS);
     }
-    match number_up_to(field(line, OUTPUT as usize), LAST_OUTPUT) {
+    match number_up_to(field(line, usize::from(OUTPUT)), LAST_OUTPUT) {
         Number::Is(output) => with_key(
             output,
-            field(line, NMI as usize),
-            field(line, SUFFIX as usize),
-            field(line, SHARE as usize),
+            field(line, usize::from(NMI)),
+            field(line, usize::from(SUFFIX)),
+            field(line, usize::from(SHARE)),
         ),
         Number::Bad => Row::Wrong(OUTPUT),
     }

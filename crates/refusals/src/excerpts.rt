@@ -10,7 +10,10 @@ use phrase::columns::spaces;
 fn shown(b: u8) -> u8
     ensures { result ≡ Excerpts·shown b }
 {
-    if (b' '..=b'~').contains(&b) { b } else { b'?' }
+    match b {
+        b' '..=b'~' => b,
+        _ => b'?',
+    }
 }
 
 fn put_shown(page: &mut [u8], at: usize, text: &[u8]) -> usize
@@ -38,20 +41,14 @@ fn dots(page: &mut [u8], at: usize, cut: bool) -> usize
 fn shown_from(column: usize) -> usize
     ensures { result ≡ shown_from column }
 {
-    if column < 60 {
-        0
-    } else {
-        column - 40
-    }
+    if column < 60 { 0 } else { column - 40 }
 }
 
 // Up to where, so that what is shown has at most 80 columns with its dots.
 fn shown_to(from: usize, length: usize) -> usize
     ensures { result ≡ shown_to from «length» }
 {
-    if length < from {
-        length
-    } else if length - from <= 77 {
+    if length.saturating_sub(from) <= 77 {
         length
     } else {
         from + 74
@@ -73,11 +70,7 @@ pub fn excerpt(page: &mut [u8], at: usize, record: &[u8], column: usize) -> usiz
 fn lead(from: usize) -> usize
     ensures { result ≡ Excerpts·lead from }
 {
-    if 0 < from {
-        3
-    } else {
-        0
-    }
+    if 0 < from { 3 } else { 0 }
 }
 
 // The mark on the line below.

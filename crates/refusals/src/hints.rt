@@ -41,6 +41,7 @@ fn listed(page: &mut [u8], at: usize, unit: u8) -> usize
 fn unit_names(page: &mut [u8], at: usize) -> usize
     ensures { Filled page.old at (texts Hints·listed (length Units·units)) result page.new }
 {
+    // How many there are is for `units` to know, so the numbers are tried in turn.
     let mut p = at;
     let mut unit: u8 = 0;
     while units::is_unit(unit) {
@@ -66,7 +67,7 @@ fn at_most(page: &mut [u8], at: usize, unit: u8) -> usize
     let p = put(page, at, b"a value in ");
     let q = unit_name(page, p, unit);
     let r = put(page, q, b" has at most ");
-    counted(page, r, u64::from(units::decimals(unit)), b"decimal")
+    counted(page, r, units::decimals(unit) as u64, b"decimal")
 }
 
 // How many stand behind the point of a value.

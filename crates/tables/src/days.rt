@@ -60,8 +60,8 @@ fn dated(page: &mut [u8], at: usize, day: u64) -> usize
 pub fn title(page: &mut [u8], at: usize, day: DayHead, n: usize) -> usize
     ensures { Filled page.old at (title_text day n) result page.new }
 {
-    let p = dated(page, at, u64::from(day.date));
-    let q = intervals(page, p, n, u64::from(day.length));
+    let p = dated(page, at, day.date as u64);
+    let q = intervals(page, p, n, day.length as u64);
     let r = time(page, q, day.update);
     loaded(page, r, day.load)
 }
@@ -83,11 +83,7 @@ fn end_of(k: u64, n: usize) -> u64
     requires { k ≤ 288 }
     ensures { result ≡ end_of k n }
 {
-    if n == 0 {
-        0
-    } else {
-        k * 1440 / n as u64
-    }
+    if n == 0 { 0 } else { k * 1440 / n as u64 }
 }
 
 fn ends(page: &mut [u8], at: usize, minutes: u64) -> usize
