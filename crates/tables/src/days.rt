@@ -108,7 +108,7 @@ fn method_digits(page: &mut [u8], at: usize, method: u8) -> usize
     if method == NO_METHOD {
         put(page, at, b"")
     } else {
-        two(page, at, u64::from(method))
+        two(page, at, method as u64)
     }
 }
 
@@ -134,7 +134,7 @@ fn reason(page: &mut [u8], at: usize, code: u16) -> usize
         return put(page, at, b"");
     }
     let p = cell(page, at, REASON, b"");
-    number(page, p, u64::from(code))
+    number(page, p, code as u64)
 }
 
 fn description(page: &mut [u8], at: usize, text: &[u8]) -> usize

@@ -5,8 +5,8 @@ use Rattle.tables.proofs.days.description.Goals as goal
 
 pub returns-then-is_empty : goal.returns-then-is_empty
 unfolding description_text
-returns-then-is_empty c = search tests
+returns-then-is_empty c = rw (← c.is_empty.ensures, c.if-is_empty.true) (search tests)
 
 pub returns-else-is_empty : goal.returns-else-is_empty
 unfolding description_text
-returns-else-is_empty c = search tests
+returns-else-is_empty c = rw (← c.is_empty.ensures, c.if-is_empty.false) (search tests)

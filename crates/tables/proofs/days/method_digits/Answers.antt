@@ -9,4 +9,4 @@ returns-then-method-eq-NO_METHOD c = search tests
 
 pub returns-else-method-eq-NO_METHOD : goal.returns-else-method-eq-NO_METHOD
 unfolding method_text
-returns-else-method-eq-NO_METHOD c = rw (← c.from.ensures) (search tests)
+returns-else-method-eq-NO_METHOD c = search tests

@@ -10,4 +10,4 @@ returns-then-code-eq-NO_REASON c = search tests
 
 pub returns : goal.returns
 unfolding reason_text
-returns c = rw (← c.from.ensures) (search (filled-then, tests))
+returns c = search (filled-then, tests)
