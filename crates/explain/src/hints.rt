@@ -39,7 +39,7 @@ fn is_unit_field(kind: u64, number: usize) -> bool
 fn is_interval(number: usize, count: usize) -> bool
     ensures { result ≡ is_interval number count }
 {
-    3 <= number && number <= count && 4 < count - number
+    3 <= number && 4 < count.saturating_sub(number)
 }
 
 // Whether it is a value, in a record of the kind.

@@ -15,7 +15,7 @@ use refusals::places::whereabouts;
 fn has_place(number: u64) -> bool
     ensures { result ≡ has_place number }
 {
-    (2..14).contains(&number)
+    matches!(number, 2..14)
 }
 
 fn marked(page: &mut [u8], at: usize, line: &[u8], column: usize) -> usize
