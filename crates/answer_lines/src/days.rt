@@ -35,9 +35,9 @@ pub fn interval(
         p,
         b'/',
         &[
-            u64::from(flag),
-            u64::from(method),
-            u64::from(reason),
+            flag as u64,
+            method as u64,
+            reason as u64,
             start as u64,
             length as u64,
         ],

@@ -33,7 +33,7 @@ fn counts(page: &mut [u8], at: usize, used: u64, channels: u64) -> usize
 pub fn added(page: &mut [u8], at: usize, v: u32, first: u64, used: u64, channels: u64) -> usize
     ensures { Filled page.old at (added_text v first used channels) result page.new }
 {
-    let p = version(page, at, u64::from(v));
+    let p = version(page, at, v as u64);
     let q = put(page, p, b" added, from ");
     let r = date(page, q, first);
     counts(page, r, used, channels)
@@ -55,7 +55,7 @@ fn until(page: &mut [u8], at: usize, next: u64) -> usize
 pub fn span(page: &mut [u8], at: usize, v: u32, first: u64, next: u64) -> usize
     ensures { Filled page.old at (span_text v first next) result page.new }
 {
-    let p = version(page, at, u64::from(v));
+    let p = version(page, at, v as u64);
     let q = put(page, p, b", from ");
     let r = date(page, q, first);
     until(page, r, next)
@@ -84,7 +84,7 @@ fn wrong(page: &mut [u8], at: usize, fault: u8) -> usize
         no share, which is a whole number from 0 to 1000;\
         an output that has a line already;\
         a share without NMI and suffix";
-    put(page, at, text_at(faults, usize::from(fault) + 1))
+    put(page, at, text_at(faults, fault as usize + 1))
 }
 
 // With the line's number from 1.

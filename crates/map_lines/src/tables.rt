@@ -30,7 +30,7 @@ pub fn output_row(
 ) -> usize
     ensures { Filled page.old at (output_text output nmi.now suffix.now share at) result page.new }
 {
-    let p = right(page, at, OUTPUT, u64::from(output));
+    let p = right(page, at, OUTPUT, output as u64);
     let q = cell(page, p, NMI, nmi);
     let r = cell(page, q, SUFFIX, suffix);
     right(page, r, SHARE, share)
@@ -83,7 +83,7 @@ fn dated(page: &mut [u8], at: usize, first: u64) -> usize
 fn placed(page: &mut [u8], at: usize, v: u32, first: u64, outputs: u64, channels: u64) -> usize
     ensures { Filled page.old at (version_columns v first outputs channels at) result page.new }
 {
-    let p = right(page, at, VERSION, u64::from(v));
+    let p = right(page, at, VERSION, v as u64);
     let q = dated(page, p, first);
     let r = right(page, q, VERSION_OUTPUTS, outputs);
     right(page, r, VERSION_CHANNELS, channels)
@@ -96,7 +96,7 @@ fn like_other(page: &mut [u8], at: usize, like: u32) -> usize
         return put(page, at, b"");
     }
     let p = put(page, at, b"  as ");
-    version(page, p, u64::from(like))
+    version(page, p, like as u64)
 }
 
 // A version by its number from 1, and that of an earlier one with the same entries, 0 where there is none.

@@ -114,12 +114,12 @@ pub fn row_of(line: &[u8]) -> Row
     if !has_four(line) {
         return Row::Wrong(FIELDS);
     }
-    match number_up_to(field(line, usize::from(OUTPUT)), LAST_OUTPUT) {
+    match number_up_to(field(line, OUTPUT as usize), LAST_OUTPUT) {
         Number::Is(output) => with_key(
             output,
-            field(line, usize::from(NMI)),
-            field(line, usize::from(SUFFIX)),
-            field(line, usize::from(SHARE)),
+            field(line, NMI as usize),
+            field(line, SUFFIX as usize),
+            field(line, SHARE as usize),
         ),
         Number::Bad => Row::Wrong(OUTPUT),
     }

@@ -1,5 +1,4 @@
 -- `answer_lines::days::intervals` meets its contract. Assumes nothing.
-use Prim.Native.Nat.{◌-◌}
 use Rattle.answer_lines.specs.Lines.{interval_in}
 use Rattle.page.proofs.Listed.{Counted}
 use Rattle.answer_lines.proofs.days.intervals.Given as goal

@@ -1,7 +1,5 @@
 -- `answer_lines::numbers::numbers_behind` meets its contract. Assumes nothing.
 use Rattle.answer_lines.proofs.Listed.{Listed}
-use Prim.Native.Nat.{◌-◌}
-use lib.ListN.{length}
 use Rattle.answer_lines.proofs.numbers.numbers_behind.Given as goal
 
 abbrev pub invariant-loop-n : goal.invariant-loop-n
