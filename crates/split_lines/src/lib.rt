@@ -25,7 +25,7 @@ fn by_version(page: &mut [u8], at: usize, v: u32) -> usize
     ensures { Filled page.old at (by_text v) result page.new }
 {
     let p = put(page, at, b", split by version ");
-    let q = number(page, p, u64::from(v));
+    let q = number(page, p, v as u64);
     put(page, q, b" of the map")
 }
 
@@ -94,7 +94,8 @@ pub fn sum_row(page: &mut [u8], at: usize, shares: u64, sum: u64) -> usize
 pub fn is_energy(unit: &[u8]) -> bool
     ensures { result ≡ is_energy unit.now }
 {
-    unit.last().is_some_and(|letter| capital(*letter) == b'H')
+    let n = unit.len();
+    0 < n && capital(unit[n - 1]) == b'H'
 }
 
 // That the values of the day are no amounts that could be shared out: volts, amperes, a power factor, or a rate as kW is.
