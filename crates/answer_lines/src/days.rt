@@ -59,10 +59,8 @@ fn intervals(
     ensures { Filled page.old at (texts (interval_in values.now flags.now methods.now reasons.now starts.now lengths.now) n) result page.new }
 {
     let mut p = at;
-    let mut i: usize = 0;
-    while i < n {
+    for i in 0..n {
         p = interval(page, p, i, values, flags, methods, reasons, starts, lengths);
-        i += 1;
     }
     p
 }

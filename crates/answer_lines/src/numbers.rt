@@ -19,10 +19,8 @@ pub fn numbers_behind(page: &mut [u8], at: usize, sign: u8, list: &[u64]) -> usi
     ensures { Filled page.old at (numbers_text sign list.now) result page.new }
 {
     let mut p = at;
-    let mut i: usize = 0;
-    while i < list.len() {
-        p = number_behind(page, p, sign, list[i]);
-        i += 1;
+    for n in list {
+        p = number_behind(page, p, sign, *n);
     }
     p
 }

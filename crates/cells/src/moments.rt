@@ -17,10 +17,7 @@ fn minutes_of(k: u64, n: usize) -> u64
     requires { k ≤ 288 }
     ensures { result ≡ minutes_of k n }
 {
-    if n == 0 {
-        return 0;
-    }
-    k * FULL_DAY / n as u64
+    if n == 0 { 0 } else { k * FULL_DAY / n as u64 }
 }
 
 // Minutes behind midnight as a clock, made as one text: a row has two of them.
@@ -33,11 +30,11 @@ fn clock(page: &mut [u8], at: usize, minutes: u64) -> usize
         page,
         at,
         &[
-            48 + (hour / 10) as u8,
-            48 + (hour % 10) as u8,
+            b'0' + (hour / 10) as u8,
+            b'0' + (hour % 10) as u8,
             b':',
-            48 + (minute / 10) as u8,
-            48 + (minute % 10) as u8,
+            b'0' + (minute / 10) as u8,
+            b'0' + (minute % 10) as u8,
         ],
     )
 }
@@ -46,10 +43,7 @@ fn clock(page: &mut [u8], at: usize, minutes: u64) -> usize
 fn day_of(page: &mut [u8], at: usize, today: &[u8], after: &[u8], minutes: u64) -> usize
     ensures { Filled page.old at (cond (ltb minutes 1440) today.now after.now) result page.new }
 {
-    if minutes < FULL_DAY {
-        return put(page, at, today);
-    }
-    put(page, at, after)
+    put(page, at, if minutes < FULL_DAY { today } else { after })
 }
 
 fn moment(page: &mut [u8], at: usize, today: &[u8], after: &[u8], minutes: u64) -> usize

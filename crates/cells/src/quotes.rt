@@ -12,9 +12,10 @@ fn byte(page: &mut [u8], at: usize, b: u8) -> usize
     ensures { Filled page.old at (twice b) result page.new }
 {
     if b == QUOTE {
-        return put(page, at, b"\"\"");
+        put(page, at, b"\"\"")
+    } else {
+        put(page, at, &[b])
     }
-    put(page, at, &[b])
 }
 
 // The text with each of its quotes written twice.
@@ -22,10 +23,8 @@ fn double(page: &mut [u8], at: usize, text: &[u8]) -> usize
     ensures { Filled page.old at (doubled text.now) result page.new }
 {
     let mut p = at;
-    let mut i: usize = 0;
-    while i < text.len() {
-        p = byte(page, p, text[i]);
-        i += 1;
+    for b in text {
+        p = byte(page, p, *b);
     }
     p
 }
@@ -43,7 +42,8 @@ pub fn cell(page: &mut [u8], at: usize, text: &[u8]) -> usize
     ensures { Filled page.old at (cell_text text.now) result page.new }
 {
     if first_at(text, QUOTE) == text.len() {
-        return put(page, at, text);
+        put(page, at, text)
+    } else {
+        quote(page, at, text)
     }
-    quote(page, at, text)
 }

@@ -100,10 +100,8 @@ fn hours(page: &mut [u8], at: usize) -> usize
     ensures { Filled page.old at hours_text result page.new }
 {
     let mut p = at;
-    let mut k: u64 = 0;
-    while k < 9 {
+    for k in 0..9 {
         p = hour(page, p, k);
-        k += 1;
     }
     p
 }
@@ -129,10 +127,8 @@ fn lines(page: &mut [u8], at: usize, most: u64) -> usize
 {
     let n = steps_for(most) + 1;
     let mut p = at;
-    let mut k: u64 = 0;
-    while k < n {
+    for k in 0..n {
         p = step(page, p, most, k);
-        k += 1;
     }
     p
 }

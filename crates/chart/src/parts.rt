@@ -10,10 +10,7 @@ use words::lists::text_at;
 pub fn share(whole: u64, n: usize) -> u64
     ensures { result ≡ share_of whole n }
 {
-    if n == 0 {
-        return 0;
-    }
-    whole / n as u64
+    if n == 0 { 0 } else { whole / n as u64 }
 }
 
 // A value and its unit.
@@ -56,10 +53,10 @@ fn shade(flag: u8) -> usize
     ensures { result ≡ shade_of flag }
 {
     match flag {
-        65 => 1,
-        69 => 2,
-        70 => 3,
-        83 => 4,
+        b'A' => 1,
+        b'E' => 2,
+        b'F' => 3,
+        b'S' => 4,
         _ => 5,
     }
 }
@@ -77,8 +74,9 @@ pub fn colour(page: &mut [u8], at: usize, flag: u8) -> usize
 pub fn band(page: &mut [u8], at: usize, flag: u8) -> usize
     ensures { Filled page.old at (band_text flag) result page.new }
 {
-    if flag == 78 {
-        return put(page, at, b" fill='url(#null)'/>");
+    if flag == b'N' {
+        put(page, at, b" fill='url(#null)'/>")
+    } else {
+        put(page, at, b" fill='none'/>")
     }
-    put(page, at, b" fill='none'/>")
 }

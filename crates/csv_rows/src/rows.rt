@@ -73,13 +73,14 @@ fn quality(page: &mut [u8], at: usize, flag: u8, method: u8) -> usize
     ensures { Filled page.old at (field_text (quality_text flag method)) result page.new }
 {
     if method == NO_METHOD {
-        return put(page, at, &[flag, b',']);
+        put(page, at, &[flag, b','])
+    } else {
+        put(
+            page,
+            at,
+            &[flag, b'0' + method / 10 % 10, b'0' + method % 10, b','],
+        )
     }
-    put(
-        page,
-        at,
-        &[flag, 48 + method / 10 % 10, 48 + method % 10, b','],
-    )
 }
 
 fn reason(page: &mut [u8], at: usize, code: u16) -> usize
@@ -88,7 +89,7 @@ fn reason(page: &mut [u8], at: usize, code: u16) -> usize
     if code == NO_REASON {
         return put(page, at, b",");
     }
-    let p = number(page, at, code as u64);
+    let p = number(page, at, u64::from(code));
     put(page, p, b",")
 }
 

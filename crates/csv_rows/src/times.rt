@@ -19,26 +19,23 @@ fn any_day(page: &mut [u8], at: usize, d: u64) -> usize
 pub fn day(page: &mut [u8], at: usize, d: u64) -> usize
     ensures { Filled page.old at (day_text d) result page.new }
 {
-    if d < 10000000 {
-        return any_day(page, at, d);
-    }
-    if 99999999 < d {
+    if !(10000000..=99999999).contains(&d) {
         return any_day(page, at, d);
     }
     put(
         page,
         at,
         &[
-            48 + (d / 10000000) as u8,
-            48 + (d / 1000000 % 10) as u8,
-            48 + (d / 100000 % 10) as u8,
-            48 + (d / 10000 % 10) as u8,
+            b'0' + (d / 10000000) as u8,
+            b'0' + (d / 1000000 % 10) as u8,
+            b'0' + (d / 100000 % 10) as u8,
+            b'0' + (d / 10000 % 10) as u8,
             b'-',
-            48 + (d / 1000 % 10) as u8,
-            48 + (d / 100 % 10) as u8,
+            b'0' + (d / 1000 % 10) as u8,
+            b'0' + (d / 100 % 10) as u8,
             b'-',
-            48 + (d / 10 % 10) as u8,
-            48 + (d % 10) as u8,
+            b'0' + (d / 10 % 10) as u8,
+            b'0' + (d % 10) as u8,
             b'T',
         ],
     )
@@ -52,14 +49,14 @@ fn clock(page: &mut [u8], at: usize, t: u64) -> usize
         page,
         at,
         &[
-            48 + (t / 100000 % 10) as u8,
-            48 + (t / 10000 % 10) as u8,
+            b'0' + (t / 100000 % 10) as u8,
+            b'0' + (t / 10000 % 10) as u8,
             b':',
-            48 + (t / 1000 % 10) as u8,
-            48 + (t / 100 % 10) as u8,
+            b'0' + (t / 1000 % 10) as u8,
+            b'0' + (t / 100 % 10) as u8,
             b':',
-            48 + (t / 10 % 10) as u8,
-            48 + (t % 10) as u8,
+            b'0' + (t / 10 % 10) as u8,
+            b'0' + (t % 10) as u8,
         ],
     )
 }

@@ -69,9 +69,10 @@ pub fn refused(page: &mut [u8], file: &[u8], x: Refusal) -> usize
     ensures { Filled page.old 0 (refused_text file.now x) result page.new }
 {
     if x.number != 14 {
-        return explained(page, 0, file, x);
+        explained(page, 0, file, x)
+    } else {
+        no_day_in(page, file)
     }
-    no_day_in(page, file)
 }
 
 // ---- the table

@@ -19,8 +19,7 @@ fn write_intervals(
     starts: &[usize],
     lengths: &[usize],
 ) -> u8 {
-    let mut i: usize = 0;
-    while i < n {
+    for i in 0..n {
         let p = interval(
             page, text, i, n, values, flags, methods, reasons, starts, lengths,
         );
@@ -28,7 +27,6 @@ fn write_intervals(
         if status != DONE {
             return status;
         }
-        i += 1;
     }
     DONE
 }

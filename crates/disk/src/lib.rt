@@ -6,10 +6,7 @@ use std::io;
 
 // Standard input is named by a dash.
 fn is_dash(path: &[u8]) -> bool {
-    if path.len() != 1 {
-        return false;
-    }
-    path[0] == b'-'
+    path == b"-".as_slice()
 }
 
 // The file of a name: how many of its bytes stand at the start of the room.

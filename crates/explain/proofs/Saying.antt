@@ -1,13 +1,10 @@
 -- What is said of a refusal, from its parts. Assumes nothing.
-use Prim.Native.Nat.{ℕ, ◌+◌, ◌-◌, ◌<◌}
+use Prim.Native.Nat.{ℕ, ◌-◌}
 use mathlib.Core.Path.{◌≡◌}
 use mathlib.Core.List.{List, [], ◌∷◌}
 use mathlib.Core.Bool.{Bool, true, false}
-use native.Mathlib.Omega.{arith}
 use borrow.Author.Tests.{eq-eqb, ne_eqb}
-use lib.Dec.{leb}
 use Rattle.ground.specs.Lists.{part}
-use Rattle.ground.proofs.Tests.{and-false}
 use Rattle.format.specs.Cut.{fields, field}
 use Rattle.format.specs.Numbers.{is_number, decimals, value_of}
 use Rattle.format.specs.Records.{scale, count_of}
@@ -19,7 +16,7 @@ use Rattle.refusals.specs.Places.{headline, counts, whereabouts}
 use Rattle.refusals.specs.Hints.{known_units, too_many}
 use Rattle.refusals.specs.Excerpts.{excerpt, mark}
 use Rattle.records.specs.Records.{record_of, channel_before, n_before, unit_named}
-use Rattle.explain.specs.Said.{has_place, marked_text, shown_line, counts_line, is_unit_field, is_interval, is_value_field, unit_for, decimals_line, unit_line, hint, place_text, explanation_as, told_place, told}
+use Rattle.explain.specs.Said.{has_place, marked_text, shown_line, counts_line, is_unit_field, is_value_field, unit_for, decimals_line, unit_line, hint, place_text, explanation_as, told_place, told}
 use Rattle.records.specs.declared.Record.{Record}
 
 module _ {p₀ p₁ p₂ p₃ p₄ : List ℕ} {at i j k l : ℕ} where
@@ -95,11 +92,6 @@ module _ {p₀ p₁ : List ℕ} {at i : ℕ} where
       pub line_other : v ≡ false → Filled p₀ at [] i p₁ → Filled p₀ at (unit_line file x r) i p₁
       unfolding unit_line
       line_other t a = rw (← eb, f, ← ev, t) a
-
--- a field behind the last is no interval's value
-pub past-count : (number count : ℕ) → count < number → false ≡ is_interval number count
-unfolding is_interval
-past-count number count h = let z : count - number ≡ 0 = omega arith in rw (z, and-false (leb 3 number))
 
 -- the unit of a record's values
 module _ (file : List ℕ) (place : ℕ) (r : Record) (u : ℕ) {s : List ℕ} where

@@ -28,39 +28,29 @@ fn counts_line(page: &mut [u8], at: usize, file: &[u8], place: usize, r: Record)
 fn is_unit_field(kind: u64, number: usize) -> bool
     ensures { result ≡ is_unit_field kind number }
 {
-    if kind == 200 {
-        return number == UNIT_OF_200;
+    match kind {
+        200 => number == UNIT_OF_200,
+        250 => number == UNIT_OF_250,
+        _ => false,
     }
-    if kind == 250 {
-        return number == UNIT_OF_250;
-    }
-    false
 }
 
 // Whether the field of a number is an interval's value, in a 300 that has so many. Two fields stand before the values, and five behind them.
 fn is_interval(number: usize, count: usize) -> bool
     ensures { result ≡ is_interval number count }
 {
-    if number < 3 {
-        return false;
-    }
-    if count < number {
-        return false;
-    }
-    4 < count - number
+    3 <= number && 4 < count.saturating_sub(number)
 }
 
 // Whether it is a value, in a record of the kind.
 fn is_value_field(kind: u64, number: usize, count: usize) -> bool
     ensures { result ≡ is_value_field kind number count }
 {
-    if kind == 250 {
-        return number == QUANTITY;
+    match kind {
+        250 => number == QUANTITY,
+        300 => is_interval(number, count),
+        _ => false,
     }
-    if kind == 300 {
-        return is_interval(number, count);
-    }
-    false
 }
 
 // The unit of a record's values: a 250 names its own, and a 300 has that of the 200 before it.
@@ -68,9 +58,10 @@ fn unit_for(file: &[u8], place: usize, r: Record) -> u8
     ensures { result ≡ unit_for file.now place r }
 {
     if r.kind == 250 {
-        return unit_in(part(file, r.start, r.end), UNIT_OF_250);
+        unit_in(part(file, r.start, r.end), UNIT_OF_250)
+    } else {
+        unit_in(channel_before(file, place), UNIT_OF_200)
     }
-    unit_in(channel_before(file, place), UNIT_OF_200)
 }
 
 fn units_line(page: &mut [u8], at: usize) -> usize
@@ -113,11 +104,9 @@ fn unit_line(page: &mut [u8], at: usize, file: &[u8], x: Refusal, r: Record) -> 
 pub fn hint(page: &mut [u8], at: usize, file: &[u8], x: Refusal, r: Record) -> usize
     ensures { Filled page.old at (Said·hint file.now x r) result page.new }
 {
-    if x.number == 5 {
-        return counts_line(page, at, file, x.place, r);
+    match x.number {
+        5 => counts_line(page, at, file, x.place, r),
+        6 => unit_line(page, at, file, x, r),
+        _ => put(page, at, b""),
     }
-    if x.number == 6 {
-        return unit_line(page, at, file, x, r);
-    }
-    put(page, at, b"")
 }

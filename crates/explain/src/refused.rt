@@ -1,5 +1,5 @@
 // What is said of a refusal: what it means, where it stands, what would be right, and the record's line with a mark under the place.
-ghost use Rattle.std.specs.Prelude.{◌≡◌, ◌-◌};
+ghost use Rattle.std.specs.Prelude.{◌≡◌};
 ghost use Rattle.page.specs.Filled.{Filled};
 ghost use Rattle.explain.specs.Said.{has_place, marked_text, shown_line, place_text, explanation_as, explanation, told_place, told as Said·told};
 
@@ -15,10 +15,7 @@ use refusals::places::whereabouts;
 fn has_place(number: u64) -> bool
     ensures { result ≡ has_place number }
 {
-    if number < 2 {
-        return false;
-    }
-    number < 14
+    matches!(number, 2..14)
 }
 
 fn marked(page: &mut [u8], at: usize, line: &[u8], column: usize) -> usize
@@ -34,20 +31,11 @@ fn marked(page: &mut [u8], at: usize, line: &[u8], column: usize) -> usize
 fn shown_line(page: &mut [u8], at: usize, line: &[u8], column: usize) -> usize
     ensures { Filled page.old at (shown_line line.now column) result page.new }
 {
-    if line.len() == 0 {
-        return put(page, at, b"");
+    if line.is_empty() {
+        put(page, at, b"")
+    } else {
+        marked(page, at, line, column)
     }
-    marked(page, at, line, column)
-}
-
-// Where a place stands in the record that starts at another.
-fn column_of(start: usize, place: usize) -> usize
-    ensures { result ≡ place - start }
-{
-    if place < start {
-        return 0;
-    }
-    place - start
 }
 
 // Where a refusal stands, which is in the record r; its place is told as y has it.
@@ -61,7 +49,7 @@ fn place_text(page: &mut [u8], at: usize, file: &[u8], x: Refusal, y: Refusal, r
         page,
         s,
         part(file, r.start, r.end),
-        column_of(r.start, x.place),
+        x.place.saturating_sub(r.start),
     )
 }
 
@@ -72,9 +60,10 @@ pub fn explained_as(page: &mut [u8], at: usize, file: &[u8], x: Refusal, y: Refu
     let p = headline(page, at, x.number);
     let q = put(page, p, b"\n");
     if has_place(x.number) {
-        return place_text(page, q, file, x, y, record_of(file, x.place));
+        place_text(page, q, file, x, y, record_of(file, x.place))
+    } else {
+        put(page, q, b"")
     }
-    put(page, q, b"")
 }
 
 // The same, with its own place.

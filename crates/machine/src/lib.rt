@@ -63,10 +63,7 @@ impl Machine for HostRuntime {
     }
 
     fn arg(&self, i: usize, buf: &mut [u8]) -> usize {
-        match Env::arg(self, i, buf) {
-            Ok(n) => n,
-            Err(_) => 0,
-        }
+        Env::arg(self, i, buf).unwrap_or(0)
     }
 
     fn read(&self, buf: &mut [u8]) -> io::Result<usize> {

@@ -92,10 +92,7 @@ fn without_key(output: u64, share: &[u8]) -> Result<Row, Fault>
 fn is_keyless(nmi: &[u8], suffix: &[u8]) -> bool
     ensures { result ≡ is_keyless nmi.now suffix.now }
 {
-    if nmi.len() != 0 {
-        return false;
-    }
-    suffix.len() == 0
+    nmi.is_empty() && suffix.is_empty()
 }
 
 fn with_key(output: u64, nmi: &[u8], suffix: &[u8], share: &[u8]) -> Result<Row, Fault>

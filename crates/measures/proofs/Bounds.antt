@@ -1,5 +1,5 @@
 -- No number of the axis is 0 where it divides, and none is too large. Assumes nothing.
-use Prim.Native.Nat.{ℕ, zero, suc, ◌+◌, ◌-◌, ◌*◌, ◌/◌, ◌≤◌, ◌<◌}
+use Prim.Native.Nat.{ℕ, zero, suc, ◌+◌, ◌-◌, ◌*◌, ◌/◌, ◌≤◌, ◌<◌, min}
 use mathlib.Core.Path.{◌≡◌, refl, sym, ap, ◌∙◌}
 use mathlib.Core.Bool.{cond}
 use native.Mathlib.Nat.{div-mul-le_self, lt-div-mul-add, div-le_of_le-mul, div-le_self, mul-le-mul_right}
@@ -23,6 +23,13 @@ reach-within most =
     split most 9999999999999
     (λ h. rw (ne_eqb most 0 e, le-leb most 9999999999999 h) (record { low = omega (arith, e); high = omega arith }))
     (λ h. rw (ne_eqb most 0 e, lt-leb most 9999999999999 h) (record { low = omega arith; high = omega arith })))
+
+pub reach-min : (most r : ℕ) → (most ≡ 0 → ⊥) → r ≡ min most 9999999999999 → r ≡ reach_of most
+unfolding reach_of
+reach-min most r e q =
+    split most 9999999999999
+    (λ h. rw (ne_eqb most 0 e, le-leb most 9999999999999 h) (omega arith))
+    (λ h. rw (ne_eqb most 0 e, lt-leb most 9999999999999 h) (omega arith))
 
 in_within : (ten reach : ℕ) → Within 4000000000000 ten → Within 20000000000000 (step_in ten reach)
 unfolding step_in
@@ -68,15 +75,8 @@ pub multiple-small : (most k s : ℕ) → k ≤ steps_for most → s ≡ step_fo
 unfolding top_for
 multiple-small most k s h e = rw e (omega (arith, (top_within most).high, mul-le-mul_right {m = k} {n = steps_for most} (step_for most) h))
 
-lower_high : (v top : ℕ) → cond (ltb v top) v top ≤ top
-lower_high v top = split top v (λ h. rw (le-ltb v top h) (omega arith)) (λ h. rw (lt-ltb v top h) (omega arith))
-
-module _ (v top l : ℕ) (e : l ≡ cond (ltb v top) v top) where
-  pub lower-small : l ≤ top
-  lower-small = rw e (lower_high v top)
-
-  pub height-small : l * 30000 / top ≤ 30000
-  height-small = div-le_of_le-mul top {m = l * 30000} {n = 30000} (omega (arith, lower-small))
+pub height-small : (v top l : ℕ) → l ≤ top → l * 30000 / top ≤ 30000
+height-small v top l h = div-le_of_le-mul top {m = l * 30000} {n = 30000} (omega arith)
 
 pub steps-small : (most : ℕ) → steps_for most ≤ 100000000000000
 unfolding steps_for
@@ -98,9 +98,12 @@ pub top-is : (most k s : ℕ) → k ≡ steps_for most → s ≡ step_for most �
 unfolding top_for
 top-is most k s e f = rw (← e, ← f)
 
-pub on-is : (v top l : ℕ) → l ≡ cond (ltb v top) v top → l * 30000 / top * 10000 ≡ height_on top v
+lower-min : (v top : ℕ) → min v top ≡ cond (ltb v top) v top
+lower-min v top = split top v (λ h. rw (le-ltb v top h) (omega arith)) (λ h. rw (lt-ltb v top h) (omega arith))
+
+pub on-is : (v top l : ℕ) → l ≡ min v top → l * 30000 / top * 10000 ≡ height_on top v
 unfolding height_on
-on-is v top l e = rw (← e)
+on-is v top l e = rw (← (lower-min v top), ← e)
 
 pub height-is : (most v t r : ℕ) → t ≡ top_for most → r ≡ height_on t v → r ≡ height_of most v
 unfolding height_of
@@ -108,29 +111,30 @@ height-is most v t r e f = rw (← e) f
 
 -- ---- the step, sought with one power of ten a turn
 
+-- k of the 13 turns are over
 pub record Seeking (reach ten k : ℕ) : Type 0 where
   pub small : ten ≤ 4000000000000
-  pub same : step_from k ten reach ≡ step_from 13 1 reach
+  pub same : step_from (13 - k) ten reach ≡ step_from 13 1 reach
 
 module _ (reach : ℕ) where
-  pub seeking-first : Seeking reach 1 13
+  pub seeking-first : Seeking reach 1 0
   seeking-first = record { small = omega arith; same = refl }
 
   module _ (ten k : ℕ) (s : Seeking reach ten k) where
-    pub seeking-next : 0 < k → ten * 25 < reach → reach ≤ 9999999999999 → Seeking reach (ten * 10) (k - 1)
+    pub seeking-next : k < 13 → ten * 25 < reach → reach ≤ 9999999999999 → Seeking reach (ten * 10) (k + 1)
     unfolding step_from
     seeking-next h l r =
-        let j : k ≡ suc (k - 1) = omega arith in
-        let t : step_from (suc (k - 1)) ten reach ≡ step_from (k - 1) (ten * 10) reach = rw (lt-leb reach (ten * 25) l) in
+        let j : 13 - k ≡ suc (13 - (k + 1)) = omega arith in
+        let t : step_from (suc (13 - (k + 1))) ten reach ≡ step_from (13 - (k + 1)) (ten * 10) reach = rw (lt-leb reach (ten * 25) l) in
         record { small = omega arith; same = sym t ∙ sym (ap (λ (z : ℕ). step_from z ten reach) j) ∙ s.same }
 
-    pub seeking-found : (r : ℕ) → 0 < k → reach ≤ ten * 25 → r ≡ step_in ten reach → r ≡ step_from 13 1 reach
+    pub seeking-found : (r : ℕ) → k < 13 → reach ≤ ten * 25 → r ≡ step_in ten reach → r ≡ step_from 13 1 reach
     unfolding step_from
     seeking-found r h l e =
-        let j : k ≡ suc (k - 1) = omega arith in
-        let t : step_from (suc (k - 1)) ten reach ≡ step_in ten reach = rw (le-leb reach (ten * 25) l) in
+        let j : 13 - k ≡ suc (13 - (k + 1)) = omega arith in
+        let t : step_from (suc (13 - (k + 1))) ten reach ≡ step_in ten reach = rw (le-leb reach (ten * 25) l) in
         e ∙ sym t ∙ sym (ap (λ (z : ℕ). step_from z ten reach) j) ∙ s.same
 
-    pub seeking-out : k ≤ 0 → ten ≡ step_from 13 1 reach
+    pub seeking-out : 13 ≤ k → ten ≡ step_from 13 1 reach
     unfolding step_from
-    seeking-out h = let j : k ≡ 0 = omega arith in sym (ap (λ (z : ℕ). step_from z ten reach) j) ∙ s.same
+    seeking-out h = let j : 13 - k ≡ 0 = omega arith in sym (ap (λ (z : ℕ). step_from z ten reach) j) ∙ s.same

@@ -1,84 +1,53 @@
--- The first n elements of a list gathered by a loop: the largest of them, and how many are a letter. Assumes nothing.
-use Prim.Native.Nat.{ℕ, ◌+◌, ◌≤◌, ◌<◌}
+-- The first n elements of a list gathered: the largest of them, and how many are a letter. Assumes nothing.
+use Prim.Native.Nat.{ℕ, ◌+◌, ◌≤◌, min, max}
 use mathlib.Core.Path.{◌≡◌, refl, sym, ap, ◌∙◌}
+use mathlib.Core.Bool.{cond}
 use mathlib.Core.List.{List, [], ◌∷◌}
-use native.Mathlib.Nat.{zero-add}
-use native.Mathlib.Numerals.{add-one}
 use native.Mathlib.Omega.{arith}
-use lib.ListN.{length, take, drop, get_or, length-take, drop_of_length-le}
-use lib.Seq.{drop-cons, get_or-take}
+use borrow.Author.Tests.{le-ltb, lt-ltb}
+use lib.ListN.{length, take}
+use lib.Seq.{take_all}
+use lib.Dec.{eqb}
+use Rattle.std.specs.List.{fold, count_by}
+use Rattle.std.proofs.lemmas.List.{take_min}
+use Rattle.std.proofs.lemmas.List.Recursion.{is_count_by}
+use Rattle.ground.proofs.Cases.{split, by}
 use Rattle.measures.specs.Axis.{larger, largest_of, most_of}
 use Rattle.measures.specs.Counts.{one, count_of, counts_of}
 
--- ---- what is left at place i of the first n
-
-module _ (list : List ℕ) (n i : ℕ) where
-  left-more : i < n → i < length list → drop i (take n list) ≡ get_or list i 0 ∷ drop (i + 1) (take n list)
-  left-more h k =
-      let w : i < length (take n list) = rw (length-take) (omega arith) in
-      drop-cons (take n list) i 0 w ∙ rw (add-one, get_or-take n list i 0)
-
-  left_behind : n ≤ i → drop i (take n list) ≡ []
-  left_behind h = drop_of_length-le (take n list) {i = i} (rw (length-take) (omega arith))
-
-  left-past : length list ≤ i → drop i (take n list) ≡ []
-  left-past h = drop_of_length-le (take n list) {i = i} (rw (length-take) (omega arith))
+-- k is as many of the first n as there are, and all of them were gathered
+first-all : (list : List ℕ) (n k i : ℕ) → k ≡ min n (length list) → length (take k list) ≤ i → take i (take k list) ≡ take n list
+first-all list n k i e h = take_all i (take k list) h ∙ ap (λ (z : ℕ). take z list) e ∙ take_min n list
 
 -- ---- the largest
 
--- m is the largest of the first i
-pub record Largest (values : List ℕ) (n m i : ℕ) : Type 0 where
-  pub same : largest_of m (drop i (take n values)) ≡ most_of values n
+larger-max : (m x : ℕ) → max m x ≡ larger m x
+unfolding larger
+larger-max m x = split x m (λ h. rw (le-ltb m x h) (omega arith)) (λ h. rw (lt-ltb m x h) (omega arith))
 
-module _ (values : List ℕ) (n : ℕ) where
-  pub largest-none : Largest values n 0 0
-  unfolding most_of
-  largest-none = record { same = refl }
+largest-fold : (m : ℕ) (xs : List ℕ) → fold (λ (y x : ℕ). max y x) m xs ≡ largest_of m xs
+unfolding largest_of
+largest-fold m [] = refl
+largest-fold m (x ∷ xs) = ap (λ (z : ℕ). fold (λ (y x : ℕ). max y x) z xs) (larger-max m x) ∙ largest-fold (larger m x) xs
 
-  pub largest-more : (m r i : ℕ) → i < n → i < length values → Largest values n m i → r ≡ larger m (get_or values i 0) → Largest values n r (i + 1)
-  unfolding largest_of
-  largest-more m r i h k g e = record { same = rw e (sym (ap (largest_of m) (left-more values n i h k)) ∙ g.same) }
-
-  module _ (m i : ℕ) (g : Largest values n m i) where
-    largest-is : drop i (take n values) ≡ [] → m ≡ most_of values n
-    unfolding largest_of
-    largest-is e = sym (ap (largest_of m) e) ∙ g.same
-
-    pub largest-all : n ≤ i → m ≡ most_of values n
-    largest-all h = largest-is (left_behind values n i h)
-
-    pub largest-end : length values ≤ i → m ≡ most_of values n
-    largest-end h = largest-is (left-past values n i h)
+pub largest-is : (values : List ℕ) (n k i m : ℕ) → k ≡ min n (length values) → length (take k values) ≤ i
+    → m ≡ fold (λ (y x : ℕ). max y x) 0 (take i (take k values)) → m ≡ most_of values n
+unfolding most_of
+largest-is values n k i m e h q = q ∙ ap (fold (λ (y x : ℕ). max y x) 0) (first-all values n k i e h) ∙ largest-fold 0 (take n values)
 
 -- ---- how many are a letter
 
--- so many were found among the first i
-pub record Found (flags : List ℕ) (n x found i : ℕ) : Type 0 where
-  pub few : found ≤ i
-  pub left : found + count_of x (drop i (take n flags)) ≡ count_of x (take n flags)
+count-more : (x b : ℕ) (xs : List ℕ) → count_of x (b ∷ xs) ≡ cond (eqb b x) (1 + count_of x xs) (count_of x xs)
+unfolding count_of one
+count-more x b xs = by (eqb b x) (λ t. rw t) (λ f. rw f (omega arith))
 
-module _ (flags : List ℕ) (n x : ℕ) where
-  pub found_none : Found flags n x 0 0
-  found_none = record { few = omega arith; left = zero-add (count_of x (take n flags)) }
-
-  pub found-more : (found i k : ℕ) → i < n → i < length flags → k ≡ one x (get_or flags i 0) → k ≤ 1 → Found flags n x found i → Found flags n x (found + k) (i + 1)
-  unfolding count_of
-  found-more found i k h l e m a =
-      let d : count_of x (drop i (take n flags)) ≡ k + count_of x (drop (i + 1) (take n flags)) = rw (left-more flags n i h l, e) in
-      record { few = omega (arith, a.few); left = omega (arith, a.left) }
-
-  module _ (found i : ℕ) (a : Found flags n x found i) where
-    found-is : drop i (take n flags) ≡ [] → found ≡ count_of x (take n flags)
-    unfolding count_of
-    found-is e =
-        let z : count_of x (drop i (take n flags)) ≡ 0 = rw e in
-        omega (arith, a.left)
-
-    pub found_all : n ≤ i → found ≡ count_of x (take n flags)
-    found_all h = found-is (left_behind flags n i h)
-
-    pub found-end : length flags ≤ i → found ≡ count_of x (take n flags)
-    found-end h = found-is (left-past flags n i h)
+pub count-is : (flags : List ℕ) (n k i x found : ℕ) → k ≡ min n (length flags) → length (take k flags) ≤ i
+    → found ≡ count_by (λ (b : ℕ). eqb b x) (take i (take k flags)) → found ≡ count_of x (take n flags)
+unfolding count_of
+count-is flags n k i x found e h q =
+    q
+    ∙ ap (count_by (λ (b : ℕ). eqb b x)) (first-all flags n k i e h)
+    ∙ sym (is_count_by (count_of x) (λ (b : ℕ). eqb b x) refl (λ b ys. count-more x b ys) (take n flags))
 
 pub counts-are : (flags : List ℕ) (n : ℕ) {a e f s z : ℕ} → a ≡ count_of 65 (take n flags) → e ≡ count_of 69 (take n flags) → f ≡ count_of 70 (take n flags)
     → s ≡ count_of 83 (take n flags) → z ≡ count_of 78 (take n flags)

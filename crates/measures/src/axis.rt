@@ -1,32 +1,22 @@
 // The axis of values. A value is any number of 64 bits by its type, so the axis ends at what a file may hold: whatever is lent, nothing here grows too large.
-ghost use Rattle.std.specs.Prelude.{◌≡◌, cond, ltb, ◌≤◌};
-ghost use Rattle.measures.specs.Axis.{larger as Axis·larger, most_of, reach_of, step_in, step_from, step_for, steps_for, top_for, height_on, height_of};
+ghost use Rattle.std.specs.Prelude.{◌≡◌, ◌≤◌};
+ghost use Rattle.measures.specs.Axis.{most_of, reach_of, step_in, step_from, step_for, steps_for, top_for, height_on, height_of};
 
 const ONE: u64 = 1000000;
 
 const LARGEST: u64 = 9999999999999;
 
-fn larger(m: u64, x: u64) -> u64
-    ensures { result ≡ Axis·larger m x }
-{
-    if m < x {
-        return x;
-    }
-    m
-}
+// As many powers of ten as it takes for the step to reach the largest.
+const TENS: usize = 13;
 
 // The largest of the first n values.
 pub fn most_of(values: &[u64], n: usize) -> u64
     ensures { result ≡ most_of values.now n }
 {
-    let mut most: u64 = 0;
-    let mut i: usize = 0;
-    while i < n {
-        if values.len() <= i {
-            return most;
-        }
-        most = larger(most, values[i]);
-        i += 1;
+    let first = &values[..n.min(values.len())];
+    let mut most = 0;
+    for v in first {
+        most = most.max(*v);
     }
     most
 }
@@ -34,13 +24,7 @@ pub fn most_of(values: &[u64], n: usize) -> u64
 fn reach_of(most: u64) -> u64
     ensures { result ≡ reach_of most }
 {
-    if most == 0 {
-        return ONE;
-    }
-    if most <= LARGEST {
-        return most;
-    }
-    LARGEST
+    if most == 0 { ONE } else { most.min(LARGEST) }
 }
 
 fn step_in(ten: u64, reach: u64) -> u64
@@ -48,12 +32,12 @@ fn step_in(ten: u64, reach: u64) -> u64
     ensures { result ≡ step_in ten reach }
 {
     if reach <= ten * 5 {
-        return ten;
+        ten
+    } else if reach <= ten * 10 {
+        ten * 2
+    } else {
+        ten * 5
     }
-    if reach <= ten * 10 {
-        return ten * 2;
-    }
-    ten * 5
 }
 
 // The step is sought from 1 on, with one power of ten a turn.
@@ -61,14 +45,12 @@ fn step_from(reach: u64) -> u64
     requires { reach ≤ 9999999999999 }
     ensures { result ≡ step_from 13 1 reach }
 {
-    let mut ten: u64 = 1;
-    let mut k: usize = 13;
-    while 0 < k {
+    let mut ten = 1;
+    for _ in 0..TENS {
         if reach <= ten * 25 {
             return step_in(ten, reach);
         }
         ten *= 10;
-        k -= 1;
     }
     ten
 }
@@ -94,20 +76,11 @@ fn top_for(most: u64) -> u64
     steps * step
 }
 
-fn lower(v: u64, top: u64) -> u64
-    ensures { result ≡ cond (ltb v top) v top }
-{
-    if v < top {
-        return v;
-    }
-    top
-}
-
 fn height_on(top: u64, v: u64) -> u64
     requires { (1 ≤ top) × (top ≤ 100000000000000) }
     ensures { result ≡ height_on top v }
 {
-    lower(v, top) * 30000 / top * 10000
+    v.min(top) * 30000 / top * 10000
 }
 
 // How high a value stands in the picture, in a day with this largest value.

@@ -1,6 +1,6 @@
 // How many intervals of a day have which quality.
-ghost use Rattle.std.specs.Prelude.{◌≡◌, ◌≤◌, take};
-ghost use Rattle.measures.specs.Counts.{one, count_of, counts_of};
+ghost use Rattle.std.specs.Prelude.{◌≡◌, take};
+ghost use Rattle.measures.specs.Counts.{count_of, counts_of};
 
 #[derive(Clone, Copy)]
 pub struct Counts {
@@ -11,28 +11,16 @@ pub struct Counts {
     pub null: usize,
 }
 
-// 1 for the letter that is counted.
-fn one_if(flag: u8, letter: u8) -> usize
-    ensures { (result ≡ one letter flag) × (result ≤ 1) }
-{
-    if flag == letter {
-        return 1;
-    }
-    0
-}
-
 // How many of the first n flags are the letter.
 pub fn count_of(flags: &[u8], n: usize, letter: u8) -> usize
     ensures { result ≡ count_of letter (take n flags.now) }
 {
-    let mut found: usize = 0;
-    let mut i: usize = 0;
-    while i < n {
-        if flags.len() <= i {
-            return found;
+    let first = &flags[..n.min(flags.len())];
+    let mut found = 0;
+    for f in first {
+        if *f == letter {
+            found += 1;
         }
-        found += one_if(flags[i], letter);
-        i += 1;
     }
     found
 }

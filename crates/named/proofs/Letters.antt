@@ -1,44 +1,45 @@
--- Letters held to letters, whatever their case, one after the other. Assumes nothing.
-use Prim.Native.Nat.{ℕ, ◌+◌, ◌≤◌, ◌<◌}
-use mathlib.Core.Path.{◌≡◌, sym, ◌∙◌}
-use mathlib.Core.List.{List, map}
-use mathlib.Core.Bool.{Bool, true, false, not}
+-- Letters held to letters, whatever their case: as the library tells it, and as the format does. Assumes nothing.
+use Prim.Native.Nat.{ℕ}
+use mathlib.Core.Path.{◌≡◌, refl, sym, ap, ◌∙◌}
+use mathlib.Core.List.{List, [], ◌∷◌, map}
+use mathlib.Core.Bool.{Bool, true, false, false≢true}
 use native.Mathlib.Omega.{arith}
-use borrow.Author.Tests.{eqb-true, eqb-false, not-true, not-false}
-use lib.ListN.{length, get_or, length-map, get_or-map}
+use borrow.Author.Tests.{eqb-true, eq-eqb}
 use lib.Dec.{eqb}
-use Rattle.ground.proofs.Lists.{Agreed, unlike, agreed-none, agreed-more, agreed-stops, agreed-all}
+use Rattle.std.specs.Char.{to_ascii_lowercase}
+use Rattle.std.proofs.lemmas.Bool.Decides.{nat_tests}
+use Rattle.ground.specs.Lists.{same}
+use Rattle.ground.proofs.Tests.{and-true, refuted}
 use Rattle.format.specs.Bytes.{capital}
 use Rattle.format.specs.Units.{same_letters}
 
--- the first i letters agree
-pub record Alike (s t : List ℕ) (i : ℕ) : Type 0 where
-  pub agreed : Agreed (map capital s) (map capital t) i
+small : (x y : ℕ) → capital x ≡ capital y → to_ascii_lowercase x ≡ to_ascii_lowercase y
+unfolding capital
+small x y e = grind (arith, nat_tests)
 
-module _ (s t : List ℕ) where
-  pub letters-unlike : (length s ≡ length t → ⊥) → false ≡ same_letters s t
-  unfolding same_letters
-  letters-unlike h = unlike (map capital s) (map capital t) (λ q. h (omega (arith, length-map s capital, length-map t capital)))
+large : (x y : ℕ) → to_ascii_lowercase x ≡ to_ascii_lowercase y → capital x ≡ capital y
+unfolding capital
+large x y e = grind (arith, nat_tests)
 
-  pub letters-none : length s ≡ length t → Alike s t 0
-  letters-none h = record { agreed = agreed-none (map capital s) (map capital t) (omega (arith, length-map s capital, length-map t capital)) }
+alike : (s t : List ℕ) → same (map capital s) (map capital t) ≡ true → map to_ascii_lowercase s ≡ map to_ascii_lowercase t
+unfolding same
+alike [] [] e = refl
+alike [] (y ∷ t) e = absurd (false≢true e)
+alike (x ∷ s) [] e = absurd (false≢true e)
+alike (x ∷ s) (y ∷ t) e =
+    let w = and-true (eqb (capital x) (capital y)) (same (map capital s) (map capital t)) e in
+    ap (λ (z : ℕ). z ∷ map to_ascii_lowercase s) (small x y (eqb-true _ _ w.0)) ∙ ap (λ (z : List ℕ). to_ascii_lowercase y ∷ z) (alike s t w.1)
 
-  -- q is what `same_letter` answers
-  module _ (i : ℕ) (r : Alike s t i) (l : i < length s) {b : Bool} (q : b ≡ eqb (capital (get_or s i 0)) (capital (get_or t i 0))) where
-    within : i < length (map capital s)
-    within = omega (arith, length-map s capital)
+alike_back : (s t : List ℕ) → map to_ascii_lowercase s ≡ map to_ascii_lowercase t → same (map capital s) (map capital t) ≡ true
+unfolding same
+alike_back [] [] e = refl
+alike_back [] (y ∷ t) e = cc
+alike_back (x ∷ s) [] e = cc
+alike_back (x ∷ s) (y ∷ t) e = rw (eq-eqb (capital x) (capital y) (large x y (cc))) (alike_back s t (cc))
 
-    letters : b ≡ eqb (get_or (map capital s) i 0) (get_or (map capital t) i 0)
-    unfolding capital
-    letters = rw (get_or-map capital s i 0, get_or-map capital t i 0) q
-
-    pub letters-more : not b ≡ false → Alike s t (i + 1)
-    letters-more h = record { agreed = agreed-more (map capital s) (map capital t) i within (eqb-true _ _ (sym letters ∙ not-false b h)) r.agreed }
-
-    pub letters-stop : not b ≡ true → false ≡ same_letters s t
-    unfolding same_letters
-    letters-stop h = agreed-stops (map capital s) (map capital t) i within (eqb-false _ _ (sym letters ∙ not-true b h)) r.agreed
-
-  pub letters-all : (i : ℕ) → length s ≤ i → Alike s t i → true ≡ same_letters s t
-  unfolding same_letters
-  letters-all i h r = agreed-all (map capital s) (map capital t) i (omega (arith, length-map s capital)) r.agreed
+-- r is what the library answers
+pub letters-are : (s t : List ℕ) {r : Bool} → (r ≡ true → map to_ascii_lowercase s ≡ map to_ascii_lowercase t)
+    → (map to_ascii_lowercase s ≡ map to_ascii_lowercase t → r ≡ true) → r ≡ same_letters s t
+unfolding same_letters
+letters-are s t {r = true} h k = sym (alike_back s t (h refl))
+letters-are s t {r = false} h k = refuted (same (map capital s) (map capital t)) (λ e. false≢true (k (alike s t e)))

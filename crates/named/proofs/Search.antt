@@ -3,12 +3,12 @@ use Rattle.std.proofs.Common.{Option, Some, None}
 use Prim.Native.Nat.{ℕ, zero, suc, ◌+◌, ◌-◌, ◌≤◌, ◌<◌}
 use mathlib.Core.Path.{◌≡◌, refl, sym, ap, ◌∙◌}
 use mathlib.Core.List.{List, [], ◌∷◌}
-use mathlib.Core.Bool.{Bool, true, false, false≢true, not, ◌&&◌}
+use mathlib.Core.Bool.{Bool, true, false, false≢true, ◌&&◌}
 use native.Mathlib.Omega.{arith}
 use lib.ListN.{length, take, drop}
 use lib.Seq.{drop-drop}
 use lib.Dec.{eqb}
-use borrow.Author.Tests.{eqb-true, not-true, not-false}
+use borrow.Author.Tests.{eqb-true}
 use Rattle.ground.proofs.Tests.{and-true}
 use Rattle.ground.specs.Lists.{part}
 use Rattle.format.specs.Cut.{fields, field}
@@ -69,12 +69,12 @@ module _ (file : List ℕ) (p : Option Place) where
 
 -- NMI and suffix of a 200, tested one after the other
 module _ (fs : List (List ℕ)) (nmi suffix : List ℕ) {f : List ℕ} (ef : f ≡ field (2 - 1) fs) {b : Bool} (eb : b ≡ same_letters f nmi) where
-  pub channel-no : not b ≡ true → false ≡ (same_letters (field 1 fs) nmi && same_letters (field 4 fs) suffix)
-  channel-no h = rw (← ef, ← eb, not-true b h)
+  pub channel-no : b ≡ false → b ≡ (same_letters (field 1 fs) nmi && same_letters (field 4 fs) suffix)
+  channel-no h = rw (← ef, ← eb, h)
 
-  pub channel-is : not b ≡ false → {g : List ℕ} → g ≡ field (5 - 1) fs → {t : Bool} → t ≡ same_letters g suffix
+  pub channel-is : b ≡ true → {g : List ℕ} → g ≡ field (5 - 1) fs → {t : Bool} → t ≡ same_letters g suffix
       → t ≡ (same_letters (field 1 fs) nmi && same_letters (field 4 fs) suffix)
-  channel-is h eg et = rw (← ef, ← eb, not-false b h, ← eg) et
+  channel-is h eg et = rw (← ef, ← eb, h, ← eg) et
 
 and-assoc-false : (x y z : Bool) → (x && y) ≡ false → (x && (y && z)) ≡ false
 and-assoc-false true y z h = rw h
@@ -83,19 +83,20 @@ and-assoc-false false y z h = refl
 -- the key of the day under a 200 whose 300 stands from a to e, tested one part after the other
 module _ (file nmi suffix : List ℕ) (date a e : ℕ) (u : Under) {s : List ℕ} (es : s ≡ part file u.at u.end) {b : Bool}
     (eb : b ≡ (same_letters (field 1 (fields s)) nmi && same_letters (field 4 (fields s)) suffix)) where
-  pub key-no : not b ≡ true → false ≡ has_key nmi suffix date (day_at file a e u)
+  pub key-no : b ≡ false → b ≡ has_key nmi suffix date (day_at file a e u)
   unfolding has_key
   key-no h =
-      rw (← es)
+      h
+      ∙ rw (← es)
       (sym
       (and-assoc-false (same_letters (field 1 (fields s)) nmi) (same_letters (field 4 (fields s)) suffix) (eqb (date_in (fields (part file a e))) date)
-      (sym eb ∙ not-true b h)))
+      (sym eb ∙ h)))
 
-  pub key-dated : not b ≡ false → {t : Bool} {at : ℕ} → at ≡ date_in (fields (part file a e)) → t ≡ eqb at date → t ≡ has_key nmi suffix date (day_at file a e u)
+  pub key-dated : b ≡ true → {at v : ℕ} → at ≡ date_in (fields (part file a e)) → v ≡ at → eqb v date ≡ has_key nmi suffix date (day_at file a e u)
   unfolding has_key
-  key-dated h ea et =
-      let w = and-true (same_letters (field 1 (fields s)) nmi) (same_letters (field 4 (fields s)) suffix) (sym eb ∙ not-false b h) in
-      rw (← es, w.0, w.1, ← ea) et
+  key-dated h ea ev =
+      let w = and-true (same_letters (field 1 (fields s)) nmi) (same_letters (field 4 (fields s)) suffix) (sym eb ∙ h) in
+      rw (← es, w.0, w.1, ← ea, ev)
 
 -- ---- the words of a key
 

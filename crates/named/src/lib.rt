@@ -1,9 +1,8 @@
 // The day of an NMI, a suffix and a date, for someone who does not know its number.
 #![tactic(auto)]
 
-ghost use Rattle.std.specs.Prelude.{◌≡◌, ◌&&◌, ◌+◌, ◌≤◌, length, eqb};
+ghost use Rattle.std.specs.Prelude.{◌≡◌, ◌&&◌, ◌+◌, ◌≤◌, length};
 ghost use Rattle.ground.specs.Lists.{part as Lists·part};
-ghost use Rattle.format.specs.Bytes.{capital as Bytes·capital};
 ghost use Rattle.format.specs.Cut.{fields, field as Cut·field};
 ghost use Rattle.format.specs.Units.{same_letters};
 ghost use Rattle.day.specs.Places.{Heads, day_at, DayAhead, located, inside};
@@ -15,41 +14,19 @@ use day::{DayStart, Place, Under};
 use leaf::digits::digits;
 use page::texts::part;
 use records::{NMI, SUFFIX, field};
-use units::capital;
-
-// The same letter, or the same byte that is none.
-fn same_letter(a: u8, b: u8) -> bool
-    ensures { result ≡ eqb (Bytes·capital a) (Bytes·capital b) }
-{
-    capital(a) == capital(b)
-}
 
 // The same letters, whatever their case.
 fn same_letters(f: &[u8], g: &[u8]) -> bool
     ensures { result ≡ same_letters f.now g.now }
 {
-    let n = f.len();
-    if n != g.len() {
-        return false;
-    }
-    let mut i: usize = 0;
-    while i < n {
-        if !same_letter(f[i], g[i]) {
-            return false;
-        }
-        i += 1;
-    }
-    true
+    f.eq_ignore_ascii_case(g)
 }
 
 // The 200 is of that NMI and suffix.
 fn is_channel(record: &[u8], nmi: &[u8], suffix: &[u8]) -> bool
     ensures { result ≡ (same_letters (Cut·field 1 (fields «record».now)) nmi.now && same_letters (Cut·field 4 (fields «record».now)) suffix.now) }
 {
-    if !same_letters(field(record, NMI), nmi) {
-        return false;
-    }
-    same_letters(field(record, SUFFIX), suffix)
+    same_letters(field(record, NMI), nmi) && same_letters(field(record, SUFFIX), suffix)
 }
 
 // The day under a 200 whose 300 stands at a..e has the key.
@@ -65,11 +42,8 @@ fn has_key(
     requires { (a ≤ e) × (e + 2 ≤ length file.now) × Heads file.now under }
     ensures { result ≡ has_key nmi.now suffix.now date (day_at file.now a e under) }
 {
-    if !is_channel(part(file, under.at, under.end), nmi, suffix) {
-        return false;
-    }
-    let head = head_at(file, a, e);
-    head.date as u64 == date
+    is_channel(part(file, under.at, under.end), nmi, suffix)
+        && u64::from(head_at(file, a, e).date) == date
 }
 
 // The day at a place has the key, if there is one.
@@ -98,14 +72,12 @@ pub fn day_named(
     ensures { result ≡ first_from (has_key nmi.now suffix.now date) first (days_up_to file.now first end) }
 {
     let mut from = start;
-    let mut k = first;
-    while k < end {
+    for k in first..end {
         let place = find_day(file, k, from);
         if is_wanted(file, place, nmi, suffix, date) {
             return Some(k as u64);
         }
         from = behind(file, place);
-        k += 1;
     }
     None
 }
@@ -119,10 +91,7 @@ fn is_dashed(word: &[u8]) -> bool
     if word.len() != 10 {
         return false;
     }
-    if word[4] != b'-' {
-        return false;
-    }
-    word[7] == b'-'
+    word[4] == b'-' && word[7] == b'-'
 }
 
 // A date as a number, from 2003-12-19 or 20031219.

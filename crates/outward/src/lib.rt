@@ -25,15 +25,12 @@ pub const FAILED: u8 = 2;
 
 // The graver of two.
 pub fn graver(a: u8, b: u8) -> u8 {
-    if a < b {
-        return b;
-    }
-    a
+    a.max(b)
 }
 
 // Tells the status, as its digit, if anything listens.
 pub fn tell(rt: &impl Machine, status: u8) {
-    let _ = rt.write_behind(STATUS, &[48 + status % 10]);
+    let _ = rt.write_behind(STATUS, &[b'0' + status % 10]);
 }
 
 // Tells what a program came to. Where there was no memory for its work, standard error says so.

@@ -1,6 +1,6 @@
 -- Laws of texts put on a page, as much of each as there is room for: one alone, one that stood in another room before, and one behind the other.
 -- Assumes nothing.
-use Prim.Native.Nat.{ℕ, ◌+◌, ◌-◌, ◌/◌, ◌%◌, ◌^◌, ◌≤◌, ◌<◌}
+use Prim.Native.Nat.{ℕ, ◌+◌, ◌-◌, ◌/◌, ◌^◌, ◌≤◌}
 use mathlib.Core.Path.{◌≡◌, sym, ap, ◌∙◌, subst}
 use mathlib.Core.List.{List, [], ◌∷◌, ◌++◌, append-nil}
 use native.Mathlib.Omega.{arith}
@@ -8,28 +8,12 @@ use lib.ListN.{length, take, drop}
 use lib.Seq.{take_all, take-append-le, take-append-add, take_at, length-take-le}
 use Rattle.ground.specs.Digits.{dec}
 use Rattle.ground.specs.Room.{Put}
-use Rattle.ground.proofs.Cases.{split, same_or}
+use Rattle.ground.proofs.Cases.{split}
 use Rattle.ground.proofs.Digits.{length-dec, width-most}
-use Rattle.ground.proofs.Room.{put-nothing, put_then, put_as, put-kept, sets-front}
+use Rattle.ground.proofs.Room.{put_then, put_as, put-kept, sets-front}
 use Rattle.format.specs.Block.{value_text}
 use Rattle.format.proofs.ValueText.{length_most}
 use Rattle.page.specs.Filled.{Filled}
-
-module _ (page text : List ℕ) (at : ℕ) where
-  pub filled_none : length page ≤ at → Filled page at text at page
-  filled_none h =
-      let e : length page - at ≡ 0 = omega arith in
-      let none : take (length page - at) text ≡ [] = rw e in
-      record { put = put_as (put-nothing page at) (sym none) }
-
-  pub filled-whole : {i : ℕ} {m : List ℕ} → length text ≤ length page - at → Put page at text i m → Filled page at text i m
-  filled-whole h p = record { put = put_as p (sym (take_all (length page - at) text h)) }
-
-  pub filled-part : {i : ℕ} {m : List ℕ} → Put page at (take (length page - at) text) i m → Filled page at text i m
-  filled-part p = record { put = p }
-
-  pub part_room : (room : ℕ) → room < length text → at < length page → room ≡ length page - at → at + length (take room text) ≤ length page
-  part_room room h k e = omega (arith, length-take-le room text (omega arith))
 
 -- the text that fits of two, one behind the other
 take-both : (a : ℕ) (xs ys : List ℕ) → take a xs ++ take (a - length (take a xs)) ys ≡ take a (xs ++ ys)

@@ -12,8 +12,5 @@ module _ (s : List ℕ) (a e : ℕ) where
   pub part-past : length s ≤ a → [] ≡ part s a e
   part-past h = sym (ap (take (e - a)) (drop_of_length-le s h) ∙ take-nil {A = ℕ} (e - a))
 
-  pub part_none : e ≤ a → [] ≡ part s a e
-  part_none h = let z : e - a ≡ 0 = omega arith in rw z
-
   pub part-rest : a < length s → length s ≤ e → take (length s - a) (drop a s) ≡ part s a e
   part-rest h k = to_end a s ∙ sym (take_all (e - a) (drop a s) (omega (arith, length-drop a s)))

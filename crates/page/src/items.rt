@@ -5,35 +5,23 @@ ghost use Rattle.std.specs.Prelude.{◌≡◌, get_or};
 pub fn u64_at(list: &[u64], i: usize) -> u64
     ensures { result ≡ get_or list.now i 0 }
 {
-    if i < list.len() {
-        return list[i];
-    }
-    0
+    list.get(i).copied().unwrap_or(0)
 }
 
 pub fn usize_at(list: &[usize], i: usize) -> usize
     ensures { result ≡ get_or list.now i 0 }
 {
-    if i < list.len() {
-        return list[i];
-    }
-    0
+    list.get(i).copied().unwrap_or(0)
 }
 
 pub fn u16_at(list: &[u16], i: usize) -> u16
     ensures { result ≡ get_or list.now i 0 }
 {
-    if i < list.len() {
-        return list[i];
-    }
-    0
+    list.get(i).copied().unwrap_or(0)
 }
 
 pub fn u8_at(list: &[u8], i: usize) -> u8
     ensures { result ≡ get_or list.now i 0 }
 {
-    if i < list.len() {
-        return list[i];
-    }
-    0
+    list.get(i).copied().unwrap_or(0)
 }

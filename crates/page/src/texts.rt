@@ -13,16 +13,8 @@ use text::digits::put_dec;
 pub fn part(text: &[u8], from: usize, to: usize) -> &[u8]
     ensures { result.now ≡ Lists·part text.now from to }
 {
-    if text.len() <= from {
-        return &text[..0];
-    }
-    if to <= from {
-        return &text[..0];
-    }
-    if text.len() <= to {
-        return &text[from..];
-    }
-    &text[from..to]
+    let end = to.min(text.len());
+    &text[from.min(end)..end]
 }
 
 pub fn put(page: &mut [u8], at: usize, text: &[u8]) -> usize
@@ -32,10 +24,7 @@ pub fn put(page: &mut [u8], at: usize, text: &[u8]) -> usize
         return at;
     }
     let room = page.len() - at;
-    if text.len() <= room {
-        return put_bytes(page, at, text);
-    }
-    put_bytes(page, at, &text[..room])
+    put_bytes(page, at, &text[..text.len().min(room)])
 }
 
 // A number without leading zeros.

@@ -1,5 +1,5 @@
 -- Spaces put on a page, and a text behind as many as bring it to its column. Assumes nothing.
-use Prim.Native.Nat.{ℕ, ◌-◌, ◌/◌, ◌≤◌}
+use Prim.Native.Nat.{ℕ, ◌-◌, ◌/◌}
 use mathlib.Core.Path.{◌≡◌, ap, ◌∙◌}
 use mathlib.Core.List.{List}
 use native.Mathlib.Omega.{arith}
@@ -15,9 +15,6 @@ module _ {l m : List ℕ} {at i : ℕ} where
   pub spaces-put : (n : ℕ) (t : List ℕ) → t ≡ part (replicate 80 32) 0 n → Filled l at t i m → Filled l at (blank n) i m
   unfolding blank
   spaces-put n t e p = let z : n - 0 ≡ n = omega arith in filled-as p (e ∙ ap (λ (k : ℕ). take k (replicate 80 32)) z)
-
-  pub column-none : (to : ℕ) → to ≤ at → Filled l at (blank 0) i m → Filled l at (blank (to - at)) i m
-  column-none to h p = let e : 0 ≡ to - at = omega arith in filled-as p (ap blank e)
 
   module _ {k : List ℕ} {j : ℕ} (to w b v : ℕ) where
     pub right-put : w ≡ width v → b ≡ to - w → Filled l at (blank (b - at)) i m → Filled m i (dec v) j k → Filled l at (right_text to v at) j k

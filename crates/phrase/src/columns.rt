@@ -1,5 +1,5 @@
 // Columns of a table: what stands before a place of the line is filled with spaces.
-ghost use Rattle.std.specs.Prelude.{◌≡◌, ◌-◌};
+ghost use Rattle.std.specs.Prelude.{◌-◌};
 ghost use Rattle.page.specs.Filled.{Filled};
 ghost use Rattle.phrase.specs.Phrases.{blank, cell_text, right_text, point_text};
 
@@ -10,25 +10,14 @@ use text::digits::digits_len;
 pub fn spaces(page: &mut [u8], at: usize, n: usize) -> usize
     ensures { Filled page.old at (blank n) result page.new }
 {
-    put(
-        page,
-        at,
-        part(
-            b"                                                                                ",
-            0,
-            n,
-        ),
-    )
+    put(page, at, part(&[b' '; 80], 0, n))
 }
 
 // Spaces up to a place of the line.
 fn column(page: &mut [u8], at: usize, to: usize) -> usize
     ensures { Filled page.old at (blank (to - at)) result page.new }
 {
-    if to <= at {
-        return spaces(page, at, 0);
-    }
-    spaces(page, at, to - at)
+    spaces(page, at, to.saturating_sub(at))
 }
 
 // A text that starts at a place of the line.
@@ -39,21 +28,11 @@ pub fn cell(page: &mut [u8], at: usize, to: usize, text: &[u8]) -> usize
     put(page, p, text)
 }
 
-// Where a text of a length starts that ends before a place.
-fn start(to: usize, length: usize) -> usize
-    ensures { result ≡ to - «length» }
-{
-    if to < length {
-        return 0;
-    }
-    to - length
-}
-
 // A number whose last digit stands before a place of the line.
 pub fn right(page: &mut [u8], at: usize, to: usize, n: u64) -> usize
     ensures { Filled page.old at (right_text to n at) result page.new }
 {
-    let p = column(page, at, start(to, digits_len(n)));
+    let p = column(page, at, to.saturating_sub(digits_len(n)));
     number(page, p, n)
 }
 
@@ -61,6 +40,6 @@ pub fn right(page: &mut [u8], at: usize, to: usize, n: u64) -> usize
 pub fn point(page: &mut [u8], at: usize, to: usize, v: u64) -> usize
     ensures { Filled page.old at (point_text to v at) result page.new }
 {
-    let p = column(page, at, start(to, digits_len(v / 1000000)));
+    let p = column(page, at, to.saturating_sub(digits_len(v / 1000000)));
     value(page, p, v)
 }

@@ -17,9 +17,10 @@ fn plural(page: &mut [u8], at: usize, n: u64) -> usize
     ensures { Filled page.old at (plural_text n) result page.new }
 {
     if n == 1 {
-        return put(page, at, b"");
+        put(page, at, b"")
+    } else {
+        put(page, at, b"s")
     }
-    put(page, at, b"s")
 }
 
 // A number and what it counts.

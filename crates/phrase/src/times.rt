@@ -9,9 +9,10 @@ fn zero(page: &mut [u8], at: usize, n: u64) -> usize
     ensures { Filled page.old at (zero_text n) result page.new }
 {
     if n < 10 {
-        return put(page, at, b"0");
+        put(page, at, b"0")
+    } else {
+        put(page, at, b"")
     }
-    put(page, at, b"")
 }
 
 // Two digits.

@@ -37,17 +37,24 @@ past-file file at h =
 pub start-within : (file : List ℕ) (at : ℕ) {b : Bool} → b ≡ crlf_before file at → b ≡ true → at ≤ length file
 start-within file at e t = split at (length file) (λ h. h) (λ h. nowhere (past-file file at h ∙ sym e ∙ t))
 
-pub start-here : (file : List ℕ) (place at : ℕ) {b : Bool} → b ≡ crlf_before file at → b ≡ true → 0 < at → record_start file place ≡ record_start file at
-    → at ≡ record_start file place
+pub start-here : (file : List ℕ) (place at : ℕ) {b : Bool} → b ≡ crlf_before file (at - 1 + 1) → b ≡ true → 0 < at → record_start file place ≡ record_start file at
+    → at - 1 + 1 ≡ record_start file place
 unfolding record_start
 start-here file place zero e t h inv = absurd (let z : ⊥ = omega arith in z)
-start-here file place (suc p) e t h inv = rw (inv, ← e, t)
+start-here file place (suc p) e t h inv =
+    let m : suc p - 1 + 1 ≡ suc p = omega arith in
+    let f = rw m at e in
+    rw (inv, ← f, t, m)
 
-pub start-down : (file : List ℕ) (place at : ℕ) {b : Bool} → b ≡ crlf_before file at → b ≡ false → 0 < at → record_start file place ≡ record_start file at
+pub start-down : (file : List ℕ) (place at : ℕ) {b : Bool} → b ≡ crlf_before file (at - 1 + 1) → b ≡ false → 0 < at → record_start file place ≡ record_start file at
     → record_start file place ≡ record_start file (at - 1)
 unfolding record_start
 start-down file place zero e t h inv = absurd (let z : ⊥ = omega arith in z)
-start-down file place (suc p) e t h inv = let m : suc p - 1 ≡ p = omega arith in rw (inv, ← e, t, m)
+start-down file place (suc p) e t h inv =
+    let l : suc p - 1 + 1 ≡ suc p = omega arith in
+    let f = rw l at e in
+    let m : suc p - 1 ≡ p = omega arith in
+    rw (inv, ← f, t, m)
 
 pub start_none : (file : List ℕ) (place at : ℕ) → at ≤ 0 → record_start file place ≡ record_start file at → 0 ≡ record_start file place
 unfolding record_start

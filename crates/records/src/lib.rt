@@ -28,16 +28,10 @@ pub struct Record {
 fn crlf_before(file: &[u8], at: usize) -> bool
     ensures { result ≡ crlf_before file.now at }
 {
-    if at <= 1 {
+    if at < 2 || file.len() < at {
         return false;
     }
-    if file.len() < at {
-        return false;
-    }
-    if file[at - 2] != 13 {
-        return false;
-    }
-    file[at - 1] == 10
+    file[at - 2] == b'\r' && file[at - 1] == b'\n'
 }
 
 // Where the record in which a place stands starts. It is looked for backwards, so that a refused file costs no second walk over it.
@@ -45,12 +39,10 @@ fn start_of(file: &[u8], place: usize) -> usize
     ensures is { result ≡ record_start file.now place }
     ensures within { result ≤ length file.now }
 {
-    let mut at = place;
-    while 0 < at {
-        if crlf_before(file, at) {
-            return at;
+    for before in (0..place).rev() {
+        if crlf_before(file, before + 1) {
+            return before + 1;
         }
-        at -= 1;
     }
     0
 }
@@ -120,7 +112,7 @@ pub fn field(record: &[u8], number: usize) -> &[u8]
     ensures { result.now ≡ Cut·field (number - 1) (fields «record».now) }
 {
     let end = record.len();
-    let at = skip(record, 0, end, before(number));
+    let at = skip(record, 0, end, number.saturating_sub(1));
     first_field(record, at, end)
 }
 
@@ -129,17 +121,8 @@ pub fn unit_in(record: &[u8], number: usize) -> u8
     ensures { result ≡ unit_named (number - 1) «record».now }
 {
     let end = record.len();
-    let at = skip(record, 0, end, before(number));
+    let at = skip(record, 0, end, number.saturating_sub(1));
     unit_at(record, at, end)
-}
-
-fn before(number: usize) -> usize
-    ensures { result ≡ number - 1 }
-{
-    if number == 0 {
-        return 0;
-    }
-    number - 1
 }
 
 // ---- descriptions
@@ -148,11 +131,9 @@ fn before(number: usize) -> usize
 pub fn text_at(file: &[u8], from: usize, n: usize) -> &[u8]
     ensures { result.now ≡ text_at file.now from n }
 {
-    if file.len() < from {
-        return &file[..0];
+    if from <= file.len() && n <= file.len() - from {
+        &file[from..from + n]
+    } else {
+        &[]
     }
-    if file.len() - from < n {
-        return &file[..0];
-    }
-    part(file, from, from + n)
 }

@@ -4,7 +4,7 @@ use mathlib.Core.Path.{◌≡◌, sym, ap}
 use mathlib.Core.Bool.{Bool, true, false}
 use mathlib.Core.List.{List, [], ◌∷◌}
 use native.Mathlib.Omega.{arith}
-use borrow.Author.Tests.{lt-ltb, le-ltb, le-leb}
+use borrow.Author.Tests.{lt-ltb, le-ltb}
 use lib.ListN.{length, get_or}
 use lib.Dec.{ltb}
 use Rattle.ground.specs.Lists.{part}
@@ -29,11 +29,6 @@ pub shown-more : (page₀ text page m : List ℕ) (at p q i b : ℕ) → i < len
     → Counted page₀ at (shown_at text) (length text) page p i → Filled page p (b ∷ []) q m → Counted page₀ at (shown_at text) (length text) m q (i + 1)
 shown-more page₀ text page m at p q i b h e r w =
     counted-more page₀ at (shown_at text) (length text) page m p q i h r (filled-as w (ap (λ (z : ℕ). z ∷ []) e))
-
--- nothing is left of a line that ends before what is shown
-pub to-end-of : (from n : ℕ) → n < from → n ≡ shown_to from n
-unfolding shown_to
-to-end-of from n h = let k : n - from ≤ 77 = omega arith in rw (le-leb _ _ k)
 
 module _ {p₀ p₁ : List ℕ} {at i : ℕ} (cut : Bool) where
   pub dots-on : cut ≡ true → Filled p₀ at (bytes "...") i p₁ → Filled p₀ at (dots cut) i p₁

@@ -10,23 +10,18 @@ use phrase::columns::spaces;
 fn shown(b: u8) -> u8
     ensures { result ≡ Excerpts·shown b }
 {
-    if b < 32 {
-        return b'?';
+    match b {
+        b' '..=b'~' => b,
+        _ => b'?',
     }
-    if 126 < b {
-        return b'?';
-    }
-    b
 }
 
 fn put_shown(page: &mut [u8], at: usize, text: &[u8]) -> usize
     ensures { Filled page.old at (shown_text text.now) result page.new }
 {
     let mut p = at;
-    let mut i: usize = 0;
-    while i < text.len() {
-        p = put(page, p, &[shown(text[i])]);
-        i += 1;
+    for b in text {
+        p = put(page, p, &[shown(*b)]);
     }
     p
 }
@@ -36,32 +31,28 @@ fn dots(page: &mut [u8], at: usize, cut: bool) -> usize
     ensures { Filled page.old at (Excerpts·dots cut) result page.new }
 {
     if cut {
-        return put(page, at, b"...");
+        put(page, at, b"...")
+    } else {
+        put(page, at, b"")
     }
-    put(page, at, b"")
 }
 
 // From where the line is shown, so that the column stands among the first 60.
 fn shown_from(column: usize) -> usize
     ensures { result ≡ shown_from column }
 {
-    if column < 60 {
-        return 0;
-    }
-    column - 40
+    if column < 60 { 0 } else { column - 40 }
 }
 
 // Up to where, so that what is shown has at most 80 columns with its dots.
 fn shown_to(from: usize, length: usize) -> usize
     ensures { result ≡ shown_to from «length» }
 {
-    if length < from {
-        return length;
+    if length.saturating_sub(from) <= 77 {
+        length
+    } else {
+        from + 74
     }
-    if length - from <= 77 {
-        return length;
-    }
-    from + 74
 }
 
 // What is shown of a record's line, where a column of it matters.
@@ -79,10 +70,7 @@ pub fn excerpt(page: &mut [u8], at: usize, record: &[u8], column: usize) -> usiz
 fn lead(from: usize) -> usize
     ensures { result ≡ Excerpts·lead from }
 {
-    if 0 < from {
-        return 3;
-    }
-    0
+    if 0 < from { 3 } else { 0 }
 }
 
 // The mark on the line below.

@@ -24,9 +24,10 @@ fn comma_before(page: &mut [u8], at: usize, unit: u8) -> usize
     ensures { Filled page.old at (comma_before unit) result page.new }
 {
     if unit == 0 {
-        return put(page, at, b"");
+        put(page, at, b"")
+    } else {
+        put(page, at, b", ")
     }
-    put(page, at, b", ")
 }
 
 fn listed(page: &mut [u8], at: usize, unit: u8) -> usize
@@ -40,6 +41,7 @@ fn listed(page: &mut [u8], at: usize, unit: u8) -> usize
 fn unit_names(page: &mut [u8], at: usize) -> usize
     ensures { Filled page.old at (texts Hints·listed (length Units·units)) result page.new }
 {
+    // How many there are is for `units` to know, so the numbers are tried in turn.
     let mut p = at;
     let mut unit: u8 = 0;
     while units::is_unit(unit) {
@@ -74,9 +76,10 @@ fn decimals_in(value: &[u8]) -> usize
 {
     let p = first_at(value, b'.');
     if p < value.len() {
-        return value.len() - p - 1;
+        value.len() - p - 1
+    } else {
+        0
     }
-    0
 }
 
 // How many a value in the unit has at most, and how many this one has.

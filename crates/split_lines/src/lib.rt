@@ -95,10 +95,7 @@ pub fn is_energy(unit: &[u8]) -> bool
     ensures { result ≡ is_energy unit.now }
 {
     let n = unit.len();
-    if n == 0 {
-        return false;
-    }
-    capital(unit[n - 1]) == b'H'
+    0 < n && capital(unit[n - 1]) == b'H'
 }
 
 // That the values of the day are no amounts that could be shared out: volts, amperes, a power factor, or a rate as kW is.

@@ -64,9 +64,10 @@ pub fn kept(page: &mut [u8], at: usize, before: usize, days: usize) -> usize
     ensures { Filled page.old at (kept_text before days) result page.new }
 {
     if before == days {
-        return put(page, at, b"kept, in the place of an older one");
+        put(page, at, b"kept, in the place of an older one")
+    } else {
+        put(page, at, b"kept, new")
     }
-    put(page, at, b"kept, new")
 }
 
 fn holds(page: &mut [u8], at: usize, days: usize) -> usize

@@ -83,10 +83,7 @@ fn end_of(k: u64, n: usize) -> u64
     requires { k ≤ 288 }
     ensures { result ≡ end_of k n }
 {
-    if n == 0 {
-        return 0;
-    }
-    k * 1440 / n as u64
+    if n == 0 { 0 } else { k * 1440 / n as u64 }
 }
 
 fn ends(page: &mut [u8], at: usize, minutes: u64) -> usize
@@ -109,9 +106,10 @@ fn method_digits(page: &mut [u8], at: usize, method: u8) -> usize
     ensures { Filled page.old at (method_text method) result page.new }
 {
     if method == NO_METHOD {
-        return put(page, at, b"");
+        put(page, at, b"")
+    } else {
+        two(page, at, method as u64)
     }
-    two(page, at, method as u64)
 }
 
 // A flag and its method, as E52.
@@ -142,10 +140,11 @@ fn reason(page: &mut [u8], at: usize, code: u16) -> usize
 fn description(page: &mut [u8], at: usize, text: &[u8]) -> usize
     ensures { Filled page.old at (description_text text.now at) result page.new }
 {
-    if text.len() == 0 {
-        return put(page, at, b"");
+    if text.is_empty() {
+        put(page, at, b"")
+    } else {
+        cell(page, at, DESCRIPTION, text)
     }
-    cell(page, at, DESCRIPTION, text)
 }
 
 fn mark(page: &mut [u8], at: usize, flag: u8, method: u8, code: u16, text: &[u8]) -> usize

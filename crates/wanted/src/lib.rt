@@ -158,9 +158,5 @@ pub fn wanted_before_last(rt: &impl Machine, page: &mut [u8], file: &[u8]) -> Re
 
 // The number of the last word, which is how many stand before it.
 pub fn last_word(rt: &impl Machine) -> usize {
-    let n = rt.arg_count();
-    if n == 0 {
-        return 0;
-    }
-    n - 1
+    rt.arg_count().saturating_sub(1)
 }

@@ -1,5 +1,4 @@
 // The names of fields, by the kind of their record and their number from 1.
-ghost use Rattle.std.specs.Prelude.{◌≡◌, ◌-◌};
 ghost use Rattle.page.specs.Filled.{Filled};
 ghost use Rattle.words.specs.Lists.{numbered};
 ghost use Rattle.words.specs.Names.{value_name, name_in300, name_of};
@@ -26,26 +25,17 @@ fn name_in_300(page: &mut [u8], at: usize, number: usize, behind: usize) -> usiz
     ensures { Filled page.old at (name_in300 number behind) result page.new }
 {
     if number < 3 {
-        return named(page, at, b"indicator;date", number);
+        named(page, at, b"indicator;date", number)
+    } else if 4 < behind {
+        value_name(page, at, number - 2)
+    } else {
+        named(
+            page,
+            at,
+            b"quality;reason;description;update time;load time",
+            5 - behind,
+        )
     }
-    if 4 < behind {
-        return value_name(page, at, number - 2);
-    }
-    named(
-        page,
-        at,
-        b"quality;reason;description;update time;load time",
-        5 - behind,
-    )
-}
-
-fn behind(number: usize, count: usize) -> usize
-    ensures { result ≡ count - number }
-{
-    if count < number {
-        return 0;
-    }
-    count - number
 }
 
 // The name of a field of a record that has so many.
@@ -73,7 +63,7 @@ pub fn name(page: &mut [u8], at: usize, kind: u64, number: usize, count: usize) 
                 number,
             )
         }
-        300 => name_in_300(page, at, number, behind(number, count)),
+        300 => name_in_300(page, at, number, count.saturating_sub(number)),
         400 => named(
             page,
             at,

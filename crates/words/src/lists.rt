@@ -20,9 +20,10 @@ fn next(list: &[u8], at: usize) -> usize
 {
     let n = first_at(&list[at..], b';');
     if n < list.len() - at {
-        return at + n + 1;
+        at + n + 1
+    } else {
+        list.len()
     }
-    list.len()
 }
 
 // The text of a number from 1, empty where the list has fewer.
@@ -30,10 +31,8 @@ pub fn text_at(list: &[u8], number: usize) -> &[u8]
     ensures { result.now ≡ numbered number list.now }
 {
     let mut at: usize = 0;
-    let mut k: usize = 1;
-    while k < number {
+    for _ in 1..number {
         at = next(list, at);
-        k += 1;
     }
     first(&list[at..])
 }

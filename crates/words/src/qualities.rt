@@ -8,11 +8,11 @@ pub fn name(page: &mut [u8], at: usize, flag: u8) -> usize
     ensures { Filled page.old at (quality_name flag) result page.new }
 {
     match flag {
-        65 => put(page, at, b"actual"),
-        69 => put(page, at, b"estimated"),
-        70 => put(page, at, b"final substituted"),
-        78 => put(page, at, b"null data"),
-        83 => put(page, at, b"substituted"),
+        b'A' => put(page, at, b"actual"),
+        b'E' => put(page, at, b"estimated"),
+        b'F' => put(page, at, b"final substituted"),
+        b'N' => put(page, at, b"null data"),
+        b'S' => put(page, at, b"substituted"),
         _ => put(page, at, b""),
     }
 }

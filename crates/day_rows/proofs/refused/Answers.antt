@@ -5,5 +5,5 @@ use Rattle.day_rows.proofs.refused.Goals as goal
 pub returns-then-x-ne14 : goal.returns-then-x-ne14
 returns-then-x-ne14 c = search refused-other
 
-pub returns : goal.returns
-returns c = search refused-14
+pub returns-else-x-ne14 : goal.returns-else-x-ne14
+returns-else-x-ne14 c = search refused-14

@@ -2,8 +2,8 @@
 use Rattle.ground.proofs.Tests.{tests}
 use Rattle.map_table.proofs.is_keyless.Goals as goal
 
-pub returns-then-nmi-ne0 : goal.returns-then-nmi-ne0
-returns-then-nmi-ne0 c = search tests
+pub returns-then-is_empty : goal.returns-then-is_empty
+returns-then-is_empty c = rw (← c.is_empty.ensures, c.if-is_empty.true) (search tests)
 
-pub returns : goal.returns
-returns c = search tests
+pub returns-else-is_empty : goal.returns-else-is_empty
+returns-else-is_empty c = rw (← c.is_empty.ensures, c.if-is_empty.false) (search tests)

@@ -1,5 +1,4 @@
 -- `named::day_named` meets its contract. Assumes nothing.
-use Prim.Native.Nat.{◌-◌}
 use mathlib.Core.Path.{◌≡◌}
 use Rattle.day.specs.Places.{DayAhead}
 use Rattle.named.specs.Named.{has_key, first_from, days_up_to}
@@ -8,6 +7,3 @@ use Rattle.named.proofs.day_named.Given as goal
 abbrev pub invariant-loop-k : goal.invariant-loop-k
 invariant-loop-k l = DayAhead l.file l.k l.from
     × (first_from (has_key l.nmi l.suffix l.date) l.k (days_up_to l.file l.k l.end) ≡ first_from (has_key l.nmi l.suffix l.date) l.first (days_up_to l.file l.first l.end))
-
-abbrev pub decreases-loop-k : goal.decreases-loop-k
-decreases-loop-k l = l.end - l.k

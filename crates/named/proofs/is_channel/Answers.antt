@@ -2,8 +2,8 @@
 use Rattle.named.proofs.Search.{channel-no, channel-is}
 use Rattle.named.proofs.is_channel.Goals as goal
 
-pub returns-then-not-same_letters : goal.returns-then-not-same_letters
-returns-then-not-same_letters c = search channel-no
+pub returns-then-same_letters : goal.returns-then-same_letters
+returns-then-same_letters c = search channel-is
 
-pub returns : goal.returns
-returns c = search channel-is
+pub returns-else-same_letters : goal.returns-else-same_letters
+returns-else-same_letters c = search channel-no

@@ -7,10 +7,10 @@ pub returns-then-word-ne10 : goal.returns-then-word-ne10
 unfolding is_dashed
 returns-then-word-ne10 c = search tests
 
-pub returns-then-word-ne45 : goal.returns-then-word-ne45
+pub returns-then-word-eq45 : goal.returns-then-word-eq45
 unfolding is_dashed
-returns-then-word-ne45 c = search tests
+returns-then-word-eq45 c = search tests
 
-pub returns : goal.returns
+pub returns-else-word-eq45 : goal.returns-else-word-eq45
 unfolding is_dashed
-returns c = search tests
+returns-else-word-eq45 c = search tests

@@ -1,12 +1,14 @@
 -- `records::text_at` meets its contract. Assumes nothing.
 use Rattle.records.proofs.Lookup.{text-past, text-short, text-there}
 use Rattle.records.proofs.text_at.Goals as goal
+use Rattle.records.proofs.text_at.Goals.{else-from-file-via-then-from-file+else-n-file, else-from-file-via-else-from-file}
 
-pub returns-then-file-from : goal.returns-then-file-from
-returns-then-file-from c = search text-past
+pub returns-then-n-file : goal.returns-then-n-file
+returns-then-n-file c = search text-there
 
-pub returns-then-file-from-2 : goal.returns-then-file-from-2
-returns-then-file-from-2 c = search text-short
-
-pub returns : goal.returns
-returns c = search text-there
+pub returns-else-from-file : goal.returns-else-from-file
+returns-else-from-file c =
+    elim c.else-from-file.branch [
+      | else-from-file-via-then-from-file+else-n-file w ↦ search text-short
+      | else-from-file-via-else-from-file w ↦ search text-past
+    ]

@@ -7,6 +7,6 @@ pub returns-then-before-days : goal.returns-then-before-days
 unfolding kept_text
 returns-then-before-days c = search tests
 
-pub returns : goal.returns
+pub returns-else-before-days : goal.returns-else-before-days
 unfolding kept_text
-returns c = search tests
+returns-else-before-days c = search tests

@@ -1,11 +1,6 @@
 -- `answer_lines::numbers::numbers_behind` meets its contract. Assumes nothing.
 use Rattle.answer_lines.proofs.Listed.{Listed}
-use Prim.Native.Nat.{◌-◌}
-use lib.ListN.{length}
 use Rattle.answer_lines.proofs.numbers.numbers_behind.Given as goal
 
-abbrev pub invariant-loop-i : goal.invariant-loop-i
-invariant-loop-i l = Listed l.initial.page l.at l.sign l.list l.page l.p l.i
-
-abbrev pub decreases-loop-i : goal.decreases-loop-i
-decreases-loop-i l = length l.list - l.i
+abbrev pub invariant-loop-n : goal.invariant-loop-n
+invariant-loop-n l = Listed l.initial.page l.at l.sign l.list l.page l.p l.n-index

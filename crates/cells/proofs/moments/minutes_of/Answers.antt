@@ -7,6 +7,6 @@ use Rattle.cells.proofs.moments.minutes_of.Goals as goal
 pub returns-then-n-eq0 : goal.returns-then-n-eq0
 returns-then-n-eq0 c = search minutes-none
 
-pub returns : goal.returns
+pub returns-else-n-eq0 : goal.returns-else-n-eq0
 unfolding minutes_of
-returns c = search rules
+returns-else-n-eq0 c = search rules

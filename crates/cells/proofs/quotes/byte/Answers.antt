@@ -7,6 +7,6 @@ pub returns-then-b-eq-QUOTE : goal.returns-then-b-eq-QUOTE
 unfolding twice
 returns-then-b-eq-QUOTE c = search tests
 
-pub returns : goal.returns
+pub returns-else-b-eq-QUOTE : goal.returns-else-b-eq-QUOTE
 unfolding twice
-returns c = search tests
+returns-else-b-eq-QUOTE c = search tests

@@ -5,5 +5,5 @@ use Rattle.cells.proofs.quotes.cell.Goals as goal
 pub returns-then-first_at-text : goal.returns-then-first_at-text
 returns-then-first_at-text c = search cell-plain
 
-pub returns : goal.returns
-returns c = search cell-quoted
+pub returns-else-first_at-text : goal.returns-else-first_at-text
+returns-else-first_at-text c = search cell-quoted

@@ -11,9 +11,6 @@ overflow_add-n c = omega (arith, steps-small c.args.most)
 pub loop-k-init : goal.loop-k-init
 loop-k-init c = search counted_none
 
-pub overflow_add-k : goal.overflow_add-k
-overflow_add-k c = omega (arith, steps-small c.args.most)
-
 pub loop-k-preserved : goal.loop-k-preserved
 loop-k-preserved c = search counted-more
 

@@ -7,6 +7,6 @@ pub returns-then-flag-eq78 : goal.returns-then-flag-eq78
 unfolding band_text
 returns-then-flag-eq78 c = search tests
 
-pub returns : goal.returns
+pub returns-else-flag-eq78 : goal.returns-else-flag-eq78
 unfolding band_text
-returns c = search tests
+returns-else-flag-eq78 c = search tests

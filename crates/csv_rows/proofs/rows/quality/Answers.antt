@@ -9,6 +9,6 @@ pub returns-then-method-eq-NO_METHOD : goal.returns-then-method-eq-NO_METHOD
 unfolding field_text quality_text padded
 returns-then-method-eq-NO_METHOD c = search tests
 
-pub returns : goal.returns
+pub returns-else-method-eq-NO_METHOD : goal.returns-else-method-eq-NO_METHOD
 unfolding field_text quality_text padded
-returns c = search tests
+returns-else-method-eq-NO_METHOD c = search tests

@@ -3,14 +3,14 @@ use Rattle.explain.specs.Said.{hint}
 use Rattle.ground.proofs.Tests.{tests}
 use Rattle.explain.proofs.hints.hint.Goals as goal
 
-pub returns-then-x-eq5 : goal.returns-then-x-eq5
+pub returns-in-5 : goal.returns-in-5
 unfolding hint
-returns-then-x-eq5 c = search tests
+returns-in-5 c = search tests
 
-pub returns-then-x-eq6 : goal.returns-then-x-eq6
+pub returns-in-6 : goal.returns-in-6
 unfolding hint
-returns-then-x-eq6 c = search tests
+returns-in-6 c = search (tests, c.in-6.is)
 
-pub returns : goal.returns
+pub returns-in_default : goal.returns-in_default
 unfolding hint
-returns c = search tests
+returns-in_default c = search tests

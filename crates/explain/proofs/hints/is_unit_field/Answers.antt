@@ -3,14 +3,14 @@ use Rattle.explain.specs.Said.{is_unit_field}
 use Rattle.ground.proofs.Tests.{tests}
 use Rattle.explain.proofs.hints.is_unit_field.Goals as goal
 
-pub returns-then-kind-eq200 : goal.returns-then-kind-eq200
+pub returns-in-200 : goal.returns-in-200
 unfolding is_unit_field
-returns-then-kind-eq200 c = search tests
+returns-in-200 c = search tests
 
-pub returns-then-kind-eq250 : goal.returns-then-kind-eq250
+pub returns-in-250 : goal.returns-in-250
 unfolding is_unit_field
-returns-then-kind-eq250 c = search tests
+returns-in-250 c = search (tests, c.in-250.is)
 
-pub returns : goal.returns
+pub returns-in_default : goal.returns-in_default
 unfolding is_unit_field
-returns c = search tests
+returns-in_default c = search tests

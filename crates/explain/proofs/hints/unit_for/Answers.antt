@@ -5,5 +5,5 @@ use Rattle.explain.proofs.hints.unit_for.Goals as goal
 pub returns-then-r-eq250 : goal.returns-then-r-eq250
 returns-then-r-eq250 c = search unit-own
 
-pub returns : goal.returns
-returns c = search unit-channel
+pub returns-else-r-eq250 : goal.returns-else-r-eq250
+returns-else-r-eq250 c = search unit-channel

@@ -5,5 +5,5 @@ use Rattle.explain.proofs.refused.explained_as.Goals as goal
 pub returns-then-has_place : goal.returns-then-has_place
 returns-then-has_place c = search explained-put
 
-pub returns : goal.returns
-returns c = search explained-bare
+pub returns-else-has_place : goal.returns-else-has_place
+returns-else-has_place c = search explained-bare

@@ -3,10 +3,10 @@ use Rattle.explain.specs.Said.{shown_line}
 use Rattle.ground.proofs.Tests.{tests}
 use Rattle.explain.proofs.refused.shown_line.Goals as goal
 
-pub returns-then-line-eq0 : goal.returns-then-line-eq0
+pub returns-then-is_empty : goal.returns-then-is_empty
 unfolding shown_line
-returns-then-line-eq0 c = search tests
+returns-then-is_empty c = rw (← c.is_empty.ensures, c.if-is_empty.true) (search tests)
 
-pub returns : goal.returns
+pub returns-else-is_empty : goal.returns-else-is_empty
 unfolding shown_line
-returns c = search tests
+returns-else-is_empty c = rw (← c.is_empty.ensures, c.if-is_empty.false) (search tests)

@@ -1,10 +1,7 @@
 -- `measures::axis::most_of` meets its contract. Assumes nothing.
-use Prim.Native.Nat.{◌-◌}
-use Rattle.measures.proofs.Gathering.{Largest}
+use Rattle.std.proofs.Common.{◌≡◌, take, max}
+use Rattle.std.specs.List.{fold}
 use Rattle.measures.proofs.axis.most_of.Given as goal
 
-abbrev pub invariant-loop-i : goal.invariant-loop-i
-invariant-loop-i l = Largest l.values l.n l.most l.i
-
-abbrev pub decreases-loop-i : goal.decreases-loop-i
-decreases-loop-i l = l.n - l.i
+abbrev pub invariant-loop-v : goal.invariant-loop-v
+invariant-loop-v l = l.most ≡ fold (λ y x. max y x) 0 (take l.v-index l.first)

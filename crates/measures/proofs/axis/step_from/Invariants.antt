@@ -2,8 +2,5 @@
 use Rattle.measures.proofs.Bounds.{Seeking}
 use Rattle.measures.proofs.axis.step_from.Given as goal
 
-abbrev pub invariant-loop-k : goal.invariant-loop-k
-invariant-loop-k l = Seeking l.reach l.ten l.k
-
-abbrev pub decreases-loop-k : goal.decreases-loop-k
-decreases-loop-k l = l.k
+abbrev pub invariant-loop : goal.invariant-loop
+invariant-loop l = Seeking l.reach l.ten l.counter

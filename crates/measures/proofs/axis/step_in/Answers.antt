@@ -11,6 +11,6 @@ pub returns-then-reach-ten-2 : goal.returns-then-reach-ten-2
 unfolding step_in
 returns-then-reach-ten-2 c = search tests
 
-pub returns : goal.returns
+pub returns-else-reach-ten-2 : goal.returns-else-reach-ten-2
 unfolding step_in
-returns c = search tests
+returns-else-reach-ten-2 c = search tests

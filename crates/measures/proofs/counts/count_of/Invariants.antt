@@ -1,10 +1,7 @@
 -- `measures::counts::count_of` meets its contract. Assumes nothing.
-use Prim.Native.Nat.{◌-◌}
-use Rattle.measures.proofs.Gathering.{Found}
+use Rattle.std.proofs.Common.{◌≡◌, ◌≤◌, take, eqb}
+use Rattle.std.specs.List.{count_by}
 use Rattle.measures.proofs.counts.count_of.Given as goal
 
-abbrev pub invariant-loop-i : goal.invariant-loop-i
-invariant-loop-i l = Found l.flags l.n l.letter l.found l.i
-
-abbrev pub decreases-loop-i : goal.decreases-loop-i
-decreases-loop-i l = l.n - l.i
+abbrev pub invariant-loop-f : goal.invariant-loop-f
+invariant-loop-f l = (l.found ≤ l.f-index) × (l.found ≡ count_by (λ b. eqb b l.letter) (take l.f-index l.first))

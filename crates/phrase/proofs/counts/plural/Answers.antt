@@ -7,6 +7,6 @@ pub returns-then-n-eq1 : goal.returns-then-n-eq1
 unfolding plural_text
 returns-then-n-eq1 c = search tests
 
-pub returns : goal.returns
+pub returns-else-n-eq1 : goal.returns-else-n-eq1
 unfolding plural_text
-returns c = search tests
+returns-else-n-eq1 c = search tests

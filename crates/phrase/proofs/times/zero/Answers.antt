@@ -7,6 +7,6 @@ pub returns-then-n-lt10 : goal.returns-then-n-lt10
 unfolding zero_text
 returns-then-n-lt10 c = search tests
 
-pub returns : goal.returns
+pub returns-else-n-lt10 : goal.returns-else-n-lt10
 unfolding zero_text
-returns c = search tests
+returns-else-n-lt10 c = search tests

@@ -5,5 +5,5 @@ use Rattle.refusals.proofs.excerpts.dots.Goals as goal
 pub returns-then-cut : goal.returns-then-cut
 returns-then-cut c = search dots-on
 
-pub returns : goal.returns
-returns c = search dots-off
+pub returns-else-cut : goal.returns-else-cut
+returns-else-cut c = search dots-off

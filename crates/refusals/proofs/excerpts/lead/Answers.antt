@@ -7,6 +7,6 @@ pub returns-then-from-gt0 : goal.returns-then-from-gt0
 unfolding lead
 returns-then-from-gt0 c = search tests
 
-pub returns : goal.returns
+pub returns-else-from-gt0 : goal.returns-else-from-gt0
 unfolding lead
-returns c = search tests
+returns-else-from-gt0 c = search tests

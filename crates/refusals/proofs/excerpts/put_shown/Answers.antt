@@ -4,11 +4,11 @@ use Rattle.refusals.specs.Excerpts.{shown_text}
 use Rattle.refusals.proofs.Cutting.{shown-more}
 use Rattle.refusals.proofs.excerpts.put_shown.Goals as goal
 
-pub loop-i-init : goal.loop-i-init
-loop-i-init c = search counted_none
+pub loop-b-init : goal.loop-b-init
+loop-b-init c = search counted_none
 
-pub loop-i-preserved : goal.loop-i-preserved
-loop-i-preserved c = search shown-more
+pub loop-b-preserved : goal.loop-b-preserved
+loop-b-preserved c = search shown-more
 
 pub shape_of-page : goal.shape_of-page
 shape_of-page c = search counted-kept

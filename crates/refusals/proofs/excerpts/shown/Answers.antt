@@ -3,14 +3,14 @@ use Rattle.refusals.specs.Excerpts.{shown}
 use Rattle.ground.proofs.Tests.{tests}
 use Rattle.refusals.proofs.excerpts.shown.Goals as goal
 
-pub returns-then-b-lt32 : goal.returns-then-b-lt32
+pub returns-in-32-to-126 : goal.returns-in-32-to-126
 unfolding shown
-returns-then-b-lt32 c = search tests
+returns-in-32-to-126 c = search tests
 
-pub returns-then-b-gt126 : goal.returns-then-b-gt126
+pub returns-in_default : goal.returns-in_default
 unfolding shown
-returns-then-b-gt126 c = search tests
+returns-in_default c = search tests
 
-pub returns : goal.returns
+pub returns-in_default-2 : goal.returns-in_default-2
 unfolding shown
-returns c = search tests
+returns-in_default-2 c = search tests

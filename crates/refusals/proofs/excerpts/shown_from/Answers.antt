@@ -7,6 +7,6 @@ pub returns-then-column-lt60 : goal.returns-then-column-lt60
 unfolding shown_from
 returns-then-column-lt60 c = search tests
 
-pub returns : goal.returns
+pub returns-else-column-lt60 : goal.returns-else-column-lt60
 unfolding shown_from
-returns c = search tests
+returns-else-column-lt60 c = search tests

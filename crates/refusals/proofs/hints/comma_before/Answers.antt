@@ -7,6 +7,6 @@ pub returns-then-unit-eq0 : goal.returns-then-unit-eq0
 unfolding comma_before
 returns-then-unit-eq0 c = search tests
 
-pub returns : goal.returns
+pub returns-else-unit-eq0 : goal.returns-else-unit-eq0
 unfolding comma_before
-returns c = search tests
+returns-else-unit-eq0 c = search tests

@@ -3,10 +3,10 @@ use Rattle.tables.specs.Days.{description_text}
 use Rattle.ground.proofs.Tests.{tests}
 use Rattle.tables.proofs.days.description.Goals as goal
 
-pub returns-then-text-eq0 : goal.returns-then-text-eq0
+pub returns-then-is_empty : goal.returns-then-is_empty
 unfolding description_text
-returns-then-text-eq0 c = search tests
+returns-then-is_empty c = rw (← c.is_empty.ensures, c.if-is_empty.true) (search tests)
 
-pub returns : goal.returns
+pub returns-else-is_empty : goal.returns-else-is_empty
 unfolding description_text
-returns c = search tests
+returns-else-is_empty c = rw (← c.is_empty.ensures, c.if-is_empty.false) (search tests)

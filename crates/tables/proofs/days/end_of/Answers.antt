@@ -7,6 +7,6 @@ pub returns-then-n-eq0 : goal.returns-then-n-eq0
 unfolding end_of
 returns-then-n-eq0 c = search tests
 
-pub returns : goal.returns
+pub returns-else-n-eq0 : goal.returns-else-n-eq0
 unfolding end_of
-returns c = search tests
+returns-else-n-eq0 c = search tests

@@ -7,6 +7,6 @@ pub returns-then-method-eq-NO_METHOD : goal.returns-then-method-eq-NO_METHOD
 unfolding method_text
 returns-then-method-eq-NO_METHOD c = search tests
 
-pub returns : goal.returns
+pub returns-else-method-eq-NO_METHOD : goal.returns-else-method-eq-NO_METHOD
 unfolding method_text
-returns c = search tests
+returns-else-method-eq-NO_METHOD c = search tests

@@ -11,6 +11,6 @@ pub returns-then-behind-gt4 : goal.returns-then-behind-gt4
 unfolding name_in300
 returns-then-behind-gt4 c = search tests
 
-pub returns : goal.returns
+pub returns-else-behind-gt4 : goal.returns-else-behind-gt4
 unfolding name_in300
-returns c = search tests
+returns-else-behind-gt4 c = search tests

@@ -6,5 +6,5 @@ use Rattle.words.proofs.lists.next.Goals as goal
 pub returns-then-n-list : goal.returns-then-n-list
 returns-then-n-list c = search (next_more, arith)
 
-pub returns : goal.returns
-returns c = search (next-none, arith)
+pub returns-else-n-list : goal.returns-else-n-list
+returns-else-n-list c = search (next-none, arith)

@@ -2,11 +2,11 @@
 use Rattle.words.proofs.Listed.{reached-first, reached-next, reached-is}
 use Rattle.words.proofs.lists.text_at.Goals as goal
 
-pub loop-k-init : goal.loop-k-init
-loop-k-init c = search reached-first
+pub loop-init : goal.loop-init
+loop-init c = search reached-first
 
-pub loop-k-preserved : goal.loop-k-preserved
-loop-k-preserved c = search reached-next
+pub loop-preserved : goal.loop-preserved
+loop-preserved c = search reached-next
 
 pub returns : goal.returns
 returns c = search reached-is
