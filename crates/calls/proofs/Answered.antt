@@ -1,11 +1,10 @@
 -- Lines of answers, from what the calls answered. Assumes nothing.
 use Prim.Native.Nat.{ℕ}
-use mathlib.Core.Path.{◌≡◌, refl, sym, ap, ◌∙◌}
-use mathlib.Core.Bool.{Bool, true, false}
-use mathlib.Core.List.{List, [], ◌∷◌, ◌++◌}
+use mathlib.Core.Path.{◌≡◌, refl, ap, ◌∙◌}
+use mathlib.Core.Bool.{Bool}
+use mathlib.Core.List.{List, [], ◌∷◌}
 use Rattle.std.proofs.Common.{Result, Ok, Err}
 use lib.ListN.{length}
-use Rattle.ground.specs.Text.{bytes}
 use Rattle.format.specs.Answers.{Answer, day_read_as, written_as}
 use Rattle.format.specs.Day.{Five, Outcome, outcome}
 use Rattle.format.specs.Block.{Given, write_of, room_of}
@@ -17,15 +16,6 @@ use Rattle.answer_lines.specs.Lines.{line_of, interval_in, intervals_read, day_l
 use Rattle.page.proofs.Filling.{filled-then, filled-as}
 use Rattle.calls.specs.Kept.{kept, kept_all, ending}
 use Rattle.calls.specs.Lines.{answer_line, intervals_in, day_text, bytes_in, block_text}
-
-module _ {p₀ p₁ : List ℕ} {at i : ℕ} (k : Bool) where
-  pub end_kept : k ≡ true → Filled p₀ at (10 ∷ []) i p₁ → Filled p₀ at (ending k) i p₁
-  unfolding ending
-  end_kept e p = filled-as p (ap ending (sym e))
-
-  pub end-changed : k ≡ false → Filled p₀ at (bytes " changed" ++ 10 ∷ []) i p₁ → Filled p₀ at (ending k) i p₁
-  unfolding ending
-  end-changed e p = filled-as p (ap ending (sym e))
 
 intervals-same : (x : Result DayRead Refusal) → intervals_read x ≡ intervals_in (day_read_as x)
 intervals-same (Ok d) = refl

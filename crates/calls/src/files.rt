@@ -52,6 +52,7 @@ pub fn block_checked(block: &[u8], minutes: u32, unit: u8, page: &mut [u8], at: 
 // ---- a day, read into six lists
 
 // Whether the six lists hold from place n on what they were filled with.
+#[tactic(auto, unfolding(crate::specs::Kept::kept_all))]
 pub fn are_kept(
     n: usize,
     values: &[u64],
@@ -63,22 +64,12 @@ pub fn are_kept(
 ) -> bool
     ensures { result ≡ kept_all n values.now (five flags.now methods.now reasons.now starts.now lengths.now) }
 {
-    if !kept::wide(values, n, WIDE_MARK) {
-        return false;
-    }
-    if !kept::bytes(flags, n, BYTE_MARK) {
-        return false;
-    }
-    if !kept::bytes(methods, n, BYTE_MARK) {
-        return false;
-    }
-    if !kept::halves(reasons, n, HALF_MARK) {
-        return false;
-    }
-    if !kept::sizes(starts, n, SIZE_MARK) {
-        return false;
-    }
-    kept::sizes(lengths, n, SIZE_MARK)
+    kept::wide(values, n, WIDE_MARK)
+        && kept::bytes(flags, n, BYTE_MARK)
+        && kept::bytes(methods, n, BYTE_MARK)
+        && kept::halves(reasons, n, HALF_MARK)
+        && kept::sizes(starts, n, SIZE_MARK)
+        && kept::sizes(lengths, n, SIZE_MARK)
 }
 
 // The day's line, and whether the six lists are kept behind its intervals.

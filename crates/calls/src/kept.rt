@@ -8,61 +8,35 @@ use page::texts::put;
 pub fn wide(list: &[u64], from: usize, mark: u64) -> bool
     ensures { result ≡ kept mark from list.now }
 {
-    let mut i = from;
-    while i < list.len() {
-        if list[i] != mark {
-            return false;
-        }
-        i += 1;
-    }
-    true
+    list.iter().skip(from).all(|x| *x == mark)
 }
 
 pub fn sizes(list: &[usize], from: usize, mark: usize) -> bool
     ensures { result ≡ kept mark from list.now }
 {
-    let mut i = from;
-    while i < list.len() {
-        if list[i] != mark {
-            return false;
-        }
-        i += 1;
-    }
-    true
+    list.iter().skip(from).all(|x| *x == mark)
 }
 
 pub fn halves(list: &[u16], from: usize, mark: u16) -> bool
     ensures { result ≡ kept mark from list.now }
 {
-    let mut i = from;
-    while i < list.len() {
-        if list[i] != mark {
-            return false;
-        }
-        i += 1;
-    }
-    true
+    list.iter().skip(from).all(|x| *x == mark)
 }
 
 pub fn bytes(list: &[u8], from: usize, mark: u8) -> bool
     ensures { result ≡ kept mark from list.now }
 {
-    let mut i = from;
-    while i < list.len() {
-        if list[i] != mark {
-            return false;
-        }
-        i += 1;
-    }
-    true
+    list.iter().skip(from).all(|x| *x == mark)
 }
 
 // The line's end, behind a word where something that was lent has changed.
+#[tactic(auto, unfolding(crate::specs::Kept::ending))]
 pub fn end_line(page: &mut [u8], at: usize, kept: bool) -> usize
     ensures { Filled page.old at (ending kept) result page.new }
 {
     if kept {
-        return put(page, at, b"\n");
+        put(page, at, b"\n")
+    } else {
+        put(page, at, b" changed\n")
     }
-    put(page, at, b" changed\n")
 }

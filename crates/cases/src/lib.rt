@@ -10,26 +10,16 @@ ghost use Rattle.std.specs.Prelude.{◌≡◌, ◌-◌, length, get_or};
 use calls::{PLACES, files};
 use edit_calls::find;
 use input::Going;
-use input::bytes::{Cursor, Passed, fill_line};
+use input::bytes::{Cursor, fill_line};
 use input::numbers::head;
 use machine::Machine;
 use page::texts::part;
-
-// The most minutes that an interval length can be handed in as.
-const MINUTES: u64 = 4294967295;
-
-// The highest number that a unit can be handed in as.
-const UNITS: u64 = 255;
 
 // The last of some numbers, 0 where there is none.
 fn last(numbers: &[u64]) -> u64
     ensures { result ≡ get_or numbers.now (length numbers.now - 1) 0 }
 {
-    let n = numbers.len();
-    if n == 0 {
-        return 0;
-    }
-    numbers[n - 1]
+    numbers.last().copied().unwrap_or(0)
 }
 
 // The rest of the case's word, its numbers, and the file, whose length is the last of them.
@@ -40,10 +30,8 @@ fn file_in(
     word: &[u8],
     numbers: &mut [u64],
     file: &mut [u8],
-) -> Passed {
-    let Passed::To(after) = head(rt, buf, c, word, numbers) else {
-        return Passed::Bad;
-    };
+) -> Option<Cursor> {
+    let after = head(rt, buf, c, word, numbers)?;
     fill_line(rt, buf, after, last(numbers) as usize, file)
 }
 
@@ -54,13 +42,11 @@ pub fn check_case(
     file: &mut [u8],
     page: &mut [u8],
     at: usize,
-) -> Going {
+) -> Option<Going> {
     let mut numbers = [0u64; 1];
-    let Passed::To(after) = file_in(rt, buf, c, b"heck ", &mut numbers, file) else {
-        return Going::Bad;
-    };
+    let after = file_in(rt, buf, c, b"heck ", &mut numbers, file)?;
     let n = numbers[0] as usize;
-    Going::On(after, files::checked(part(file, 0, n), page, at))
+    Some(Going::On(after, files::checked(part(file, 0, n), page, at)))
 }
 
 pub fn total_case(
@@ -70,14 +56,12 @@ pub fn total_case(
     file: &mut [u8],
     page: &mut [u8],
     at: usize,
-) -> Going {
+) -> Option<Going> {
     let mut numbers = [0u64; 2];
-    let Passed::To(after) = file_in(rt, buf, c, b"otal ", &mut numbers, file) else {
-        return Going::Bad;
-    };
+    let after = file_in(rt, buf, c, b"otal ", &mut numbers, file)?;
     let k = numbers[0] as usize;
     let n = numbers[1] as usize;
-    Going::On(after, files::totalled(part(file, 0, n), k, page, at))
+    Some(Going::On(after, files::totalled(part(file, 0, n), k, page, at)))
 }
 
 pub fn find_case(
@@ -87,14 +71,12 @@ pub fn find_case(
     file: &mut [u8],
     page: &mut [u8],
     at: usize,
-) -> Going {
+) -> Option<Going> {
     let mut numbers = [0u64; 2];
-    let Passed::To(after) = file_in(rt, buf, c, b"ind ", &mut numbers, file) else {
-        return Going::Bad;
-    };
+    let after = file_in(rt, buf, c, b"ind ", &mut numbers, file)?;
     let k = numbers[0] as usize;
     let n = numbers[1] as usize;
-    Going::On(after, find(part(file, 0, n), k, page, at))
+    Some(Going::On(after, find(part(file, 0, n), k, page, at)))
 }
 
 pub fn block_case(
@@ -104,24 +86,16 @@ pub fn block_case(
     file: &mut [u8],
     page: &mut [u8],
     at: usize,
-) -> Going {
+) -> Option<Going> {
     let mut numbers = [0u64; 3];
-    let Passed::To(after) = file_in(rt, buf, c, b"ock ", &mut numbers, file) else {
-        return Going::Bad;
-    };
-    let minutes = numbers[0];
-    let unit = numbers[1];
+    let after = file_in(rt, buf, c, b"ock ", &mut numbers, file)?;
+    let minutes = u32::try_from(numbers[0]).ok()?;
+    let unit = u8::try_from(numbers[1]).ok()?;
     let n = numbers[2] as usize;
-    if MINUTES < minutes {
-        return Going::Bad;
-    }
-    if UNITS < unit {
-        return Going::Bad;
-    }
-    Going::On(
+    Some(Going::On(
         after,
-        files::block_checked(part(file, 0, n), minutes as u32, unit as u8, page, at),
-    )
+        files::block_checked(part(file, 0, n), minutes, unit, page, at),
+    ))
 }
 
 pub fn day_case(
@@ -131,16 +105,14 @@ pub fn day_case(
     file: &mut [u8],
     page: &mut [u8],
     at: usize,
-) -> Going {
+) -> Option<Going> {
     let mut numbers = [0u64; 3];
-    let Passed::To(after) = file_in(rt, buf, c, b"y ", &mut numbers, file) else {
-        return Going::Bad;
-    };
+    let after = file_in(rt, buf, c, b"y ", &mut numbers, file)?;
     let k = numbers[0] as usize;
     let w = numbers[1] as usize;
     let n = numbers[2] as usize;
     if PLACES < w {
-        return Going::Bad;
+        return None;
     }
-    Going::On(after, files::day(part(file, 0, n), k, w, page, at))
+    Some(Going::On(after, files::day(part(file, 0, n), k, w, page, at)))
 }

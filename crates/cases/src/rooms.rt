@@ -4,7 +4,7 @@ ghost use Rattle.std.specs.Prelude.{◌≤◌, length};
 
 use edit_calls::{Edited, replace};
 use input::Going;
-use input::bytes::{Cursor, Passed, fill, fill_line};
+use input::bytes::{Cursor, fill, fill_line};
 use input::numbers::head;
 use machine::Machine;
 use output::write;
@@ -18,10 +18,8 @@ fn room_in(
     room: &mut [u8],
     n: usize,
     block: &mut [u8],
-) -> Passed {
-    let Passed::To(after) = fill(rt, buf, c, room) else {
-        return Passed::Bad;
-    };
+) -> Option<Cursor> {
+    let after = fill(rt, buf, c, room)?;
     fill_line(rt, buf, after, n, block)
 }
 
@@ -48,14 +46,12 @@ fn replace_in(
     block: &mut [u8],
     page: &mut [u8],
     at: usize,
-) -> Going
+) -> Option<Going>
     requires { length room.old ≤ length copy.old }
 {
-    let Passed::To(after) = room_in(rt, buf, c, room, bytes, block) else {
-        return Going::Bad;
-    };
+    let after = room_in(rt, buf, c, room, bytes, block)?;
     let x = replace(room, copy, n, k, part(block, 0, bytes), page, at);
-    Going::On(after, room_out(rt, page, room, x))
+    Some(Going::On(after, room_out(rt, page, room, x)))
 }
 
 // The room and its copy are as long as the longest room that can be handed in.
@@ -68,20 +64,15 @@ pub fn replace_case(
     block: &mut [u8],
     page: &mut [u8],
     at: usize,
-) -> Going {
+) -> Option<Going> {
     let mut numbers = [0u64; 4];
-    let Passed::To(after) = head(rt, buf, c, b"eplace ", &mut numbers) else {
-        return Going::Bad;
-    };
+    let after = head(rt, buf, c, b"eplace ", &mut numbers)?;
     let k = numbers[0] as usize;
     let n = numbers[1] as usize;
     let whole = numbers[2] as usize;
     let bytes = numbers[3] as usize;
-    if room.len() < whole {
-        return Going::Bad;
-    }
-    if copy.len() < whole {
-        return Going::Bad;
+    if room.len() < whole || copy.len() < whole {
+        return None;
     }
     replace_in(
         rt,

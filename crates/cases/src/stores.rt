@@ -1,6 +1,6 @@
 // The cases of a store, but for the one that hands in a day. The probe has one memory for all of them, of which `size` bytes are lent.
-use calls::PLACES;
-use input::bytes::{Cursor, Passed, fill_both, fill_line};
+use calls::{PLACES, lent};
+use input::bytes::{Cursor, fill_both, fill_line};
 use input::numbers::{head, head_alone};
 use input::{Going, text};
 use machine::Machine;
@@ -11,9 +11,6 @@ use store_calls::{delete, get, make, slot};
 
 // The most bytes that an NMI or a suffix can be handed in as.
 const MOST_KEY: usize = 64;
-
-// The highest number of four bytes.
-const WIDE: u64 = 4294967295;
 
 // A word, how many bytes are lent, and the line's end.
 fn lent_line(page: &mut [u8], at: usize, word: &[u8], size: usize) -> usize {
@@ -29,16 +26,12 @@ pub fn memory_case(
     memory: &mut [u8],
     page: &mut [u8],
     at: usize,
-) -> Going {
+) -> Option<Going> {
     let mut numbers = [0u64; 1];
-    let Passed::To(after) = head(rt, buf, c, b"mory ", &mut numbers) else {
-        return Going::Bad;
-    };
+    let after = head(rt, buf, c, b"mory ", &mut numbers)?;
     let size = numbers[0] as usize;
-    let Passed::To(end) = fill_line(rt, buf, after, size, memory) else {
-        return Going::Bad;
-    };
-    Going::Lent(end, lent_line(page, at, b"memory ", size), size)
+    let end = fill_line(rt, buf, after, size, memory)?;
+    Some(Going::Lent(end, lent_line(page, at, b"memory ", size), size))
 }
 
 // The memory behind its line, which is written out first, with what stands before it on the page.
@@ -50,32 +43,12 @@ pub fn bytes_case(
     size: usize,
     page: &mut [u8],
     at: usize,
-) -> Going {
-    let Passed::To(after) = text(rt, buf, c, b"tes\n\n") else {
-        return Going::Bad;
-    };
+) -> Option<Going> {
+    let after = text(rt, buf, c, b"tes\n\n")?;
     let p = lent_line(page, at, b"bytes ", size);
     write(rt, page, p);
     write(rt, memory, size);
-    Going::On(after, 0)
-}
-
-// Of all the memory, the bytes that are lent.
-fn make_lent(
-    memory: &mut [u8],
-    size: usize,
-    copy: &mut [u8],
-    slots: u32,
-    page: &mut [u8],
-    at: usize,
-) -> usize {
-    if memory.len() < size {
-        return at;
-    }
-    if copy.len() < size {
-        return at;
-    }
-    make(&mut memory[..size], copy, slots, page, at)
+    Some(Going::On(after, 0))
 }
 
 // Behind the word and its space, which tells it from the making of a map.
@@ -88,16 +61,14 @@ pub fn make_case(
     copy: &mut [u8],
     page: &mut [u8],
     at: usize,
-) -> Going {
+) -> Option<Going> {
     let mut numbers = [0u64; 1];
-    let Passed::To(after) = head_alone(rt, buf, c, b"", &mut numbers) else {
-        return Going::Bad;
-    };
-    let slots = numbers[0];
-    if WIDE < slots {
-        return Going::Bad;
-    }
-    Going::On(after, make_lent(memory, size, copy, slots as u32, page, at))
+    let after = head_alone(rt, buf, c, b"", &mut numbers)?;
+    let slots = u32::try_from(numbers[0]).ok()?;
+    Some(Going::On(
+        after,
+        make(lent(memory, size, copy.len()), copy, slots, page, at),
+    ))
 }
 
 pub fn slot_case(
@@ -108,13 +79,11 @@ pub fn slot_case(
     size: usize,
     page: &mut [u8],
     at: usize,
-) -> Going {
+) -> Option<Going> {
     let mut numbers = [0u64; 1];
-    let Passed::To(after) = head_alone(rt, buf, c, b"ot ", &mut numbers) else {
-        return Going::Bad;
-    };
+    let after = head_alone(rt, buf, c, b"ot ", &mut numbers)?;
     let k = numbers[0] as usize;
-    Going::On(after, slot(part(memory, 0, size), k, page, at))
+    Some(Going::On(after, slot(part(memory, 0, size), k, page, at)))
 }
 
 // The numbers of a case that names a key, and behind its first line NMI and suffix, whose lengths are the first two of them.
@@ -126,10 +95,8 @@ fn key_in(
     numbers: &mut [u64],
     nmi: &mut [u8],
     suffix: &mut [u8],
-) -> Passed {
-    let Passed::To(behind) = head(rt, buf, c, word, numbers) else {
-        return Passed::Bad;
-    };
+) -> Option<Cursor> {
+    let behind = head(rt, buf, c, word, numbers)?;
     fill_both(
         rt,
         buf,
@@ -150,29 +117,26 @@ fn get_named(
     after: Cursor,
     page: &mut [u8],
     at: usize,
-) -> Going {
+) -> Option<Going> {
     let n = u64_at(numbers, 0) as usize;
     let k = u64_at(numbers, 1) as usize;
-    let date = u64_at(numbers, 2);
+    let date = u32::try_from(u64_at(numbers, 2)).ok()?;
     let w = u64_at(numbers, 3) as usize;
-    if WIDE < date {
-        return Going::Bad;
-    }
     if PLACES < w {
-        return Going::Bad;
+        return None;
     }
-    Going::On(
+    Some(Going::On(
         after,
         get(
             memory,
             part(nmi, 0, n),
             part(suffix, 0, k),
-            date as u32,
+            date,
             w,
             page,
             at,
         ),
-    )
+    ))
 }
 
 // The numbers, NMI and suffix are lent to work in.
@@ -187,10 +151,8 @@ fn get_with(
     numbers: &mut [u64],
     nmi: &mut [u8],
     suffix: &mut [u8],
-) -> Going {
-    let Passed::To(after) = key_in(rt, buf, c, b"et ", numbers, nmi, suffix) else {
-        return Going::Bad;
-    };
+) -> Option<Going> {
+    let after = key_in(rt, buf, c, b"et ", numbers, nmi, suffix)?;
     get_named(part(memory, 0, size), numbers, nmi, suffix, after, page, at)
 }
 
@@ -202,7 +164,7 @@ pub fn get_case(
     size: usize,
     page: &mut [u8],
     at: usize,
-) -> Going {
+) -> Option<Going> {
     let mut numbers = [0u64; 4];
     let mut nmi = [0u8; MOST_KEY];
     let mut suffix = [0u8; MOST_KEY];
@@ -220,26 +182,6 @@ pub fn get_case(
     )
 }
 
-// Of all the memory, the bytes that are lent.
-fn delete_lent(
-    memory: &mut [u8],
-    size: usize,
-    copy: &mut [u8],
-    nmi: &[u8],
-    suffix: &[u8],
-    date: u32,
-    page: &mut [u8],
-    at: usize,
-) -> usize {
-    if memory.len() < size {
-        return at;
-    }
-    if copy.len() < size {
-        return at;
-    }
-    delete(&mut memory[..size], copy, nmi, suffix, date, page, at)
-}
-
 // The day of the key, where its date is one that can be handed in.
 fn delete_named(
     memory: &mut [u8],
@@ -251,26 +193,22 @@ fn delete_named(
     after: Cursor,
     page: &mut [u8],
     at: usize,
-) -> Going {
+) -> Option<Going> {
     let n = u64_at(numbers, 0) as usize;
     let k = u64_at(numbers, 1) as usize;
-    let date = u64_at(numbers, 2);
-    if WIDE < date {
-        return Going::Bad;
-    }
-    Going::On(
+    let date = u32::try_from(u64_at(numbers, 2)).ok()?;
+    Some(Going::On(
         after,
-        delete_lent(
-            memory,
-            size,
+        delete(
+            lent(memory, size, copy.len()),
             copy,
             part(nmi, 0, n),
             part(suffix, 0, k),
-            date as u32,
+            date,
             page,
             at,
         ),
-    )
+    ))
 }
 
 // The numbers, NMI and suffix are lent to work in.
@@ -286,10 +224,8 @@ fn delete_with(
     numbers: &mut [u64],
     nmi: &mut [u8],
     suffix: &mut [u8],
-) -> Going {
-    let Passed::To(after) = key_in(rt, buf, c, b"lete ", numbers, nmi, suffix) else {
-        return Going::Bad;
-    };
+) -> Option<Going> {
+    let after = key_in(rt, buf, c, b"lete ", numbers, nmi, suffix)?;
     delete_named(memory, size, copy, numbers, nmi, suffix, after, page, at)
 }
 
@@ -302,7 +238,7 @@ pub fn delete_case(
     copy: &mut [u8],
     page: &mut [u8],
     at: usize,
-) -> Going {
+) -> Option<Going> {
     let mut numbers = [0u64; 3];
     let mut nmi = [0u8; MOST_KEY];
     let mut suffix = [0u8; MOST_KEY];

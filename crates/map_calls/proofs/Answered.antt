@@ -2,7 +2,7 @@
 use Rattle.std.proofs.Common.{Result}
 use Prim.Native.Nat.{ℕ, ◌+◌, ◌*◌}
 use mathlib.Core.Path.{◌≡◌, ap}
-use mathlib.Core.Bool.{Bool, true, false}
+use mathlib.Core.Bool.{Bool}
 use mathlib.Core.List.{List, [], ◌∷◌}
 use lib.ListN.{get_or}
 use Rattle.ground.specs.Digits.{dec}
@@ -13,23 +13,14 @@ use Rattle.page.specs.Filled.{Filled}
 use Rattle.page.specs.Texts.{texts}
 use Rattle.page.proofs.Filling.{filled-then, filled-as}
 use Rattle.answer_lines.specs.Lines.{line_of}
-use Rattle.calls.specs.Kept.{kept, ending}
+use Rattle.calls.specs.Kept.{ending}
 use Rattle.entries.specs.Left.{Left, left}
 use Rattle.tenants.specs.Calls.{versioned_as, Mapped, mapped}
 use Rattle.tenants.specs.Versions.{version_place, count_in}
 use Rattle.map_kept.specs.Kept.{kept_after, filled_in, lent_kept}
 use Rattle.map_calls.specs.Lines.{left_text, make_text, add_text, key_text, output_text, on_text}
 
--- ---- a key, and an output
-
-module _ (key : List ℕ) {p₀ p₁ : List ℕ} {at i : ℕ} {b : Bool} (eb : b ≡ kept 0 0 key) where
-  pub key-dash : b ≡ true → Filled p₀ at (45 ∷ []) i p₁ → Filled p₀ at (key_text key) i p₁
-  unfolding key_text
-  key-dash h p = rw (← eb, h) p
-
-  pub key-put : b ≡ false → Filled p₀ at key i p₁ → Filled p₀ at (key_text key) i p₁
-  unfolding key_text
-  key-put h p = rw (← eb, h) p
+-- ---- an output
 
 pub output-put : (keys shares : List ℕ) (n : ℕ) {p₀ p₁ p₂ p₃ p₄ key : List ℕ} {at i j k l s : ℕ} → key ≡ part keys (12 * n) (12 * n + 12) → s ≡ get_or shares n 0
     → Filled p₀ at (32 ∷ []) i p₁ → Filled p₁ i (key_text key) j p₂ → Filled p₂ j (47 ∷ []) k p₃ → Filled p₃ k (dec s) l p₄ → Filled p₀ at (output_text keys shares n) l p₄

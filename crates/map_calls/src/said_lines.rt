@@ -22,13 +22,15 @@ pub fn versioned(page: &mut [u8], at: usize, x: Result<usize, Refusal>) -> usize
 }
 
 // A key, or a dash for the key of an output that is not used.
+#[tactic(auto, unfolding(crate::specs::Lines::key_text))]
 fn put_key(page: &mut [u8], at: usize, key: &[u8]) -> usize
     ensures { Filled page.old at (key_text key.now) result page.new }
 {
     if kept::bytes(key, 0, 0) {
-        return put(page, at, b"-");
+        put(page, at, b"-")
+    } else {
+        put(page, at, key)
     }
-    put(page, at, key)
 }
 
 // Output i of a map.
@@ -49,10 +51,8 @@ pub fn outputs(page: &mut [u8], at: usize, n: usize, keys: &[u8], shares: &[u16]
     ensures { Filled page.old at (texts (output_text keys.now shares.now) n) result page.new }
 {
     let mut p = at;
-    let mut i: usize = 0;
-    while i < n {
+    for i in 0..n {
         p = output(page, p, i, keys, shares);
-        i += 1;
     }
     p
 }

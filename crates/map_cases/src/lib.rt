@@ -4,8 +4,8 @@
 
 ghost use Rattle.std.specs.Prelude.{◌≤◌, length};
 
-use calls::PLACES;
-use input::bytes::{Cursor, Passed, fill_line};
+use calls::{PLACES, lent};
+use input::bytes::{Cursor, fill_line};
 use input::numbers::{head, head_alone, line};
 use input::{Going, byte, text};
 use machine::Machine;
@@ -13,24 +13,8 @@ use map_calls::{KEY_BYTES, add, back, make, on};
 use page::texts::part;
 use sheet::given_lists::{below, halves_of};
 
-// The highest date of four bytes.
-const DATES: u64 = 4294967295;
-
 // One more than the highest share of two bytes.
 const SHARES: u64 = 65536;
-
-// Of all the memory, the bytes that are lent. They are no more than the copy of them has room for, as it always has for all.
-fn lent(memory: &mut [u8], size: usize, room: usize) -> &mut [u8]
-    ensures { length result.now ≤ room }
-{
-    if memory.len() < size {
-        return &mut memory[..0];
-    }
-    if room < size {
-        return &mut memory[..0];
-    }
-    &mut memory[..size]
-}
 
 pub fn make_map_case(
     rt: &impl Machine,
@@ -41,12 +25,9 @@ pub fn make_map_case(
     copy: &mut [u8],
     page: &mut [u8],
     at: usize,
-) -> Going {
-    let Passed::To(after) = text(rt, buf, c, b"ap\n\n") else {
-        return Going::Bad;
-    };
-    let room = copy.len();
-    Going::On(after, make(lent(memory, size, room), copy, page, at))
+) -> Option<Going> {
+    let after = text(rt, buf, c, b"ap\n\n")?;
+    Some(Going::On(after, make(lent(memory, size, copy.len()), copy, page, at)))
 }
 
 // ---- a version is added
@@ -59,13 +40,9 @@ fn entries_in(
     k: usize,
     keys: &mut [u8],
     shares: &mut [u64],
-) -> Passed {
-    let Passed::To(behind) = fill_line(rt, buf, c, k, keys) else {
-        return Passed::Bad;
-    };
-    let Passed::To(after) = line(rt, buf, behind, shares) else {
-        return Passed::Bad;
-    };
+) -> Option<Cursor> {
+    let behind = fill_line(rt, buf, c, k, keys)?;
+    let after = line(rt, buf, behind, shares)?;
     byte(rt, buf, after, b'\n')
 }
 
@@ -100,20 +77,17 @@ fn add_with(
     shares: &mut [u64],
     page: &mut [u8],
     at: usize,
-) -> Going
+) -> Option<Going>
     requires { length shares.old ≤ 300 }
 {
-    let Passed::To(after) = entries_in(rt, buf, c, k, keys, shares) else {
-        return Going::Bad;
-    };
+    let after = entries_in(rt, buf, c, k, keys, shares)?;
     if !below(shares, SHARES) {
-        return Going::Bad;
+        return None;
     }
-    let room = copy.len();
-    Going::On(
+    Some(Going::On(
         after,
         add_given(
-            lent(memory, size, room),
+            lent(memory, size, copy.len()),
             copy,
             first,
             part(keys, 0, k),
@@ -121,7 +95,7 @@ fn add_with(
             page,
             at,
         ),
-    )
+    ))
 }
 
 pub fn add_case(
@@ -133,19 +107,14 @@ pub fn add_case(
     copy: &mut [u8],
     page: &mut [u8],
     at: usize,
-) -> Going {
+) -> Option<Going> {
     let mut numbers = [0u64; 3];
-    let Passed::To(after) = head(rt, buf, c, b"dd ", &mut numbers) else {
-        return Going::Bad;
-    };
-    let first = numbers[0];
+    let after = head(rt, buf, c, b"dd ", &mut numbers)?;
+    let first = u32::try_from(numbers[0]).ok()?;
     let k = numbers[1] as usize;
     let s = numbers[2] as usize;
-    if DATES < first {
-        return Going::Bad;
-    }
     if PLACES < s {
-        return Going::Bad;
+        return None;
     }
     let mut keys = [0u8; KEY_BYTES];
     let mut shares = [0u64; PLACES];
@@ -156,7 +125,7 @@ pub fn add_case(
         memory,
         size,
         copy,
-        first as u32,
+        first,
         k,
         &mut keys,
         &mut shares[..s],
@@ -176,28 +145,22 @@ pub fn back_case(
     copy: &mut [u8],
     page: &mut [u8],
     at: usize,
-) -> Going {
+) -> Option<Going> {
     let mut numbers = [0u64; 2];
-    let Passed::To(after) = head_alone(rt, buf, c, b"ck ", &mut numbers) else {
-        return Going::Bad;
-    };
+    let after = head_alone(rt, buf, c, b"ck ", &mut numbers)?;
     let version = numbers[0] as usize;
-    let first = numbers[1];
-    if DATES < first {
-        return Going::Bad;
-    }
-    let room = copy.len();
-    Going::On(
+    let first = u32::try_from(numbers[1]).ok()?;
+    Some(Going::On(
         after,
         back(
-            lent(memory, size, room),
+            lent(memory, size, copy.len()),
             copy,
             version,
-            first as u32,
+            first,
             page,
             at,
         ),
-    )
+    ))
 }
 
 pub fn on_case(
@@ -208,25 +171,14 @@ pub fn on_case(
     size: usize,
     page: &mut [u8],
     at: usize,
-) -> Going {
+) -> Option<Going> {
     let mut numbers = [0u64; 3];
-    let Passed::To(after) = head_alone(rt, buf, c, b"n ", &mut numbers) else {
-        return Going::Bad;
-    };
-    let date = numbers[0];
+    let after = head_alone(rt, buf, c, b"n ", &mut numbers)?;
+    let date = u32::try_from(numbers[0]).ok()?;
     let k = numbers[1] as usize;
     let s = numbers[2] as usize;
-    if DATES < date {
-        return Going::Bad;
+    if KEY_BYTES < k || PLACES < s {
+        return None;
     }
-    if KEY_BYTES < k {
-        return Going::Bad;
-    }
-    if PLACES < s {
-        return Going::Bad;
-    }
-    Going::On(
-        after,
-        on(part(memory, 0, size), date as u32, k, s, page, at),
-    )
+    Some(Going::On(after, on(part(memory, 0, size), date, k, s, page, at)))
 }

@@ -16,13 +16,11 @@ use page::texts::part;
 pub const COUNT: usize = 4;
 
 // Memory behind the count, but for the bytes from one place up to another.
+#[tactic(auto, unfolding(crate::specs::Kept::kept_but))]
 fn is_kept_but(memory: &[u8], was: &[u8], from: usize, to: usize) -> bool
     ensures { result ≡ kept_but from to memory.now was.now }
 {
-    if !same_bytes(part(memory, COUNT, from), part(was, COUNT, from)) {
-        return false;
-    }
-    is_kept(memory, was, to)
+    same_bytes(part(memory, COUNT, from), part(was, COUNT, from)) && is_kept(memory, was, to)
 }
 
 // The same behind an accepted call, all of memory behind a refusal.
@@ -53,12 +51,10 @@ pub fn filled(x: Result<usize, Refusal>) -> usize
 }
 
 // The lists behind n outputs.
+#[tactic(auto, unfolding(crate::specs::Kept::lent_kept))]
 pub fn are_kept(n: usize, keys: &[u8], shares: &[u16]) -> bool
     requires { n ≤ 128 }
     ensures { result ≡ lent_kept n keys.now shares.now }
 {
-    if !kept::bytes(keys, 12 * n, BYTE_MARK) {
-        return false;
-    }
-    kept::halves(shares, n, HALF_MARK)
+    kept::bytes(keys, 12 * n, BYTE_MARK) && kept::halves(shares, n, HALF_MARK)
 }

@@ -14,17 +14,11 @@ pub const DATE_MARK: u32 = 2779096485;
 fn dates_kept(list: &[u32], from: usize) -> bool
     ensures { result ≡ kept date_mark from list.now }
 {
-    let mut i = from;
-    while i < list.len() {
-        if list[i] != DATE_MARK {
-            return false;
-        }
-        i += 1;
-    }
-    true
+    list.iter().skip(from).all(|x| *x == DATE_MARK)
 }
 
 // The five lists of one place a day, from place d on.
+#[tactic(auto, unfolding(crate::specs::Lines::kept_daily))]
 fn daily_kept(
     d: usize,
     dates: &[u32],
@@ -35,19 +29,11 @@ fn daily_kept(
 ) -> bool
     ensures { result ≡ kept_daily d (daily dates.now counts.now updates.now loads.now units.now) }
 {
-    if !dates_kept(dates, d) {
-        return false;
-    }
-    if !sizes(counts, d, SIZE_MARK) {
-        return false;
-    }
-    if !wide(updates, d, WIDE_MARK) {
-        return false;
-    }
-    if !wide(loads, d, WIDE_MARK) {
-        return false;
-    }
-    bytes(units, d, BYTE_MARK)
+    dates_kept(dates, d)
+        && sizes(counts, d, SIZE_MARK)
+        && wide(updates, d, WIDE_MARK)
+        && wide(loads, d, WIDE_MARK)
+        && bytes(units, d, BYTE_MARK)
 }
 
 // The six long lists from place k on, and the others from place d on.
@@ -68,8 +54,6 @@ pub fn all_kept(
 ) -> bool
     ensures { result ≡ (kept_all k values.now (five flags.now methods.now reasons.now starts.now lengths.now) && kept_daily d (daily dates.now counts.now updates.now loads.now units.now)) }
 {
-    if !are_kept(k, values, flags, methods, reasons, starts, lengths) {
-        return false;
-    }
-    daily_kept(d, dates, counts, updates, loads, units)
+    are_kept(k, values, flags, methods, reasons, starts, lengths)
+        && daily_kept(d, dates, counts, updates, loads, units)
 }

@@ -25,10 +25,7 @@ pub fn days_read(page: &mut [u8], at: usize, x: Result<DaysRead, Refusal>) -> us
 fn date_at(list: &[u32], i: usize) -> u32
     ensures { result ≡ get_or list.now i 0 }
 {
-    if i < list.len() {
-        return list[i];
-    }
-    0
+    list.get(i).copied().unwrap_or(0)
 }
 
 // Day i: a space, then its five numbers with slashes between them.
@@ -67,10 +64,8 @@ pub fn days(
     ensures { Filled page.old at (texts (day_in (daily dates.now counts.now updates.now loads.now units.now)) n) result page.new }
 {
     let mut p = at;
-    let mut i: usize = 0;
-    while i < n {
+    for i in 0..n {
         p = day(page, p, i, dates, counts, updates, loads, units);
-        i += 1;
     }
     p
 }

@@ -8,7 +8,7 @@ use answer_lines::days::interval;
 use calls::files::{BYTE_MARK, HALF_MARK, SIZE_MARK, WIDE_MARK};
 use calls::kept::end_line;
 use input::Going;
-use input::bytes::{Cursor, Passed, fill_line};
+use input::bytes::{Cursor, fill_line};
 use input::numbers::head;
 use machine::Machine;
 use month_calls::begin_line;
@@ -36,11 +36,9 @@ fn intervals(
     lengths: &[usize],
 ) -> usize {
     let mut p = at;
-    let mut i: usize = 0;
-    while i < n {
+    for i in 0..n {
         let q = interval(page, p, i, values, flags, methods, reasons, starts, lengths);
         p = make_room(rt, page, q);
-        i += 1;
     }
     p
 }
@@ -136,27 +134,20 @@ pub fn month_case(
     file: &mut [u8],
     page: &mut [u8],
     at: usize,
-) -> Going {
+) -> Option<Going> {
     let mut numbers = [0u64; 5];
-    let Passed::To(behind) = head(rt, buf, c, b"nth ", &mut numbers) else {
-        return Going::Bad;
-    };
+    let behind = head(rt, buf, c, b"nth ", &mut numbers)?;
     let first = numbers[0] as usize;
     let last = numbers[1] as usize;
     let w = numbers[2] as usize;
     let d = numbers[3] as usize;
     let n = numbers[4] as usize;
-    if INTERVALS < w {
-        return Going::Bad;
+    if INTERVALS < w || DAYS < d {
+        return None;
     }
-    if DAYS < d {
-        return Going::Bad;
-    }
-    let Passed::To(after) = fill_line(rt, buf, behind, n, file) else {
-        return Going::Bad;
-    };
-    Going::On(
+    let after = fill_line(rt, buf, behind, n, file)?;
+    Some(Going::On(
         after,
         month(rt, part(file, 0, n), first, last, w, d, page, at),
-    )
+    ))
 }

@@ -4,7 +4,7 @@
 use cases::rooms::replace_case;
 use cases::stores::{bytes_case, delete_case, get_case, make_case, memory_case, slot_case};
 use cases::{block_case, check_case, day_case, find_case, total_case};
-use input::bytes::{Cursor, Passed, Taken, next};
+use input::bytes::{Cursor, next};
 use input::{Going, text};
 use machine::{Machine, PAGE};
 use map_cases::{add_case, back_case, make_map_case, on_case};
@@ -15,9 +15,6 @@ use sheet::puts::put_case;
 use sheet::write_case;
 use split_cases::{split_case, split_day_case, split_stored_case};
 use std::alloc::AllocError;
-
-// Nothing says that the input ends, so the loop over its cases has a count that falls.
-const TURNS: u64 = 18446744073709551615;
 
 // The longest file, room and block that can be handed in.
 const LONGEST: usize = 1100000;
@@ -36,15 +33,13 @@ fn b_case(
     copy: &mut [u8],
     page: &mut [u8],
     at: usize,
-) -> Going {
-    let Taken::Byte(b, after) = next(rt, buf, c) else {
-        return Going::Bad;
-    };
+) -> Option<Going> {
+    let (b, after) = next(rt, buf, c)?;
     match b {
         b'a' => back_case(rt, buf, after, memory, size, copy, page, at),
         b'l' => block_case(rt, buf, after, file, page, at),
         b'y' => bytes_case(rt, buf, after, memory, size, page, at),
-        _ => Going::Bad,
+        _ => None,
     }
 }
 
@@ -58,14 +53,12 @@ fn d_case(
     copy: &mut [u8],
     page: &mut [u8],
     at: usize,
-) -> Going {
-    let Taken::Byte(b, after) = next(rt, buf, c) else {
-        return Going::Bad;
-    };
+) -> Option<Going> {
+    let (b, after) = next(rt, buf, c)?;
     match b {
         b'a' => day_case(rt, buf, after, file, page, at),
         b'e' => delete_case(rt, buf, after, memory, size, copy, page, at),
-        _ => Going::Bad,
+        _ => None,
     }
 }
 
@@ -79,17 +72,13 @@ fn making_case(
     copy: &mut [u8],
     page: &mut [u8],
     at: usize,
-) -> Going {
-    let Passed::To(shared) = text(rt, buf, c, b"ke") else {
-        return Going::Bad;
-    };
-    let Taken::Byte(b, after) = next(rt, buf, shared) else {
-        return Going::Bad;
-    };
+) -> Option<Going> {
+    let shared = text(rt, buf, c, b"ke")?;
+    let (b, after) = next(rt, buf, shared)?;
     match b {
         b' ' => make_case(rt, buf, after, memory, size, copy, page, at),
         b'm' => make_map_case(rt, buf, after, memory, size, copy, page, at),
-        _ => Going::Bad,
+        _ => None,
     }
 }
 
@@ -103,15 +92,13 @@ fn m_case(
     copy: &mut [u8],
     page: &mut [u8],
     at: usize,
-) -> Going {
-    let Taken::Byte(b, after) = next(rt, buf, c) else {
-        return Going::Bad;
-    };
+) -> Option<Going> {
+    let (b, after) = next(rt, buf, c)?;
     match b {
         b'a' => making_case(rt, buf, after, memory, size, copy, page, at),
         b'e' => memory_case(rt, buf, after, memory, page, at),
         b'o' => month_case(rt, buf, after, file, page, at),
-        _ => Going::Bad,
+        _ => None,
     }
 }
 
@@ -126,18 +113,14 @@ fn splitting_case(
     size: usize,
     page: &mut [u8],
     at: usize,
-) -> Going {
-    let Passed::To(shared) = text(rt, buf, c, b"lit") else {
-        return Going::Bad;
-    };
-    let Taken::Byte(b, after) = next(rt, buf, shared) else {
-        return Going::Bad;
-    };
+) -> Option<Going> {
+    let shared = text(rt, buf, c, b"lit")?;
+    let (b, after) = next(rt, buf, shared)?;
     match b {
         b' ' => split_case(rt, buf, after, page, at),
         b'd' => split_day_case(rt, buf, after, file, memory, size, page, at),
         b's' => split_stored_case(rt, buf, after, file, memory, size, page, at),
-        _ => Going::Bad,
+        _ => None,
     }
 }
 
@@ -150,14 +133,12 @@ fn s_case(
     size: usize,
     page: &mut [u8],
     at: usize,
-) -> Going {
-    let Taken::Byte(b, after) = next(rt, buf, c) else {
-        return Going::Bad;
-    };
+) -> Option<Going> {
+    let (b, after) = next(rt, buf, c)?;
     match b {
         b'l' => slot_case(rt, buf, after, memory, size, page, at),
         b'p' => splitting_case(rt, buf, after, file, memory, size, page, at),
-        _ => Going::Bad,
+        _ => None,
     }
 }
 
@@ -173,9 +154,9 @@ fn case(
     size: usize,
     page: &mut [u8],
     at: usize,
-) -> Going {
-    let Taken::Byte(b, after) = next(rt, buf, c) else {
-        return Going::Ended;
+) -> Option<Going> {
+    let Some((b, after)) = next(rt, buf, c) else {
+        return Some(Going::Ended);
     };
     match b {
         b'a' => add_case(rt, buf, after, memory, size, copy, page, at),
@@ -191,7 +172,7 @@ fn case(
         b's' => s_case(rt, buf, after, file, memory, size, page, at),
         b't' => total_case(rt, buf, after, file, page, at),
         b'w' => write_case(rt, buf, after, page, at),
-        _ => Going::Bad,
+        _ => None,
     }
 }
 
@@ -212,24 +193,23 @@ fn run(
     let mut c = Cursor { at: 0, end: 0 };
     let mut at: usize = 0;
     let mut size: usize = 0;
-    let mut turns = TURNS;
-    while 0 < turns {
-        turns -= 1;
+    // Nothing says that the input ends, so the loop over its cases has a count.
+    for _ in 0..u64::MAX {
         match case(rt, buf, c, file, copy, block, memory, size, page, at) {
-            Going::On(next, place) => {
+            Some(Going::On(next, place)) => {
                 c = next;
                 at = make_room(rt, page, place);
             }
-            Going::Lent(next, place, n) => {
+            Some(Going::Lent(next, place, n)) => {
                 c = next;
                 at = make_room(rt, page, place);
                 size = n;
             }
-            Going::Ended => {
+            Some(Going::Ended) => {
                 write(rt, page, at);
                 return;
             }
-            Going::Bad => {
+            None => {
                 bad_case(rt, page, at);
                 return;
             }

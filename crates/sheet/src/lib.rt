@@ -14,7 +14,7 @@ use calls::blocks::{EMPTY, Wrote, block};
 use format::DayHead;
 use given_lists::{below, bytes_of, halves_of, sizes_of};
 use input::Going;
-use input::bytes::{Cursor, Passed, fill_line};
+use input::bytes::{Cursor, fill_line};
 use input::numbers::{head, line};
 use machine::Machine;
 use output::write;
@@ -45,6 +45,7 @@ struct Sheet {
     text: usize,
 }
 
+#[tactic(auto, unfolding(crate::specs::Sheets::sheet_of))]
 fn sheet_of(n: [u64; 13]) -> Sheet
     ensures { result ≡ sheet_of n }
 {
@@ -66,24 +67,18 @@ fn sheet_of(n: [u64; 13]) -> Sheet
 }
 
 // Whether each number is one that the interface, or the case, can hold.
+#[tactic(auto, unfolding(crate::specs::Sheets::can_be))]
 fn can_be(s: Sheet) -> bool
     ensures { result ≡ can_be s }
 {
-    if 4294967295 < s.date {
-        return false;
-    }
-    if 4294967295 < s.length {
-        return false;
-    }
-    if 255 < s.unit {
-        return false;
-    }
-    if MOST_ROOM < s.room {
-        return false;
-    }
-    s.text <= MOST_TEXT
+    s.date <= u64::from(u32::MAX)
+        && s.length <= u64::from(u32::MAX)
+        && s.unit <= u64::from(u8::MAX)
+        && s.room <= MOST_ROOM
+        && s.text <= MOST_TEXT
 }
 
+#[tactic(auto, unfolding(crate::specs::Sheets::places_of))]
 fn places(s: Sheet, list: usize) -> usize
     ensures { result ≡ places_of s list }
 {
@@ -100,19 +95,18 @@ fn places(s: Sheet, list: usize) -> usize
 // ---- the lists
 
 // The six lines, each into its stretch of the lists.
-fn lists_in(rt: &impl Machine, buf: &mut [u8], c: Cursor, s: Sheet, lists: &mut [u64]) -> Passed {
+fn lists_in(
+    rt: &impl Machine,
+    buf: &mut [u8],
+    c: Cursor,
+    s: Sheet,
+    lists: &mut [u64],
+) -> Option<Cursor> {
     let mut now = c;
-    let mut k: usize = 0;
-    while k < 6 {
-        let from = k * PLACES;
-        let n = places(s, k);
-        let Passed::To(after) = stretch_in(rt, buf, now, n, lists, from) else {
-            return Passed::Bad;
-        };
-        now = after;
-        k += 1;
+    for k in 0..6 {
+        now = stretch_in(rt, buf, now, places(s, k), lists, k * PLACES)?;
     }
-    Passed::To(now)
+    Some(now)
 }
 
 // A line of n numbers, from a place of the lists on.
@@ -123,56 +117,42 @@ fn stretch_in(
     n: usize,
     lists: &mut [u64],
     from: usize,
-) -> Passed {
+) -> Option<Cursor> {
     if PLACES < n {
-        return Passed::Bad;
+        return None;
     }
-    if lists.len() < PLACES {
-        return Passed::Bad;
-    }
-    if lists.len() - PLACES < from {
-        return Passed::Bad;
-    }
-    let end = from + n;
-    line(rt, buf, c, &mut lists[from..end])
+    line(rt, buf, c, lists.get_mut(from..)?.get_mut(..n)?)
 }
 
 // The first n places of a list.
+#[tactic(auto, unfolding(crate::specs::Sheets::stretch_of, crate::specs::Sheets::least_of))]
 fn stretch(lists: &[u64], list: usize, n: usize) -> &[u64]
     requires { list ≤ 5 }
     ensures { result.now ≡ stretch_of lists.now list n }
 {
     let from = list * PLACES;
     let end = from + least(n, PLACES);
-    if lists.len() <= from {
-        return &lists[..0];
-    }
-    if lists.len() <= end {
-        return &lists[from..];
-    }
-    &lists[from..end]
+    &lists[from.min(lists.len())..end.min(lists.len())]
 }
 
 // Whether flags, methods and reasons are in their types' range.
+#[tactic(auto, unfolding(crate::specs::Sheets::are_narrow))]
 fn are_narrow(s: Sheet, lists: &[u64]) -> bool
     ensures { result ≡ are_narrow s lists.now }
 {
-    if !below(stretch(lists, 1, s.flags), 256) {
-        return false;
-    }
-    if !below(stretch(lists, 2, s.methods), 256) {
-        return false;
-    }
-    below(stretch(lists, 3, s.reasons), 65536)
+    below(stretch(lists, 1, s.flags), 256)
+        && below(stretch(lists, 2, s.methods), 256)
+        && below(stretch(lists, 3, s.reasons), 65536)
 }
 
 // ---- the answer
 
+#[tactic(auto, unfolding(crate::specs::Sheets::least_of))]
 fn least(a: usize, b: usize) -> usize
     ensures is { result ≡ least_of a b }
     ensures within { (result ≤ a) × (result ≤ b) }
 {
-    if a < b { a } else { b }
+    a.min(b)
 }
 
 // The block behind its line, which is written out first.
@@ -185,6 +165,7 @@ fn block_out(rt: &impl Machine, page: &[u8], room: &[u8], x: Wrote) -> usize {
     0
 }
 
+#[tactic(auto, unfolding(crate::specs::Sheets::day_of))]
 fn day_of(s: Sheet) -> DayHead
     ensures { result ≡ day_of s }
 {
@@ -287,22 +268,18 @@ fn day_in(
     s: Sheet,
     page: &mut [u8],
     at: usize,
-) -> Going {
+) -> Option<Going> {
     let mut lists = [0u64; ALL_PLACES];
-    let Passed::To(a) = lists_in(rt, buf, c, s, &mut lists) else {
-        return Going::Bad;
-    };
+    let a = lists_in(rt, buf, c, s, &mut lists)?;
     if !are_narrow(s, &lists) {
-        return Going::Bad;
+        return None;
     }
     let mut text = [0u8; MOST_TEXT];
-    let Passed::To(b) = fill_line(rt, buf, a, s.text, &mut text) else {
-        return Going::Bad;
-    };
-    Going::On(
+    let b = fill_line(rt, buf, a, s.text, &mut text)?;
+    Some(Going::On(
         b,
         write_answer(rt, s, &lists, part(&text, 0, s.text), page, at),
-    )
+    ))
 }
 
 pub fn write_case(
@@ -311,14 +288,12 @@ pub fn write_case(
     c: Cursor,
     page: &mut [u8],
     at: usize,
-) -> Going {
+) -> Option<Going> {
     let mut numbers = [0u64; 13];
-    let Passed::To(a) = head(rt, buf, c, b"rite ", &mut numbers) else {
-        return Going::Bad;
-    };
+    let a = head(rt, buf, c, b"rite ", &mut numbers)?;
     let s = sheet_of(numbers);
     if !can_be(s) {
-        return Going::Bad;
+        return None;
     }
     day_in(rt, buf, a, s, page, at)
 }

@@ -3,10 +3,10 @@ use super::given_lists::{bytes_of, halves_of, sizes_of};
 use super::{
     ALL_PLACES, MOST_TEXT, Sheet, are_narrow, can_be, day_of, least, lists_in, sheet_of, stretch,
 };
-use calls::PLACES;
+use calls::{PLACES, lent};
 use format::DayHead;
 use input::Going;
-use input::bytes::{Cursor, Passed, fill_both, fill_line};
+use input::bytes::{Cursor, fill_both, fill_line};
 use input::numbers::head;
 use machine::Machine;
 use page::texts::part;
@@ -14,48 +14,6 @@ use store_calls::put;
 
 // The most bytes that an NMI or a suffix can be handed in as.
 const MOST_KEY: usize = 64;
-
-// Nothing is put where the copy has not the room that it always has.
-fn put_in(
-    memory: &mut [u8],
-    size: usize,
-    copy: &mut [u8],
-    nmi: &[u8],
-    suffix: &[u8],
-    day: DayHead,
-    values: &[u64],
-    flags: &[u8],
-    methods: &[u8],
-    reasons: &[u16],
-    starts: &[usize],
-    lengths: &[usize],
-    text: &[u8],
-    page: &mut [u8],
-    at: usize,
-) -> usize {
-    if memory.len() < size {
-        return at;
-    }
-    if copy.len() < size {
-        return at;
-    }
-    put(
-        &mut memory[..size],
-        copy,
-        nmi,
-        suffix,
-        day,
-        values,
-        flags,
-        methods,
-        reasons,
-        starts,
-        lengths,
-        text,
-        page,
-        at,
-    )
-}
 
 // The day's places in lists of their type.
 fn put_places(
@@ -77,9 +35,8 @@ fn put_places(
     let lengths = sizes_of(stretch(lists, 5, s.lengths));
     let a = least(s.starts, PLACES);
     let l = least(s.lengths, PLACES);
-    put_in(
-        memory,
-        size,
+    put(
+        lent(memory, size, copy.len()),
         copy,
         nmi,
         suffix,
@@ -140,12 +97,10 @@ fn given_in(
     s: Sheet,
     lists: &mut [u64],
     text: &mut [u8],
-) -> Passed {
-    let Passed::To(a) = lists_in(rt, buf, c, s, lists) else {
-        return Passed::Bad;
-    };
+) -> Option<Cursor> {
+    let a = lists_in(rt, buf, c, s, lists)?;
     if !are_narrow(s, lists) {
-        return Passed::Bad;
+        return None;
     }
     fill_line(rt, buf, a, s.text, text)
 }
@@ -165,11 +120,9 @@ fn day_with(
     at: usize,
     lists: &mut [u64],
     text: &mut [u8],
-) -> Going {
-    let Passed::To(after) = given_in(rt, buf, c, s, lists, text) else {
-        return Going::Bad;
-    };
-    Going::On(
+) -> Option<Going> {
+    let after = given_in(rt, buf, c, s, lists, text)?;
+    Some(Going::On(
         after,
         put_answer(
             memory,
@@ -183,7 +136,7 @@ fn day_with(
             page,
             at,
         ),
-    )
+    ))
 }
 
 fn day_in(
@@ -198,7 +151,7 @@ fn day_in(
     copy: &mut [u8],
     page: &mut [u8],
     at: usize,
-) -> Going {
+) -> Option<Going> {
     let mut lists = [0u64; ALL_PLACES];
     let mut text = [0u8; MOST_TEXT];
     day_with(
@@ -221,10 +174,8 @@ fn put_with(
     at: usize,
     nmi: &mut [u8],
     suffix: &mut [u8],
-) -> Going {
-    let Passed::To(b) = fill_both(rt, buf, c, n, nmi, k, suffix) else {
-        return Going::Bad;
-    };
+) -> Option<Going> {
+    let b = fill_both(rt, buf, c, n, nmi, k, suffix)?;
     day_in(
         rt,
         buf,
@@ -253,7 +204,7 @@ fn put_behind(
     copy: &mut [u8],
     page: &mut [u8],
     at: usize,
-) -> Going {
+) -> Option<Going> {
     let mut nmi = [0u8; MOST_KEY];
     let mut suffix = [0u8; MOST_KEY];
     put_with(
@@ -282,11 +233,9 @@ pub fn put_case(
     copy: &mut [u8],
     page: &mut [u8],
     at: usize,
-) -> Going {
+) -> Option<Going> {
     let mut numbers = [0u64; 14];
-    let Passed::To(a) = head(rt, buf, c, b"ut ", &mut numbers) else {
-        return Going::Bad;
-    };
+    let a = head(rt, buf, c, b"ut ", &mut numbers)?;
     let s = sheet_of([
         numbers[2],
         numbers[3],
@@ -303,7 +252,7 @@ pub fn put_case(
         numbers[13],
     ]);
     if !can_be(s) {
-        return Going::Bad;
+        return None;
     }
     put_behind(
         rt,

@@ -5,7 +5,7 @@
 ghost use Rattle.std.specs.Prelude.{◌≤◌, length};
 
 use calls::PLACES;
-use input::bytes::{Cursor, Passed, fill_line};
+use input::bytes::{Cursor, fill_line};
 use input::numbers::{head, line};
 use input::{Going, byte};
 use machine::Machine;
@@ -23,9 +23,6 @@ const MOST_TEXT: usize = 2128;
 // The most bytes that a map can be handed in as.
 const MOST_MAP: usize = 60000;
 
-// The highest date of four bytes.
-const DATES: u64 = 4294967295;
-
 // One more than the highest share of two bytes.
 const SHARES: u64 = 65536;
 
@@ -40,12 +37,10 @@ struct Ends {
 // ---- a total
 
 // A line of shares that can be lent, and the case's own line's end.
-fn shares_in(rt: &impl Machine, buf: &mut [u8], c: Cursor, shares: &mut [u64]) -> Passed {
-    let Passed::To(after) = line(rt, buf, c, shares) else {
-        return Passed::Bad;
-    };
+fn shares_in(rt: &impl Machine, buf: &mut [u8], c: Cursor, shares: &mut [u64]) -> Option<Cursor> {
+    let after = line(rt, buf, c, shares)?;
     if !below(shares, SHARES) {
-        return Passed::Bad;
+        return None;
     }
     byte(rt, buf, after, b'\n')
 }
@@ -88,16 +83,12 @@ fn split_with(
     p: usize,
     page: &mut [u8],
     at: usize,
-) -> Going
+) -> Option<Going>
     requires { (length shares.old ≤ 300) × (p ≤ 300) }
 {
-    let Passed::To(behind) = fill_line(rt, buf, c, e.all, text) else {
-        return Going::Bad;
-    };
-    let Passed::To(after) = shares_in(rt, buf, behind, shares) else {
-        return Going::Bad;
-    };
-    Going::On(after, total_given(sum, e, text, shares, p, page, at))
+    let behind = fill_line(rt, buf, c, e.all, text)?;
+    let after = shares_in(rt, buf, behind, shares)?;
+    Some(Going::On(after, total_given(sum, e, text, shares, p, page, at)))
 }
 
 // Behind the word and its space, which tells it from the splitting of a day.
@@ -107,30 +98,16 @@ pub fn split_case(
     c: Cursor,
     page: &mut [u8],
     at: usize,
-) -> Going {
+) -> Option<Going> {
     let mut numbers = [0u64; 6];
-    let Passed::To(after) = head(rt, buf, c, b"", &mut numbers) else {
-        return Going::Bad;
-    };
+    let after = head(rt, buf, c, b"", &mut numbers)?;
     let n = numbers[1] as usize;
     let k = numbers[2] as usize;
     let l = numbers[3] as usize;
     let s = numbers[4] as usize;
     let p = numbers[5] as usize;
-    if MOST_KEY < n {
-        return Going::Bad;
-    }
-    if MOST_KEY < k {
-        return Going::Bad;
-    }
-    if KEY_BYTES < l {
-        return Going::Bad;
-    }
-    if PLACES < s {
-        return Going::Bad;
-    }
-    if PLACES < p {
-        return Going::Bad;
+    if MOST_KEY < n || MOST_KEY < k || KEY_BYTES < l || PLACES < s || PLACES < p {
+        return None;
     }
     let e = Ends {
         nmi: n,
@@ -165,24 +142,20 @@ pub fn split_day_case(
     size: usize,
     page: &mut [u8],
     at: usize,
-) -> Going {
+) -> Option<Going> {
     let mut numbers = [0u64; 3];
-    let Passed::To(behind) = head(rt, buf, c, b"ay ", &mut numbers) else {
-        return Going::Bad;
-    };
+    let behind = head(rt, buf, c, b"ay ", &mut numbers)?;
     let k = numbers[0] as usize;
     let p = numbers[1] as usize;
     let n = numbers[2] as usize;
     if PLACES < p {
-        return Going::Bad;
+        return None;
     }
-    let Passed::To(after) = fill_line(rt, buf, behind, n, file) else {
-        return Going::Bad;
-    };
-    Going::On(
+    let after = fill_line(rt, buf, behind, n, file)?;
+    Some(Going::On(
         after,
         day(part(file, 0, n), k, part(memory, 0, size), p, page, at),
-    )
+    ))
 }
 
 // NMI, suffix and map are read into lent room.
@@ -197,13 +170,11 @@ fn stored_with(
     p: usize,
     page: &mut [u8],
     at: usize,
-) -> Going
+) -> Option<Going>
     requires { p ≤ 300 }
 {
-    let Passed::To(after) = fill_line(rt, buf, c, e.all, text) else {
-        return Going::Bad;
-    };
-    Going::On(
+    let after = fill_line(rt, buf, c, e.all, text)?;
+    Some(Going::On(
         after,
         stored(
             store,
@@ -215,7 +186,7 @@ fn stored_with(
             page,
             at,
         ),
-    )
+    ))
 }
 
 // Of the store in memory, by a map that is read into room that any of them fits in.
@@ -228,30 +199,16 @@ pub fn split_stored_case(
     size: usize,
     page: &mut [u8],
     at: usize,
-) -> Going {
+) -> Option<Going> {
     let mut numbers = [0u64; 5];
-    let Passed::To(after) = head(rt, buf, c, b"tored ", &mut numbers) else {
-        return Going::Bad;
-    };
+    let after = head(rt, buf, c, b"tored ", &mut numbers)?;
     let n = numbers[0] as usize;
     let k = numbers[1] as usize;
-    let date = numbers[2];
+    let date = u32::try_from(numbers[2]).ok()?;
     let p = numbers[3] as usize;
     let m = numbers[4] as usize;
-    if MOST_KEY < n {
-        return Going::Bad;
-    }
-    if MOST_KEY < k {
-        return Going::Bad;
-    }
-    if DATES < date {
-        return Going::Bad;
-    }
-    if PLACES < p {
-        return Going::Bad;
-    }
-    if MOST_MAP < m {
-        return Going::Bad;
+    if MOST_KEY < n || MOST_KEY < k || PLACES < p || MOST_MAP < m {
+        return None;
     }
     let e = Ends {
         nmi: n,
@@ -264,7 +221,7 @@ pub fn split_stored_case(
         after,
         e,
         text,
-        date as u32,
+        date,
         part(memory, 0, size),
         p,
         page,

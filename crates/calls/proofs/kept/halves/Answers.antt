@@ -1,15 +1,12 @@
 -- `calls::kept::halves` meets its contract. Assumes nothing.
-use Rattle.calls.proofs.Looked.{held_none, held_more, held-not, held_all}
+use Rattle.std.proofs.Common.{rules, tests}
+use Rattle.std.proofs.lemmas.Iterator.{YieldsList-from_slice}
+use Rattle.std.proofs.lemmas.Iterator.Adapters.{YieldsList-from_skip}
+use Rattle.std.proofs.lemmas.Iterator.Search.{all_from_yields_List}
+use Rattle.calls.proofs.Looked.{kept-all}
 use Rattle.calls.proofs.kept.halves.Goals as goal
 
-pub loop-i-init : goal.loop-i-init
-loop-i-init c = search held_none
-
-pub returns-then-list-i : goal.returns-then-list-i
-returns-then-list-i c = search held-not
-
-pub loop-i-preserved : goal.loop-i-preserved
-loop-i-preserved c = search held_more
-
 pub returns : goal.returns
-returns c = search held_all
+returns c =
+    kept-all _ _ _
+    (all_from_yields_List _ _ _ _ c.all.ensures.ran (YieldsList-from_skip c.args.from (YieldsList-from_slice _ cc) cc) (λ x b q k. search (rules, tests)))

@@ -1,17 +1,9 @@
 -- `sheet::given_lists::below` meets its contract. Assumes nothing.
-use borrow.Author.Rules.{rules}
-use Rattle.ground.proofs.Lists.{passed_none}
-use Rattle.sheet.proofs.Sheets.{below_more, below-stops, below_all}
+use Rattle.std.proofs.Common.{rules, tests}
+use Rattle.std.proofs.lemmas.Iterator.{YieldsList-from_slice}
+use Rattle.std.proofs.lemmas.Iterator.Search.{all_from_yields_List}
+use Rattle.sheet.proofs.Sheets.{below-all}
 use Rattle.sheet.proofs.given_lists.below.Goals as goal
 
-pub loop-i-init : goal.loop-i-init
-loop-i-init c = search passed_none
-
-pub returns-then-most-list : goal.returns-then-most-list
-returns-then-most-list c = search below-stops
-
-pub loop-i-preserved : goal.loop-i-preserved
-loop-i-preserved c = below_more _ _ _ (search rules) (search rules) (search rules)
-
 pub returns : goal.returns
-returns c = search below_all
+returns c = below-all _ _ (all_from_yields_List _ _ _ _ c.all.ensures.ran (YieldsList-from_slice c.args.list.now cc) (λ x b q k. search (rules, tests)))

@@ -1,13 +1,7 @@
 -- `sheet::given_lists::sizes_of` meets its contract. Assumes nothing.
-use borrow.Author.Rules.{rules}
-use Rattle.sheet.proofs.Sheets.{holds-none, holds_same, holds-all}
+use Rattle.std.proofs.Common.{rules, tests}
+use Rattle.sheet.proofs.Sheets.{holds-made}
 use Rattle.sheet.proofs.given_lists.sizes_of.Goals as goal
 
-pub loop-i-init : goal.loop-i-init
-loop-i-init c = search (holds-none, rules)
-
-pub loop-i-preserved : goal.loop-i-preserved
-loop-i-preserved c = search holds_same
-
 pub returns : goal.returns
-returns c = search holds-all
+returns c = holds-made _ _ (λ z. z) _ _ (λ i v q k. search (rules, tests)) c.from_fn.ensures.items
