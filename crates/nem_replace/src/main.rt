@@ -16,13 +16,8 @@ use phrase::times::date;
 use records::record_of;
 use replacing::replace_day;
 use std::alloc::{AllocError, Global};
-<<<<<<< HEAD
 use wanted::{last_word, wanted_before_last};
-use whose::{DayFound, find_day};
-=======
-use wanted::{Wanted, last_word, wanted_before_last};
 use whose::find_day;
->>>>>>> 599284eb70b670dacd8f1806717df636dbcb125f
 
 // A place more than the longest file has, so that a longer one is seen to be one; and as many for the block.
 const ROOM: usize = 1048577;
