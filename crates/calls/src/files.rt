@@ -14,7 +14,7 @@ use alone::check_block;
 use answer_lines::answers;
 use answer_lines::days::{day_line, intervals_read};
 use checking::check::check;
-use format::DayRead;
+use format::{DayRead, Refusal};
 use page::texts::put;
 use reading::read_day::read_day;
 use reading::total::total;
@@ -85,7 +85,7 @@ pub fn are_kept(
 pub fn day_shown(
     page: &mut [u8],
     at: usize,
-    x: DayRead,
+    x: Result<DayRead, Refusal>,
     values: &[u64],
     flags: &[u8],
     methods: &[u8],

@@ -71,13 +71,7 @@ fn channel_row(
 }
 
 // The row of channel k, which stands at a place of the file.
-pub fn placed(
-    page: &mut [u8],
-    file: &[u8],
-    k: usize,
-    place: Option<Channel>,
-    total: u64,
-) -> usize
+pub fn placed(page: &mut [u8], file: &[u8], k: usize, place: Option<Channel>, total: u64) -> usize
     requires { inside file.now place }
     ensures { Filled page.old 0 (channel_text file.now k place total) result page.new }
 {

@@ -14,9 +14,9 @@ ghost use Rattle.calls.specs.Lines.{answer_line, bytes_in};
 ghost use Rattle.edit_calls.specs.Lines.{shown_in, replace_text};
 
 use calls::kept::end_line;
+use format::Refusal;
 use leaf::bytes::same_bytes;
 use page::texts::{part, put};
-use format::Refusal;
 use replacing::replace_day;
 use text::bytes::put_bytes;
 use whose::find_day;

@@ -50,7 +50,13 @@ fn row(rt: &impl Machine, page: &mut [u8], at: usize, record: &[u8]) -> Sheet {
 }
 
 // The channel at a place.
-fn placed(rt: &impl Machine, page: &mut [u8], at: usize, file: &[u8], place: Option<Channel>) -> Sheet {
+fn placed(
+    rt: &impl Machine,
+    page: &mut [u8],
+    at: usize,
+    file: &[u8],
+    place: Option<Channel>,
+) -> Sheet {
     let Some(Channel::Quantity(a, e)) = place else {
         return Sheet { at, status: DONE };
     };

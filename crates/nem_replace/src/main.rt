@@ -14,10 +14,10 @@ use outward::{FAILED, REFUSED, complain, finish, warn, write};
 use page::texts::{number, part, put};
 use phrase::times::date;
 use records::record_of;
-use replacing::{Replaced, replace_day};
+use replacing::replace_day;
 use std::alloc::{AllocError, Global};
 use wanted::{last_word, wanted_before_last};
-use whose::{DayFound, find_day};
+use whose::find_day;
 
 // A place more than the longest file has, so that a longer one is seen to be one; and as many for the block.
 const ROOM: usize = 1048577;

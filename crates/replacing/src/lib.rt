@@ -74,13 +74,7 @@ fn try_block(file: &[u8], day: usize, block: &[u8]) -> Result<OldBlock, Refusal>
 
 // The block into the place of the bytes from a to e of the file at the room's start, if the edited file is short enough and the room holds it. The lengths are
 // compared by what is left, since a sum of any two could be too large.
-fn put_block(
-    room: &mut [u8],
-    n: usize,
-    a: usize,
-    e: usize,
-    block: &[u8],
-) -> Result<usize, Refusal>
+fn put_block(room: &mut [u8], n: usize, a: usize, e: usize, block: &[u8]) -> Result<usize, Refusal>
     requires { (a ≤ e) × (e ≤ n) × (n ≤ most) × (n ≤ length room.old) }
     ensures { left (replaced_as result) room.new ≡ put_of (spliced (take n room.old) a e block.now) room.old }
 {

@@ -48,7 +48,13 @@ pub struct Verdict {
 }
 
 // The answer of a file's check in words: a line behind its name where there are several files.
-pub fn said(page: &mut [u8], at: usize, file: &[u8], x: Result<Checked, Refusal>, several: bool) -> Verdict
+pub fn said(
+    page: &mut [u8],
+    at: usize,
+    file: &[u8],
+    x: Result<Checked, Refusal>,
+    several: bool,
+) -> Verdict
     ensures says { Filled page.old at (check_text several file.now (checked_as x)) result.next page.new }
     ensures status { result.status ≡ status_of (checked_as x) }
 {

@@ -91,12 +91,7 @@ fn found_at(file: &[u8], p: Place, before: usize) -> DayFound
 
 // The same of the day of a number from 0, in a file that was accepted, where a walk that came by has noted from where the day is found, and how many channels
 // stand before it.
-fn found_noted(
-    file: &[u8],
-    day: usize,
-    from: DayStart,
-    before: usize,
-) -> Result<DayFound, Refusal>
+fn found_noted(file: &[u8], day: usize, from: DayStart, before: usize) -> Result<DayFound, Refusal>
     requires { IsAccepted file.now × DayAhead file.now day from × ChannelsBefore file.now day before }
     ensures { day_found_as result ≡ find_of file.now day }
 {
