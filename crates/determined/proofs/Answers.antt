@@ -30,111 +30,96 @@ refusal-one x y e =
     let g : refusal_is x.number x.place x.«record» x.field ≡ refusal_is y.number y.place y.«record» y.field = rw (a, b, c, d) in
     g
 
-checked_is : (m n o : ℕ) → Checked
-checked_is m n o = record { version = m; channels = n; days = o }
+checked_is : ℕ → ℕ → ℕ → Checked
+checked_is a b c = record { version = a; channels = b; days = c }
 
-checked-same : (x y : Checked) → checked_as (Ok x) ≡ checked_as (Ok y) → x ≡ y
+pub checked-one : (x y : Result Checked Refusal) → checked_as x ≡ checked_as y → x ≡ y
 unfolding checked_is
-checked-same x y e =
+checked-one (Ok x) (Ok y) e =
     let a : x.version ≡ y.version = cc in
     let b : x.channels ≡ y.channels = cc in
     let c : x.days ≡ y.days = cc in
-    let k : checked_is x.version x.channels x.days ≡ checked_is y.version y.channels y.days = rw (a, b, c) in
-    k
-
-pub checked-one : (x y : Result Checked Refusal) → checked_as x ≡ checked_as y → x ≡ y
-checked-one (Ok x) (Ok y) e = ap Ok (checked-same x y e)
+    let z : checked_is x.version x.channels x.days ≡ checked_is y.version y.channels y.days = rw (a, b, c) in
+    ap (λ (w : Checked). Ok w) z
 checked-one (Ok x) (Err y) e = cc
 checked-one (Err x) (Ok y) e = cc
-checked-one (Err x) (Err y) e = ap Err (refusal-one x y e)
+checked-one (Err x) (Err y) e = ap (λ (w : Refusal). Err w) (refusal-one x y e)
 
-day_read_is : (m n o p q : ℕ) → DayRead
-day_read_is m n o p q = record { date = m; n = n; update = o; load = p; unit = q }
+day_read_is : ℕ → ℕ → ℕ → ℕ → ℕ → DayRead
+day_read_is a b c d f = record { date = a; n = b; update = c; load = d; unit = f }
 
-day_read-same : (x y : DayRead) → day_read_as (Ok x) ≡ day_read_as (Ok y) → x ≡ y
+pub day-read-one : (x y : Result DayRead Refusal) → day_read_as x ≡ day_read_as y → x ≡ y
 unfolding day_read_is
-day_read-same x y e =
+day-read-one (Ok x) (Ok y) e =
     let a : x.date ≡ y.date = cc in
     let b : x.n ≡ y.n = cc in
     let c : x.update ≡ y.update = cc in
     let d : x.load ≡ y.load = cc in
-    let g : x.unit ≡ y.unit = cc in
-    let k : day_read_is x.date x.n x.update x.load x.unit ≡ day_read_is y.date y.n y.update y.load y.unit = rw (a, b, c, d, g) in
-    k
-
-pub day-read-one : (x y : Result DayRead Refusal) → day_read_as x ≡ day_read_as y → x ≡ y
-day-read-one (Ok x) (Ok y) e = ap Ok (day_read-same x y e)
+    let f : x.unit ≡ y.unit = cc in
+    let z : day_read_is x.date x.n x.update x.load x.unit ≡ day_read_is y.date y.n y.update y.load y.unit = rw (a, b, c, d, f) in
+    ap (λ (w : DayRead). Ok w) z
 day-read-one (Ok x) (Err y) e = cc
 day-read-one (Err x) (Ok y) e = cc
-day-read-one (Err x) (Err y) e = ap Err (refusal-one x y e)
+day-read-one (Err x) (Err y) e = ap (λ (w : Refusal). Err w) (refusal-one x y e)
 
 pub totalled-one : (x y : Result ℕ Refusal) → totalled_as x ≡ totalled_as y → x ≡ y
 totalled-one (Ok v) (Ok w) e = cc
-totalled-one (Ok v) (Err y) e = cc
-totalled-one (Err x) (Ok w) e = cc
-totalled-one (Err x) (Err y) e = ap Err (refusal-one x y e)
+totalled-one (Ok x) (Err y) e = cc
+totalled-one (Err x) (Ok y) e = cc
+totalled-one (Err x) (Err y) e = ap (λ (w : Refusal). Err w) (refusal-one x y e)
 
-written_is : (m n : ℕ) → Written
-written_is m n = record { bytes = m; records = n }
-
-written-same : (x y : Written) → written_as (Ok x) ≡ written_as (Ok y) → x ≡ y
-unfolding written_is
-written-same x y e =
-    let a : x.bytes ≡ y.bytes = cc in
-    let b : x.records ≡ y.records = cc in
-    let k : written_is x.bytes x.records ≡ written_is y.bytes y.records = rw (a, b) in
-    k
+written_is : ℕ → ℕ → Written
+written_is a b = record { bytes = a; records = b }
 
 pub written_one : (x y : Result Written Refusal) → written_as x ≡ written_as y → x ≡ y
-written_one (Ok x) (Ok y) e = ap Ok (written-same x y e)
+unfolding written_is
+written_one (Ok x) (Ok y) e =
+    let a : x.bytes ≡ y.bytes = cc in
+    let b : x.records ≡ y.records = cc in
+    let z : written_is x.bytes x.records ≡ written_is y.bytes y.records = rw (a, b) in
+    ap (λ (w : Written). Ok w) z
 written_one (Ok x) (Err y) e = cc
 written_one (Err x) (Ok y) e = cc
-written_one (Err x) (Err y) e = ap Err (refusal-one x y e)
+written_one (Err x) (Err y) e = ap (λ (w : Refusal). Err w) (refusal-one x y e)
 
-found_is : (m n o p q r s : ℕ) → DayFound
-found_is m n o p q r s = record { channel = m; nmi = n; suffix = o; unit = p; length = q; start = r; end = s }
+found_is : ℕ → ℕ → ℕ → ℕ → ℕ → ℕ → ℕ → DayFound
+found_is a b c d f g h = record { channel = a; nmi = b; suffix = c; unit = d; length = f; start = g; end = h }
 
-found-same : (x y : DayFound) → day_found_as (Ok x) ≡ day_found_as (Ok y) → x ≡ y
+pub found-one : (x y : Result DayFound Refusal) → day_found_as x ≡ day_found_as y → x ≡ y
 unfolding found_is
-found-same x y e =
+found-one (Ok x) (Ok y) e =
     let a : x.channel ≡ y.channel = cc in
     let b : x.nmi ≡ y.nmi = cc in
     let c : x.suffix ≡ y.suffix = cc in
     let d : x.unit ≡ y.unit = cc in
-    let g : x.length ≡ y.length = cc in
-    let h : x.start ≡ y.start = cc in
-    let i : x.end ≡ y.end = cc in
-    let k : found_is x.channel x.nmi x.suffix x.unit x.length x.start x.end ≡ found_is y.channel y.nmi y.suffix y.unit y.length y.start y.end = rw (a, b, c, d, g, h, i) in
-    k
-
-pub found-one : (x y : Result DayFound Refusal) → day_found_as x ≡ day_found_as y → x ≡ y
-found-one (Ok x) (Ok y) e = ap Ok (found-same x y e)
+    let f : x.length ≡ y.length = cc in
+    let g : x.start ≡ y.start = cc in
+    let h : x.end ≡ y.end = cc in
+    let z : found_is x.channel x.nmi x.suffix x.unit x.length x.start x.end ≡ found_is y.channel y.nmi y.suffix y.unit y.length y.start y.end = rw (a, b, c, d, f, g, h) in
+    ap (λ (w : DayFound). Ok w) z
 found-one (Ok x) (Err y) e = cc
 found-one (Err x) (Ok y) e = cc
-found-one (Err x) (Err y) e = ap Err (refusal-one x y e)
+found-one (Err x) (Err y) e = ap (λ (w : Refusal). Err w) (refusal-one x y e)
 
-days_is : (m n : ℕ) → DaysRead
-days_is m n = record { days = m; intervals = n }
-
-days-same : (x y : DaysRead) → days_read_as (Ok x) ≡ days_read_as (Ok y) → x ≡ y
-unfolding days_is
-days-same x y e =
-    let a : x.days ≡ y.days = cc in
-    let b : x.intervals ≡ y.intervals = cc in
-    let k : days_is x.days x.intervals ≡ days_is y.days y.intervals = rw (a, b) in
-    k
+days_read_is : ℕ → ℕ → DaysRead
+days_read_is a b = record { days = a; intervals = b }
 
 pub days-read-one : (x y : Result DaysRead Refusal) → days_read_as x ≡ days_read_as y → x ≡ y
-days-read-one (Ok x) (Ok y) e = ap Ok (days-same x y e)
+unfolding days_read_is
+days-read-one (Ok x) (Ok y) e =
+    let a : x.days ≡ y.days = cc in
+    let b : x.intervals ≡ y.intervals = cc in
+    let z : days_read_is x.days x.intervals ≡ days_read_is y.days y.intervals = rw (a, b) in
+    ap (λ (w : DaysRead). Ok w) z
 days-read-one (Ok x) (Err y) e = cc
 days-read-one (Err x) (Ok y) e = cc
-days-read-one (Err x) (Err y) e = ap Err (refusal-one x y e)
+days-read-one (Err x) (Err y) e = ap (λ (w : Refusal). Err w) (refusal-one x y e)
 
 pub replaced-one : (x y : Result ℕ Refusal) → replaced_as x ≡ replaced_as y → x ≡ y
-replaced-one (Ok a) (Ok b) e = cc
-replaced-one (Ok a) (Err y) e = cc
-replaced-one (Err x) (Ok b) e = cc
-replaced-one (Err x) (Err y) e = ap Err (refusal-one x y e)
+replaced-one (Ok v) (Ok w) e = cc
+replaced-one (Ok x) (Err y) e = cc
+replaced-one (Err x) (Ok y) e = cc
+replaced-one (Err x) (Err y) e = ap (λ (w : Refusal). Err w) (refusal-one x y e)
 
 pub made_one : (x y : Result ℕ Refusal) → made_as x ≡ made_as y → x ≡ y
 made_one (Ok a) (Ok b) e = cc
