@@ -65,21 +65,17 @@ fn day(rt: &impl Machine, page: &mut [u8], file: &[u8], k: usize) {
 }
 
 fn days(rt: &impl Machine, page: &mut [u8], file: &[u8], n: usize) {
-    let mut k: usize = 0;
-    while k < n {
+    for k in 0..n {
         day(rt, page, file, k);
-        k += 1;
     }
 }
 
 // ---- totals
 
 fn totals(rt: &impl Machine, page: &mut [u8], file: &[u8], n: usize) {
-    let mut k: usize = 0;
-    while k < n {
+    for k in 0..n {
         let p = answers::totalled(page, 0, total(file, k));
         say(rt, page, p);
-        k += 1;
     }
 }
 

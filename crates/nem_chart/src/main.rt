@@ -62,13 +62,11 @@ fn bars(
     values: &[u64],
     flags: &[u8],
 ) -> u8 {
-    let mut i: usize = 0;
-    while i < n {
+    for i in 0..n {
         let status = bar_out(rt, page, i, n, most, unit, values, flags);
         if status != DONE {
             return status;
         }
-        i += 1;
     }
     DONE
 }

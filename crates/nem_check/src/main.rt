@@ -39,10 +39,8 @@ fn check_file(rt: &impl Machine, page: &mut [u8], room: &mut [u8], i: usize, sev
 fn check_files(rt: &impl Machine, page: &mut [u8], room: &mut [u8]) -> u8 {
     let words = rt.arg_count();
     let mut worst = DONE;
-    let mut i = FIRST;
-    while i < words {
+    for i in FIRST..words {
         worst = graver(worst, check_file(rt, page, room, i, FIRST + 1 < words));
-        i += 1;
     }
     worst
 }

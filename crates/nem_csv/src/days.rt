@@ -87,8 +87,7 @@ pub fn show(rt: &impl Machine, page: &mut [u8], file: &[u8], days: usize, first:
 {
     let mut at = daily_heading(page, 0);
     let mut from = first;
-    let mut k: usize = 0;
-    while k < days {
+    for k in 0..days {
         let t = turn(rt, page, at, file, k, from);
         let sheet = t.sheet;
         if sheet.status != DONE {
@@ -96,7 +95,6 @@ pub fn show(rt: &impl Machine, page: &mut [u8], file: &[u8], days: usize, first:
         }
         at = sheet.at;
         from = t.next;
-        k += 1;
     }
     write(rt, page, at)
 }

@@ -71,8 +71,7 @@ fn rows(
     lengths: &[usize],
 ) -> Sheet {
     let mut at = from;
-    let mut i: usize = 0;
-    while i < n {
+    for i in 0..n {
         let sheet = row(
             rt, page, at, file, front, today, after, i, n, values, flags, methods, reasons, starts,
             lengths,
@@ -81,7 +80,6 @@ fn rows(
             return sheet;
         }
         at = sheet.at;
-        i += 1;
     }
     Sheet { at, status: DONE }
 }
@@ -240,8 +238,7 @@ pub fn show(rt: &impl Machine, page: &mut [u8], file: &[u8], days: usize, first:
 {
     let mut at = heading(page, 0);
     let mut from = first;
-    let mut k: usize = 0;
-    while k < days {
+    for k in 0..days {
         let t = turn(rt, page, at, file, k, from);
         let sheet = t.sheet;
         if sheet.status != DONE {
@@ -249,7 +246,6 @@ pub fn show(rt: &impl Machine, page: &mut [u8], file: &[u8], days: usize, first:
         }
         at = sheet.at;
         from = t.next;
-        k += 1;
     }
     write(rt, page, at)
 }

@@ -75,8 +75,7 @@ pub fn show(
 {
     let mut at = heading(page, 0);
     let mut from = first;
-    let mut k: usize = 0;
-    while k < channels {
+    for k in 0..channels {
         let place = walk::find_channel(file, k, from);
         let sheet = placed(rt, page, at, file, place);
         if sheet.status != DONE {
@@ -84,7 +83,6 @@ pub fn show(
         }
         at = sheet.at;
         from = walk::behind(file, place);
-        k += 1;
     }
     write(rt, page, at)
 }

@@ -15,11 +15,12 @@ pub struct Sheet {
 // Behind a row.
 pub fn behind(rt: &impl Machine, page: &[u8], at: usize) -> Sheet {
     if at < HALF {
-        return Sheet { at, status: DONE };
-    }
-    Sheet {
-        at: 0,
-        status: write(rt, page, at),
+        Sheet { at, status: DONE }
+    } else {
+        Sheet {
+            at: 0,
+            status: write(rt, page, at),
+        }
     }
 }
 

@@ -7,11 +7,7 @@ use versions::{count, entries_at, first_date};
 
 // The place of the last version in the list.
 fn last(map: &[u8]) -> u32 {
-    let n = count(map);
-    if n == 0 {
-        return 0;
-    }
-    n - 1
+    count(map).saturating_sub(1)
 }
 
 pub fn keep_appended(rt: &impl Machine, page: &mut [u8], map: &[u8]) -> u8 {

@@ -14,12 +14,10 @@ fn are_alike(map: &[u8], i: u32, j: u32) -> bool {
 
 // The number of the first version before place i that has the same entries, 0 where there is none.
 fn earlier(map: &[u8], i: u32) -> u32 {
-    let mut j: u32 = 0;
-    while j < i {
+    for j in 0..i {
         if are_alike(map, i, j) {
             return j + 1;
         }
-        j += 1;
     }
     0
 }
@@ -40,14 +38,11 @@ fn line(rt: &impl Machine, page: &mut [u8], map: &[u8], v: u32, i: u32) -> u8 {
 }
 
 fn lines(rt: &impl Machine, page: &mut [u8], map: &[u8], n: u32) -> u8 {
-    let mut i: u32 = 0;
-    while i < n {
-        let v = i + 1;
-        let status = line(rt, page, map, v, i);
+    for i in 0..n {
+        let status = line(rt, page, map, i + 1, i);
         if status != DONE {
             return status;
         }
-        i = v;
     }
     DONE
 }

@@ -63,15 +63,11 @@ fn full(rt: &impl Machine, page: &mut [u8]) {
 }
 
 pub fn of_adding(rt: &impl Machine, page: &mut [u8], x: Refusal, map: &[u8]) {
-    if x.number == 24 {
-        falls(rt, page, map);
-        return;
+    match x.number {
+        24 => falls(rt, page, map),
+        23 => full(rt, page),
+        _ => other(rt, page, x),
     }
-    if x.number == 23 {
-        full(rt, page);
-        return;
-    }
-    other(rt, page, x);
 }
 
 fn no_version(rt: &impl Machine, page: &mut [u8], map: &[u8]) {
@@ -83,9 +79,9 @@ fn no_version(rt: &impl Machine, page: &mut [u8], map: &[u8]) {
 pub fn of_going_back(rt: &impl Machine, page: &mut [u8], x: Refusal, map: &[u8]) {
     if x.number == 14 {
         no_version(rt, page, map);
-        return;
+    } else {
+        of_adding(rt, page, x, map);
     }
-    of_adding(rt, page, x, map);
 }
 
 // ---- a table

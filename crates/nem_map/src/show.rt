@@ -29,13 +29,11 @@ fn output(rt: &impl Machine, page: &mut [u8], entries: &[u8], i: u32) -> u8 {
 }
 
 fn outputs(rt: &impl Machine, page: &mut [u8], entries: &[u8]) -> u8 {
-    let mut i: u32 = 0;
-    while i < OUTPUTS {
+    for i in 0..OUTPUTS {
         let status = output(rt, page, entries, i);
         if status != DONE {
             return status;
         }
-        i += 1;
     }
     DONE
 }
@@ -60,13 +58,11 @@ fn channel(rt: &impl Machine, page: &mut [u8], entries: &[u8], i: u32) -> u8 {
 }
 
 fn channels(rt: &impl Machine, page: &mut [u8], entries: &[u8]) -> u8 {
-    let mut i: u32 = 0;
-    while i < OUTPUTS {
+    for i in 0..OUTPUTS {
         let status = channel(rt, page, entries, i);
         if status != DONE {
             return status;
         }
-        i += 1;
     }
     DONE
 }
@@ -106,9 +102,10 @@ fn tables(rt: &impl Machine, page: &mut [u8], entries: &[u8]) -> u8 {
 // The first date of the version at a place, 0 where there is none.
 fn date_at(map: &[u8], i: u32) -> u32 {
     if count(map) <= i {
-        return 0;
+        0
+    } else {
+        first_date(map, i)
     }
-    first_date(map, i)
 }
 
 // The version of a number, which stands at place i.

@@ -49,13 +49,7 @@ fn take(line: &[u8], keys: &mut [u8], shares: &mut [u16], named: &mut [u8]) -> R
 
 // An empty line, or the heading in the first one.
 fn is_passed_over(line: &[u8], number: u64) -> bool {
-    if line.len() == 0 {
-        return true;
-    }
-    if number != 1 {
-        return false;
-    }
-    same_bytes(line, b"output,NMI,suffix,share")
+    line.is_empty() || (number == 1 && same_bytes(line, b"output,NMI,suffix,share"))
 }
 
 fn turn(

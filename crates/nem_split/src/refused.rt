@@ -35,13 +35,14 @@ pub fn no_version(rt: &impl Machine, page: &mut [u8], map: &[u8], day: u32) {
 // By the length of the key that its outputs have.
 fn why(page: &mut [u8], at: usize, key_len: usize) -> usize {
     if key_len == 0 {
-        return put(page, at, b"no output serves ");
+        put(page, at, b"no output serves ")
+    } else {
+        put(
+            page,
+            at,
+            b"the shares add up to 0 of the outputs that serve ",
+        )
     }
-    put(
-        page,
-        at,
-        b"the shares add up to 0 of the outputs that serve ",
-    )
 }
 
 fn what_to_do(page: &mut [u8], at: usize, day: u32) -> usize {

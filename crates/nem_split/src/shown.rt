@@ -10,7 +10,6 @@ use outward::{DONE, REFUSED, write_line};
 use page::items::u64_at;
 use page::texts::{part, put};
 use split_lines::{headings, is_energy, note, part_row, sum_row, title};
-use std::num::wrapping_add_u64;
 use units::Spelling;
 use versions::{entries_at, is_map, version_on};
 
@@ -49,13 +48,11 @@ fn output(
 }
 
 fn outputs(rt: &impl Machine, page: &mut [u8], entries: &[u8], key: &[u8], parts: &[u64]) -> u8 {
-    let mut i: u32 = 0;
-    while i < OUTPUTS {
+    for i in 0..OUTPUTS {
         let status = output(rt, page, entries, key, parts, i);
         if status != DONE {
             return status;
         }
-        i += 1;
     }
     DONE
 }
@@ -63,10 +60,8 @@ fn outputs(rt: &impl Machine, page: &mut [u8], entries: &[u8], key: &[u8], parts
 // The parts are added up anew: who bills from them sees that nothing of the day is lost.
 fn sum_of(parts: &[u64]) -> u64 {
     let mut sum: u64 = 0;
-    let mut i: usize = 0;
-    while i < parts.len() {
-        sum = wrapping_add_u64(sum, parts[i]);
-        i += 1;
+    for part in parts {
+        sum = sum.wrapping_add(*part);
     }
     sum
 }
@@ -134,21 +129,16 @@ fn table(
 // ---- which
 
 fn is_on(key: &[u8], nmi: &[u8], suffix: &[u8]) -> bool {
-    if !same_capitals(nmi, part(key, 0, 10)) {
-        return false;
-    }
-    same_capitals(suffix, part(key, 10, 12))
+    same_capitals(nmi, part(key, 0, 10)) && same_capitals(suffix, part(key, 10, 12))
 }
 
 // The channel's key as its outputs have it, empty where none is on it.
 fn key_on<'a>(entries: &'a [u8], nmi: &[u8], suffix: &[u8]) -> &'a [u8] {
-    let mut i: u32 = 0;
-    while i < OUTPUTS {
+    for i in 0..OUTPUTS {
         let key = key_at(entries, i);
         if is_on(key, nmi, suffix) {
             return key;
         }
-        i += 1;
     }
     part(entries, 0, 0)
 }

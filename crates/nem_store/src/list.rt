@@ -39,23 +39,18 @@ fn line(rt: &impl Machine, page: &mut [u8], store: &[u8], slot: usize) -> u8 {
 }
 
 fn lines(rt: &impl Machine, page: &mut [u8], store: &[u8], slots: usize) -> u8 {
-    let mut slot: usize = 0;
-    while slot < slots {
+    for slot in 0..slots {
         let status = line(rt, page, store, slot);
         if status != DONE {
             return status;
         }
-        slot += 1;
     }
     DONE
 }
 
 // The blocks have no more bytes than the room.
 fn free(room: usize, used: usize) -> usize {
-    if room < used {
-        return 0;
-    }
-    room - used
+    room.saturating_sub(used)
 }
 
 fn last_line(rt: &impl Machine, page: &mut [u8], store: &[u8], h: Header) -> u8 {

@@ -221,13 +221,11 @@ fn turn(
 
 // How many of so many days were kept, with one that has this status.
 fn and_this(kept: usize, days: usize, status: u8) -> usize {
-    if status != DONE {
-        return kept;
+    if status == DONE && kept < days {
+        kept + 1
+    } else {
+        kept
     }
-    if days <= kept {
-        return kept;
-    }
-    kept + 1
 }
 
 // Day after day, until one can't be told of.
@@ -246,8 +244,7 @@ fn put_days(
     let mut held = before;
     let mut status = DONE;
     let mut from = first;
-    let mut k: usize = 0;
-    while k < days {
+    for k in 0..days {
         let t = turn(rt, page, store, file, k, held, from);
         let turned = t.turned;
         if turned.status == FAILED {
@@ -261,7 +258,6 @@ fn put_days(
         status = graver(status, turned.status);
         from = t.next;
         kept = and_this(kept, days, turned.status);
-        k += 1;
     }
     Filled { kept, held, status }
 }
@@ -279,10 +275,7 @@ fn store_out(rt: &impl Machine, store: &[u8], kept: usize, status: u8) -> u8 {
 
 // Those of all days that were not kept.
 fn others(days: usize, kept: usize) -> usize {
-    if days < kept {
-        return 0;
-    }
-    days - kept
+    days.saturating_sub(kept)
 }
 
 // Where a line can't be written nothing is kept, as nobody is told.

@@ -30,14 +30,14 @@ struct Under {
 // than its first day.
 fn under_at(before: Under, day: usize, at: usize) -> Under {
     if day <= before.channel {
-        return Under { at, channel: day };
-    }
-    if at == before.at {
-        return before;
-    }
-    Under {
-        at,
-        channel: before.channel + 1,
+        Under { at, channel: day }
+    } else if at == before.at {
+        before
+    } else {
+        Under {
+            at,
+            channel: before.channel + 1,
+        }
     }
 }
 
@@ -195,8 +195,7 @@ fn lines(rt: &impl Machine, page: &mut [u8], file: &[u8], days: usize, first: Da
 {
     let mut under = Under { at: 0, channel: 0 };
     let mut from = first;
-    let mut k: usize = 0;
-    while k < days {
+    for k in 0..days {
         let t = turn(rt, page, file, k, under, from);
         let shown = t.shown;
         if shown.status != DONE {
@@ -204,7 +203,6 @@ fn lines(rt: &impl Machine, page: &mut [u8], file: &[u8], days: usize, first: Da
         }
         under = shown.under;
         from = t.next;
-        k += 1;
     }
     DONE
 }

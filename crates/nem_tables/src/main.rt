@@ -23,19 +23,20 @@ const FROM_TO: usize = 5;
 // All days, a line each, or some of them as tables.
 fn days(rt: &impl Machine, page: &mut [u8], file: &[u8]) -> u8 {
     if rt.arg_count() == FROM_TO {
-        return some_days::show(rt, page, file);
+        some_days::show(rt, page, file)
+    } else {
+        all_days::show(rt, page, file)
     }
-    all_days::show(rt, page, file)
 }
 
 fn table(rt: &impl Machine, page: &mut [u8], file: &[u8], command: &[u8]) -> u8 {
     if same_bytes(command, b"totals") {
-        return totals::show(rt, page, file);
+        totals::show(rt, page, file)
+    } else if same_bytes(command, b"days") {
+        days(rt, page, file)
+    } else {
+        one_day::show(rt, page, file)
     }
-    if same_bytes(command, b"days") {
-        return days(rt, page, file);
-    }
-    one_day::show(rt, page, file)
 }
 
 fn show(rt: &impl Machine, page: &mut [u8], room: &mut [u8]) -> u8 {

@@ -106,8 +106,7 @@ fn tables(
     requires { IsAccepted file.now × DayAhead file.now first start }
 {
     let mut from = start;
-    let mut k = first;
-    while k < end {
+    for k in first..end {
         let apart = parted(rt, page, k, first);
         if apart != DONE {
             return apart;
@@ -117,7 +116,6 @@ fn tables(
             return t.status;
         }
         from = t.next;
-        k += 1;
     }
     DONE
 }
@@ -136,10 +134,7 @@ fn say_none(rt: &impl Machine, page: &mut [u8], first: usize, last: usize) {
 
 // Which day is said not to be there, in a file of so many days that has not the last: the first, where it has not that either.
 fn lacking(first: usize, last: usize, days: usize) -> usize {
-    if days <= first {
-        return first;
-    }
-    last
+    if days <= first { first } else { last }
 }
 
 // The days of an accepted file that has so many. Whether all of them are there is known before the first is printed.

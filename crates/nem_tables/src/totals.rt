@@ -14,8 +14,7 @@ fn rows(rt: &impl Machine, page: &mut [u8], file: &[u8], channels: usize, first:
     requires { IsAccepted file.now × ChannelAhead file.now 0 first }
 {
     let mut from = first;
-    let mut k: usize = 0;
-    while k < channels {
+    for k in 0..channels {
         let t = total_noted(file, k, from);
         let place = t.place;
         let answer = t.answer;
@@ -28,7 +27,6 @@ fn rows(rt: &impl Machine, page: &mut [u8], file: &[u8], channels: usize, first:
             return status;
         }
         from = t.next;
-        k += 1;
     }
     DONE
 }

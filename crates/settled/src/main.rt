@@ -190,11 +190,7 @@ fn values() -> [u64; 48]
     ensures { 48 ≡ length result }
 {
     let mut list = [3000000u64; 48];
-    let mut i: usize = 20;
-    while i < 48 {
-        list[i] = 4000000;
-        i += 1;
-    }
+    list[20..].fill(4000000);
     list
 }
 
@@ -202,11 +198,7 @@ fn bytes(before: u8, behind: u8) -> [u8; 48]
     ensures { 48 ≡ length result }
 {
     let mut list = [before; 48];
-    let mut i: usize = 20;
-    while i < 48 {
-        list[i] = behind;
-        i += 1;
-    }
+    list[20..].fill(behind);
     list
 }
 

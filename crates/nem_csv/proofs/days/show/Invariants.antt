@@ -5,6 +5,3 @@ use Rattle.nem_csv.proofs.days.show.Given as goal
 
 abbrev pub invariant-loop-k : goal.invariant-loop-k
 invariant-loop-k g l = IsAccepted l.file × DayAhead l.file l.k l.from
-
-abbrev pub decreases-loop-k : goal.decreases-loop-k
-decreases-loop-k g l = l.days - l.k

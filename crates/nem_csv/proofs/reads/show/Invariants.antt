@@ -4,6 +4,3 @@ use Rattle.nem_csv.proofs.reads.show.Given as goal
 
 abbrev pub invariant-loop-k : goal.invariant-loop-k
 invariant-loop-k g l = ChannelAhead l.file l.k l.from
-
-abbrev pub decreases-loop-k : goal.decreases-loop-k
-decreases-loop-k g l = l.channels - l.k

@@ -5,6 +5,3 @@ use Rattle.nem_tables.proofs.some_days.tables.Given as goal
 
 abbrev pub invariant-loop-k : goal.invariant-loop-k
 invariant-loop-k g l = IsAccepted l.file × DayAhead l.file l.k l.from
-
-abbrev pub decreases-loop-k : goal.decreases-loop-k
-decreases-loop-k g l = l.end - l.k
