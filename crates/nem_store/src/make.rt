@@ -62,11 +62,7 @@ fn too_few_bytes(rt: &impl Machine, page: &mut [u8], slots: u64, bytes: usize) {
 
 // As many slots as were asked for, or more than a store has.
 fn slot_count(slots: u64) -> u32 {
-    if MOST_SLOTS < slots {
-        65
-    } else {
-        slots as u32
-    }
+    if MOST_SLOTS < slots { 65 } else { slots as u32 }
 }
 
 fn make_in(rt: &impl Machine, page: &mut [u8], store: &mut [u8], slots: u64) -> u8 {
