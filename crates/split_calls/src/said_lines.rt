@@ -20,6 +20,7 @@ pub fn split(page: &mut [u8], at: usize, x: Result<usize, Refusal>) -> usize
 }
 
 // Output i's part.
+#[tactic(auto, unfolding(crate::specs::Lines::part_text))]
 fn part(page: &mut [u8], at: usize, i: usize, parts: &[u64]) -> usize
     ensures { Filled page.old at (part_text parts.now i) result page.new }
 {
@@ -32,10 +33,8 @@ pub fn parts(page: &mut [u8], at: usize, n: usize, parts: &[u64]) -> usize
     ensures { Filled page.old at (texts (part_text parts.now) n) result page.new }
 {
     let mut p = at;
-    let mut i: usize = 0;
-    while i < n {
+    for i in 0..n {
         p = part(page, p, i, parts);
-        i += 1;
     }
     p
 }
