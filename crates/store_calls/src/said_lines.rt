@@ -32,24 +32,26 @@ pub fn slot(page: &mut [u8], at: usize, x: Result<Option<Slot>, Refusal>) -> usi
     ensures { Filled page.old at (slot_text (slot_read_as x)) result page.new }
 {
     match x {
-        Ok(None) => put(page, at, b"free\n"),
-        Ok(Some(day)) => {
-            let p = accepted(
-                page,
-                at,
-                &[
-                    day.nmi as u64,
-                    day.suffix as u64,
-                    day.date as u64,
-                    day.length as u64,
-                    day.unit as u64,
-                    day.update,
-                    day.start as u64,
-                    day.end as u64,
-                ],
-            );
-            put(page, p, b"\n")
-        }
+        Ok(slot) => match slot {
+            None => put(page, at, b"free\n"),
+            Some(day) => {
+                let p = accepted(
+                    page,
+                    at,
+                    &[
+                        day.nmi as u64,
+                        day.suffix as u64,
+                        day.date as u64,
+                        day.length as u64,
+                        day.unit as u64,
+                        day.update,
+                        day.start as u64,
+                        day.end as u64,
+                    ],
+                );
+                put(page, p, b"\n")
+            }
+        },
         Err(x) => {
             let p = refusal(page, at, x);
             put(page, p, b"\n")
