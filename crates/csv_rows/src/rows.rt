@@ -89,7 +89,7 @@ fn reason(page: &mut [u8], at: usize, code: u16) -> usize
     if code == NO_REASON {
         return put(page, at, b",");
     }
-    let p = number(page, at, u64::from(code));
+    let p = number(page, at, code as u64);
     put(page, p, b",")
 }
 

@@ -19,7 +19,11 @@ fn any_day(page: &mut [u8], at: usize, d: u64) -> usize
 pub fn day(page: &mut [u8], at: usize, d: u64) -> usize
     ensures { Filled page.old at (day_text d) result page.new }
 {
-    if !(10000000..=99999999).contains(&d) {
+    // Two guards: what the digits need is found in each by itself.
+    if d < 10000000 {
+        return any_day(page, at, d);
+    }
+    if 99999999 < d {
         return any_day(page, at, d);
     }
     put(
