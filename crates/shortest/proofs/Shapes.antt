@@ -35,7 +35,7 @@ number_is (Some v) h = refl
 number_is None h = absurd (false≢true h)
 
 pub graded-is : (x : Option Grade) → is_graded x ≡ true → x ≡ Some (grade (flag_in x) (method_in x))
-graded-is (Some (grade q m)) h = refl
+graded-is (Some g) h = refl
 graded-is None h = absurd (false≢true h)
 
 -- a value with at most d decimals is the number that is read of it, whatever d is
