@@ -1,4 +1,5 @@
 // A field as RFC 4180 has it.
+ghost use Rattle.std.specs.Prelude.{[], ◌∷◌};
 ghost use Rattle.page.specs.Filled.{Filled};
 ghost use Rattle.cells.specs.Cells.{twice, doubled, quoted, cell_text};
 
@@ -7,14 +8,26 @@ use page::texts::put;
 
 const QUOTE: u8 = b'"';
 
+// One byte, stored as it is: a copy of a slice costs a call for each.
+fn one(page: &mut [u8], at: usize, b: u8) -> usize
+    ensures { Filled page.old at (b ∷ []) result page.new }
+{
+    if page.len() <= at {
+        return at;
+    }
+    page[at] = b;
+    at + 1
+}
+
 // A byte of a quoted field.
 fn byte(page: &mut [u8], at: usize, b: u8) -> usize
     ensures { Filled page.old at (twice b) result page.new }
 {
     if b == QUOTE {
-        put(page, at, b"\"\"")
+        let p = one(page, at, QUOTE);
+        one(page, p, QUOTE)
     } else {
-        put(page, at, &[b])
+        one(page, at, b)
     }
 }
 
@@ -32,9 +45,9 @@ fn double(page: &mut [u8], at: usize, text: &[u8]) -> usize
 fn quote(page: &mut [u8], at: usize, text: &[u8]) -> usize
     ensures { Filled page.old at (quoted text.now) result page.new }
 {
-    let p = put(page, at, b"\"");
+    let p = one(page, at, QUOTE);
     let q = double(page, p, text);
-    put(page, q, b"\"")
+    one(page, q, QUOTE)
 }
 
 // As it is where it has no quote, which is nearly always.
