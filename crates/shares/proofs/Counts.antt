@@ -1,14 +1,15 @@
 -- Counts of those that pass a test, and of those that come before a place. Assumes nothing.
 use Prim.Native.Nat.{ℕ, ◌+◌, ◌≤◌, ◌<◌}
-use mathlib.Core.Path.{◌≡◌, refl, ap}
+use mathlib.Core.Path.{◌≡◌, refl, ap, ◌∙◌}
 use mathlib.Core.List.{List, [], ◌∷◌}
 use mathlib.Core.Bool.{Bool, true, false}
 use native.Mathlib.Omega.{arith}
 use lib.ListN.{length, get_or}
 use lib.Dec.{eqb, ltb, leb}
 use borrow.Author.Tests.{lt-ltb, le-ltb, le-leb, lt-leb, eq-eqb, ne_eqb}
-use Rattle.std.specs.List.{filter}
-use Rattle.ground.proofs.Cases.{by, split, same_or}
+use Rattle.std.specs.List.{sum_by}
+use Rattle.std.proofs.lemmas.List.Sums.{sum_by-cons}
+use Rattle.ground.proofs.Cases.{split, same_or}
 use Rattle.shares.specs.Shares.{one, count, ahead}
 
 -- the value of a test of an order, from the order
@@ -52,11 +53,11 @@ unfolding count
 count-length p [] = omega arith
 count-length p (z ∷ rs) = let a = count-length p rs in let b = one-most (p z) in omega arith
 
--- what std's filter leaves
-pub count-filter : (p : ℕ → Bool) (rs : List ℕ) → length (filter p rs) ≡ count p rs
+-- std's sum of the tests' values
+pub count-sum : (p : ℕ → Bool) (rs : List ℕ) → sum_by (λ (r : ℕ). one (p r)) rs ≡ count p rs
 unfolding count
-count-filter p [] = refl
-count-filter p (z ∷ rs) = let a = count-filter p rs in by (p z) (λ t. rw t (omega arith)) (λ t. rw t (omega arith))
+count-sum p [] = refl
+count-sum p (z ∷ rs) = sum_by-cons (λ (r : ℕ). one (p r)) z rs ∙ ap (λ (s : ℕ). one (p z) + s) (count-sum p rs)
 
 -- an element that is not larger than x has at least as many before it as are larger than x
 pub ahead_small : (x : ℕ) (rs : List ℕ) (i : ℕ) → get_or rs i 0 ≤ x → count (ltb x) rs ≤ ahead rs i

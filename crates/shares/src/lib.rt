@@ -6,12 +6,12 @@ ghost use Rattle.std.proofs.lemmas.List.Edits.{sets};
 ghost use Rattle.shares.specs.Shares.{count, ahead, remainders, leftover, part_of, parts_of};
 ghost use Rattle.shares.specs.Steps.{Ready, Rounded};
 
-// How many are larger than x.
+// How many are larger than x. The tests' values are summed, since `count` over `filter` jumps at each element.
 fn larger(rs: &[u64], x: u64) -> usize
     ensures is { result ≡ count (ltb x) rs.now }
     ensures most { result ≤ length rs.now }
 {
-    rs.iter().filter(|r| x < **r).count()
+    rs.iter().map(|r| usize::from(x < *r)).sum()
 }
 
 // How many are x or larger.
@@ -19,7 +19,7 @@ fn as_large(rs: &[u64], x: u64) -> usize
     ensures is { result ≡ count (leb x) rs.now }
     ensures most { result ≤ length rs.now }
 {
-    rs.iter().filter(|r| x <= **r).count()
+    rs.iter().map(|r| usize::from(x <= *r)).sum()
 }
 
 // How many come before place i: of the lower ones those that are equal too, so that each of the others is looked at once.
