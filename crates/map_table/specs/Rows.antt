@@ -8,6 +8,17 @@ use Rattle.map_table.specs.declared.Row.{Row}
 use Rattle.map_table.specs.declared.Fault.{Fault}
 use Rattle.map_table.specs.declared.Fault.TheVariants as fault
 
+-- a fault by its number, from which `map_lines` says what is wrong: that of the field at fault from 1, and 0 where there are not four; 5 is an output with two
+-- lines, 6 a share by itself
+abbrev pub fault_number : Fault → ℕ
+fault_number fault.Fields = 0
+fault_number fault.Output = 1
+fault_number fault.Nmi = 2
+fault_number fault.Suffix = 3
+fault_number fault.Share = 4
+fault_number fault.Twice = 5
+fault_number fault.NoKey = 6
+
 -- an output at a share, and an unused one
 abbrev pub used : ℕ → ℕ → Row
 used output share = record { output = output; share = Some share }

@@ -3,7 +3,7 @@
 
 ghost use Rattle.std.specs.Prelude.{◌≡◌, ◌&&◌, length, eqb};
 ghost use Rattle.format.specs.Cut.{fields};
-ghost use Rattle.map_table.specs.Rows.{number_up_to, with_share, without_key, is_keyless, keyed, row_of};
+ghost use Rattle.map_table.specs.Rows.{fault_number, number_up_to, with_share, without_key, is_keyless, keyed, row_of};
 
 use leaf::digits::digits;
 use measures::counts::count_of;
@@ -30,7 +30,7 @@ pub enum Fault {
 }
 
 // The fields, by their numbers from 1.
-const OUTPUT: usize = 1;
+pub const OUTPUT: usize = 1;
 
 pub const NMI: usize = 2;
 
@@ -44,6 +44,21 @@ const COMMAS: usize = 3;
 const LAST_OUTPUT: u64 = 127;
 
 const HIGHEST_SHARE: u64 = 1000;
+
+// A fault by the number of its sentence.
+pub fn number_of(fault: Fault) -> u8
+    ensures { result ≡ fault_number fault }
+{
+    match fault {
+        Fault::Fields => 0,
+        Fault::Output => 1,
+        Fault::Nmi => 2,
+        Fault::Suffix => 3,
+        Fault::Share => 4,
+        Fault::Twice => 5,
+        Fault::NoKey => 6,
+    }
+}
 
 // A number of 1 to 4 digits that is not above a most.
 fn number_up_to(f: &[u8], most: u64) -> Option<u64>

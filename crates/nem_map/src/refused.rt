@@ -4,7 +4,7 @@ use format::Refusal;
 use kept_files::no_versions;
 use machine::Machine;
 use map_lines::at_fault;
-use map_table::{Fault, NMI, SHARE, SUFFIX};
+use map_table::{Fault, NMI, SHARE, SUFFIX, number_of};
 use outward::complain;
 use page::texts::put;
 use phrase::counts::counted;
@@ -99,7 +99,7 @@ fn before(fault: Fault) -> usize {
 // The line by its number from 1, what is wrong with it, and a mark under the field.
 pub fn of_table(rt: &impl Machine, page: &mut [u8], number: u64, line: &[u8], fault: Fault) {
     let column = skip(line, 0, line.len(), before(fault));
-    let p = at_fault(page, 0, number, fault as u8);
+    let p = at_fault(page, 0, number, number_of(fault));
     let q = put(page, p, b"\n");
     let r = excerpt(page, q, line, column);
     let s = put(page, r, b"\n");
