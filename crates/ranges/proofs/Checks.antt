@@ -1,12 +1,10 @@
 -- The check that ranges lie apart: its cases and its loops. Assumes nothing.
-use Prim.Native.Nat.{ℕ, ◌+◌, ◌-◌, ◌≤◌, ◌<◌}
-use mathlib.Core.Path.{◌≡◌, refl, sym, ap, ◌∙◌}
+use Prim.Native.Nat.{ℕ, ◌+◌, ◌≤◌, ◌<◌}
+use mathlib.Core.Path.{◌≡◌, refl, sym, ◌∙◌}
 use mathlib.Core.List.{List, [], ◌∷◌}
 use mathlib.Core.Bool.{Bool, true, false, not, ◌&&◌, false≢true}
 use native.Mathlib.Omega.{arith}
-use Rattle.std.specs.List.{list_all, zip}
-use lib.Seq.{take_all}
-use lib.ListN.{length, length-drop, take, drop, get_or, drop_of_length-le}
+use lib.ListN.{length, drop, get_or, drop_of_length-le}
 use lib.Dec.{leb, eqb}
 use borrow.Author.Tests.{le-leb, lt-leb, eq-eqb, ne_eqb, not-true, not-false}
 use Rattle.ground.proofs.Tests.{and-true, or-true, or-false, refuted}
@@ -39,21 +37,29 @@ pub inside-some : (m o n : ℕ) → (n ≡ 0 → ⊥) → leb (o + n) m ≡ insi
 unfolding inside
 inside-some m o n e = simp (ne_eqb n 0 e)
 
--- ---- a range against others, one by one
+-- ---- a range against those behind it: j is the next
 
-pub clear-zip : (o n : ℕ) (os ns : List ℕ) → list_all (λ p. apart o n p.0 p.1) (zip os ns) ≡ clear o n os ns
-unfolding clear
-clear-zip o n [] ns = refl
-clear-zip o n (p ∷ os) [] = refl
-clear-zip o n (p ∷ os) (k ∷ ns) = ap (λ (b : Bool). apart o n p k && b) (clear-zip o n os ns)
+pub record Clearing (os ns : List ℕ) (o n i j : ℕ) : Type 0 where
+  pub within : j ≤ length os
+  pub left : clear o n (drop j os) (drop j ns) ≡ clear o n (drop (i + 1) os) (drop (i + 1) ns)
 
-pub clear-behind : (o n : ℕ) (os ns : List ℕ) (j : ℕ)
-    → list_all (λ p. apart o n p.0 p.1) (zip (take (length os - j) (drop j os)) (take (length ns - j) (drop j ns))) ≡ clear o n (drop j os) (drop j ns)
-clear-behind o n os ns j =
-    rw (
-      take_all (length os - j) (drop j os) (omega (arith, length-drop j os)),
-      take_all (length ns - j) (drop j ns) (omega (arith, length-drop j ns)),
-    ) (clear-zip o n (drop j os) (drop j ns))
+module _ (os ns : List ℕ) (o n i : ℕ) where
+  pub clearing-none : (j : ℕ) → i < length os → j ≡ i + 1 → Clearing os ns o n i j
+  clearing-none j h e = rw e (record { within = omega arith; left = refl })
+
+  module _ (j : ℕ) (b : Bool) (as_many : length os ≡ length ns) (h : j < length os) (e : b ≡ apart o n (get_or os j 0) (get_or ns j 0))
+      (r : Clearing os ns o n i j) where
+    pub clearing-more : not b ≡ false → Clearing os ns o n i (j + 1)
+    unfolding clear
+    clearing-more t = record { within = omega arith; left = rw (rest os j h, rest ns j (omega arith), ← e, not-false b t) at r.left }
+
+    pub clearing-stops : not b ≡ true → false ≡ clear o n (drop (i + 1) os) (drop (i + 1) ns)
+    unfolding clear
+    clearing-stops t = rw (rest os j h, rest ns j (omega arith), ← e, not-true b t) at r.left
+
+  pub clearing-all : (j : ℕ) → length os ≤ j → Clearing os ns o n i j → true ≡ clear o n (drop (i + 1) os) (drop (i + 1) ns)
+  unfolding clear
+  clearing-all j h r = rw (drop_of_length-le os h) at r.left
 
 -- ---- all of them: i is the next
 

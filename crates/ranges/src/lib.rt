@@ -32,10 +32,12 @@ fn clear(places: &[u32], lengths: &[u32], i: usize) -> bool
 {
     let o = places[i];
     let n = lengths[i];
-    places[i + 1..]
-        .iter()
-        .zip(&lengths[i + 1..])
-        .all(|(p, k)| apart(o, n, *p, *k))
+    for j in i + 1..places.len() {
+        if !apart(o, n, places[j], lengths[j]) {
+            return false;
+        }
+    }
+    true
 }
 
 // Each range lies in the first m bytes, and no two have a byte in common.
