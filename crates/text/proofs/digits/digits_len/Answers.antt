@@ -8,4 +8,4 @@ pub returns-then-n-eq0 : goal.returns-then-n-eq0
 returns-then-n-eq0 c = (omega (arith, width_small c.args.n (omega arith)), omega arith)
 
 pub returns-else-n-eq0 : goal.returns-else-n-eq0
-returns-else-n-eq0 c = (width-of c.args.n c.ilog10.result c.ilog10.ensures.power_le c.ilog10.ensures.next_power_gt c.ilog10.ensures.bound, omega (arith, c.ilog10.ensures.bound))
+returns-else-n-eq0 c = let w = width-of c.args.n c.ilog10.result (omega arith) (omega arith) (omega arith) in (omega arith, omega arith)
