@@ -8,7 +8,7 @@ use page::texts::put;
 
 const QUOTE: u8 = b'"';
 
-// One byte, stored as it is: a copy of a slice costs a call for each.
+// One byte, stored as it is: put as a slice, each byte of a field would be a call of its own.
 fn one(page: &mut [u8], at: usize, b: u8) -> usize
     ensures { Filled page.old at (b ∷ []) result page.new }
 {

@@ -4,7 +4,7 @@
 ghost use Rattle.std.specs.Prelude.{◌≡◌};
 ghost use Rattle.ground.specs.Lists.{all};
 ghost use Rattle.ground.specs.Digits.{is_digit};
-ghost use Rattle.format.specs.Bytes.{is_capital, is_letter, is_alnum, are_all};
+ghost use Rattle.format.specs.Bytes.{is_capital, is_alnum, are_all};
 ghost use Rattle.classes.specs.Classes.{in_class};
 
 // A class of bytes: the one loop over a field's bytes serves them all.
@@ -27,12 +27,6 @@ fn is_capital(b: u8) -> bool
     ensures { result ≡ is_capital b }
 {
     b.is_ascii_uppercase()
-}
-
-fn is_letter(b: u8) -> bool
-    ensures { result ≡ is_letter b }
-{
-    b.is_ascii_alphabetic()
 }
 
 fn is_alnum(b: u8) -> bool

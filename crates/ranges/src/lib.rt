@@ -25,7 +25,7 @@ fn apart(o: u32, n: u32, p: u32, k: u32) -> bool
         || k == 0
 }
 
-// Range i has no byte in common with those behind it.
+// Range i has no byte in common with those behind it. They are gone over by their places: a zip of the two lists would be no shorter, and the proof would hang on its chain.
 fn clear(places: &[u32], lengths: &[u32], i: usize) -> bool
     requires { (length places.now ≡ length lengths.now) × (i < length places.now) }
     ensures { result ≡ Ranges·clear (get_or places.now i 0) (get_or lengths.now i 0) (drop (i + 1) places.now) (drop (i + 1) lengths.now) }
